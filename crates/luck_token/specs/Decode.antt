@@ -1,0 +1,57 @@
+-- Decoding a literal into a lent output, as document 01 says under the refusals: 25, 23, 24 and 26 are tested in this order, 24 and 26
+-- at offset 0; refused, the output is untouched, else only the value's bytes are written, from the front.
+-- Assumes nothing.
+use Prim.Native.Nat.{ℕ}
+use mathlib.Core.Bool.{Bool, true, false}
+use mathlib.Core.List.{List, _++_}
+use mathlib.Core.Option.{Option, none, some}
+use lib.ListN.{length, drop}
+use lib.Dec.{leb}
+use Rattle.luck_token.specs.Bytes.{if_then_else_}
+use Rattle.luck_token.specs.Version.{isVersion, rulesOf}
+use Rattle.luck_token.specs.Utf8.{illFormed}
+use Rattle.luck_token.specs.Literal.{literalValue}
+use Rattle.luck_token.specs.declared.string.Decoded.{Decoded}
+use Rattle.luck_token.specs.declared.string.Decoded.the-variants.{Value, UnknownVersion, NotUtf8, Undecodable, OutputTooShort}
+
+-- the value, or a refusal: its number and its offset
+pub data Outcome : Type 0 where
+  value : List ℕ → Outcome
+  refused : ℕ → ℕ → Outcome
+
+unfoldable pub withRoom : ℕ → Option (List ℕ) → Outcome
+withRoom room none = refused 24 0
+withRoom room (some bytes) = if leb (length bytes) room then value bytes else refused 26 0
+
+unfoldable pub ofText : ℕ → ℕ → List ℕ → Option ℕ → Outcome
+ofText version room raw (some p) = refused 23 p
+ofText version room raw none = withRoom room (literalValue (rulesOf version) raw)
+
+unfoldable pub decodeString : ℕ → List ℕ → ℕ → Outcome
+decodeString version raw room = let text = ofText version room raw (illFormed raw) in if isVersion version then text else refused 25 0
+
+-- an answer in document 01's numbers (0: decoded)
+pub record Answer : Type 0 where
+  pub number : ℕ
+  pub offset : ℕ
+  pub written : ℕ
+
+abbrev pub answer : ℕ → ℕ → ℕ → Answer
+answer number offset written = record { number = number; offset = offset; written = written }
+
+unfoldable pub answerOf : Outcome → Answer
+answerOf (value bytes) = answer 0 0 (length bytes)
+answerOf (refused number offset) = answer number offset 0
+
+-- the code's answer in those numbers
+unfoldable pub numbered : Decoded → Answer
+numbered (Value n) = answer 0 0 n
+numbered UnknownVersion = answer 25 0 0
+numbered (NotUtf8 p) = answer 23 p 0
+numbered Undecodable = answer 24 0 0
+numbered OutputTooShort = answer 26 0 0
+
+-- the output at the end
+unfoldable pub outputOf : Outcome → List ℕ → List ℕ
+outputOf (value bytes) output = bytes ++ drop (length bytes) output
+outputOf (refused number offset) output = output

@@ -1,0 +1,20 @@
+-- A walk over a text, item by item: what every check, the UTF-8 test and the reading of a literal are.
+-- At place p, in state s, `item p s` gives either the answer, or the item's width in bytes and the state after it.
+-- Where no bytes are left, `ends` gives the answer. An item that is wider than what is left ends the walk.
+-- Assumes nothing.
+use Prim.Native.Nat.{ℕ, zero, suc, _-_}
+
+pub data Step (S A : Type 0) : Type 0 where
+  stop : A → Step S A
+  goes : ℕ → S → Step S A
+
+module _ {S A : Type 0} (item : ℕ → S → Step S A) (ends : ℕ → S → A) where
+  -- `left` bytes are left, of which `skip` belong to an item that was read already
+  unfoldable pub walk : ℕ → ℕ → ℕ → S → A
+  walk zero skip p s = ends p s
+  walk (suc left) (suc skip) p s = walk left skip (suc p) s
+  walk (suc left) zero p s = elim (item p s) [ stop a ↦ a | goes width s′ ↦ walk left (width - 1) (suc p) s′ ]
+
+  -- from place p on, in a text of this length
+  unfoldable pub walkFrom : ℕ → ℕ → S → A
+  walkFrom length p s = walk (length - p) 0 p s

@@ -1,0 +1,8 @@
+// What the checks and the trial of Lua strings stand on: the versions' rules, UTF-8, line breaks, string literals and spans.
+// The modules and their names are those of luck's crate luck_token.
+pub mod numeral;
+pub mod span;
+pub mod string;
+pub mod utf8;
+pub mod version;
+pub mod whitespace;

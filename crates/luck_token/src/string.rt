@@ -1,0 +1,8 @@
+// String literals.
+pub enum Decoded {
+    Value(usize),
+    UnknownVersion,
+    NotUtf8(usize),
+    Undecodable,
+    OutputTooShort,
+}
