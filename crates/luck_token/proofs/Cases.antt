@@ -36,6 +36,9 @@ and-right false b e = absurd (true≢false (sym e))
 pub both-true : (a b : Bool) → a ≡ true → b ≡ true → (a && b) ≡ true
 both-true a b e f = rw (e, f)
 
+pub first-false : (a b : Bool) → a ≡ false → (a && b) ≡ false
+first-false a b e = rw e
+
 pub second-false : (a b : Bool) → b ≡ false → (a && b) ≡ false
 second-false true b e = e
 second-false false b e = refl

@@ -1,2 +1,5 @@
 pub mod Cases
 pub mod Walk
+pub mod Bytes
+pub mod Breaks
+pub mod Literals

@@ -5,7 +5,7 @@ use Prim.Native.Char.{code}
 use Prim.Native.String.{String, [] as empty, _∷_ as _then_}
 use mathlib.Core.Bool.{Bool, true, false, _&&_, _||_}
 use mathlib.Core.List.{List, [], _∷_}
-use lib.ListN.{getD}
+use lib.ListN.{getD, take, drop}
 use lib.Dec.{leb, eqb}
 
 infixr 5 if_then_else_
@@ -16,6 +16,10 @@ if_then_else_ false x y = y
 
 abbrev pub byteAt : List ℕ → ℕ → ℕ
 byteAt text p = getD text p 0
+
+-- the bytes from a place to another
+abbrev pub part : List ℕ → ℕ → ℕ → List ℕ
+part text from to = take (to - from) (drop from text)
 
 -- a text of ASCII characters as its bytes
 abbrev pub ascii : String → List ℕ

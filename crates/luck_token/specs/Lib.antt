@@ -3,6 +3,8 @@ pub mod Walk
 pub mod Version
 pub mod Utf8
 pub mod Whitespace
+pub mod Scan
 pub mod Literal
 pub mod Decode
+pub mod Inner
 pub mod Span

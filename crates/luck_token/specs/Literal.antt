@@ -6,14 +6,17 @@ use Prim.Native.Char.{code}
 use mathlib.Core.Bool.{Bool, true, false, not, _&&_, _||_}
 use mathlib.Core.List.{List, [], _∷_, _++_}
 use mathlib.Core.Option.{Option, none, some}
-use lib.ListN.{length, take, drop}
-use lib.Seq.{slice}
+use lib.ListN.{length, drop}
 use lib.Dec.{eqb, leb, ltb}
-use Rattle.luck_token.specs.Bytes.{if_then_else_, byteAt, isDigit, isXdigit, run, numeral}
+use Rattle.luck_token.specs.Bytes.{if_then_else_, byteAt, part, isDigit, isXdigit, run, numeral}
 use Rattle.luck_token.specs.Walk.{Step, stop, goes, walkFrom}
 use Rattle.luck_token.specs.Utf8.{isChar, utf8Bytes}
 use Rattle.luck_token.specs.Whitespace.{isLuaWhitespace, lineBreak, stripLineBreak}
 use Rattle.luck_token.specs.declared.version.Rules.{Rules}
+use Rattle.luck_token.specs.declared.string.ShortString.{ShortString}
+use Rattle.luck_token.specs.declared.string.ShortString.the-variants.{Body, Other}
+use Rattle.luck_token.specs.declared.string.Escape.{Escape}
+use Rattle.luck_token.specs.declared.string.Escape.the-variants.{Simple, LineBreak, Hex, Whitespace, Decimal, Unicode, Itself, Undefined}
 
 -- ---- The literal's text
 
@@ -27,6 +30,10 @@ isShort raw =
 unfoldable pub shortStringBody : List ℕ → Option (ℕ × ℕ)
 shortStringBody raw = if isShort raw then some (1, length raw - 1) else none
 
+abbrev pub placesOf : ShortString → Option (ℕ × ℕ)
+placesOf (Body start end) = some (start, end)
+placesOf Other = none
+
 -- how many `=` stand from place p on
 unfoldable pub equals : List ℕ → ℕ → ℕ
 equals raw p = run (eqb (code "=")) (drop p raw)
@@ -36,15 +43,17 @@ unfoldable pub bracketAt : ℕ → ℕ → List ℕ → ℕ → Bool
 bracketAt bracket level raw p =
     eqb (byteAt raw p) bracket && eqb (equals raw (p + 1)) level && eqb (byteAt raw (p + 1 + level)) bracket
 
--- between two long brackets of one level
-unfoldable pub isLong : List ℕ → Bool
-isLong raw =
+-- between two long brackets of one level: how many bytes each of them has, 0 for any other text
+unfoldable pub bracketWidth : List ℕ → ℕ
+bracketWidth raw =
     let level = equals raw 1 in
-    leb (level + 2 + (level + 2)) (length raw) && bracketAt (code "[") level raw 0 && bracketAt (code "]") level raw (length raw - (level + 2))
+    let width = level + 2 in
+    let end = length raw - width in
+    if leb (width + width) (length raw) && bracketAt (code "[") level raw 0 && bracketAt (code "]") level raw end then width else 0
 
 -- what stands between the brackets, without a line break right after the opening one
 unfoldable pub longStringBody : Bool → List ℕ → List ℕ
-longStringBody lfcr raw = let width = equals raw 1 + 2 in stripLineBreak lfcr (slice width (length raw - width) raw)
+longStringBody lfcr raw = let width = bracketWidth raw in stripLineBreak lfcr (part raw width (length raw - width))
 
 -- ---- Pieces
 
@@ -59,33 +68,27 @@ longPiece lfcr body p =
     let width = lineBreak lfcr body p in
     if eqb width 0 then piece (byteAt body p ∷ []) 1 else piece (code "\n" ∷ []) width
 
--- what the byte after a backslash begins
-pub data Escape : Type 0 where
-  simple : ℕ → Escape  -- an escape of one letter, for this byte
-  line-break : Escape
-  hex : Escape  -- `\xXX`
-  whitespace : Escape  -- `\z`
-  decimal : Escape  -- `\ddd`
-  unicode : Escape  -- `\u{XXX}`
-  itself : Escape  -- 5.1 and Luau: any other byte stands for itself
-  undefined : Escape
+-- an escape that the manuals do not define: 5.1 and Luau read the byte as itself
+unfoldable pub otherEscape : Rules → Escape
+otherEscape rules = if rules .«strict_escapes» then Undefined else Itself
 
+-- what the byte after a backslash begins
 unfoldable pub escapeOf : Rules → ℕ → Escape
 escapeOf rules e =
-    if eqb e (code "a") then simple 0x07
-    else if eqb e (code "b") then simple 0x08
-    else if eqb e (code "f") then simple 0x0C
-    else if eqb e (code "n") then simple (code "\n")
-    else if eqb e (code "r") then simple (code "\r")
-    else if eqb e (code "t") then simple (code "\t")
-    else if eqb e (code "v") then simple 0x0B
-    else if eqb e (code "\\") || eqb e (code "\"") || eqb e (code "'") then simple e
-    else if eqb e (code "\n") || eqb e (code "\r") then line-break
-    else if isDigit e then decimal
-    else if eqb e (code "x") && rules .«hex_escape» then hex
-    else if eqb e (code "z") && rules .«hex_escape» then whitespace
-    else if eqb e (code "u") && rules .«unicode_escape» then unicode
-    else if rules .«strict_escapes» then undefined else itself
+    if eqb e (code "a") then Simple 0x07
+    else if eqb e (code "b") then Simple 0x08
+    else if eqb e (code "f") then Simple 0x0C
+    else if eqb e (code "n") then Simple (code "\n")
+    else if eqb e (code "r") then Simple (code "\r")
+    else if eqb e (code "t") then Simple (code "\t")
+    else if eqb e (code "v") then Simple 0x0B
+    else if eqb e (code "\\") || eqb e (code "\"") || eqb e (code "'") then Simple e
+    else if eqb e (code "\n") || eqb e (code "\r") then LineBreak
+    else if isDigit e then Decimal
+    else if eqb e (code "x") && rules .«hex_escape» then Hex
+    else if eqb e (code "z") && rules .«hex_escape» then Whitespace
+    else if eqb e (code "u") && rules .«unicode_escape» then Unicode
+    else otherEscape rules
 
 -- `\` and a line break is a newline. A lone CR counts here in Luau too.
 unfoldable pub lineBreakEscape : Bool → List ℕ → ℕ → Piece
@@ -94,7 +97,7 @@ lineBreakEscape lfcr body p = piece (code "\n" ∷ []) (1 + max 1 (lineBreak lfc
 -- exactly two hexadecimal digits
 unfoldable pub hexEscape : List ℕ → ℕ → Piece
 hexEscape body p =
-    if isXdigit (byteAt body (p + 2)) && isXdigit (byteAt body (p + 3)) then piece (numeral 16 (slice (p + 2) (p + 4) body) ∷ []) 4 else malformed
+    if isXdigit (byteAt body (p + 2)) && isXdigit (byteAt body (p + 3)) then piece (numeral 16 (part body (p + 2) (p + 4)) ∷ []) 4 else malformed
 
 -- `\z` skips the whitespace after it
 unfoldable pub whitespaceEscape : List ℕ → ℕ → Piece
@@ -104,34 +107,38 @@ whitespaceEscape body p = piece [] (2 + run isLuaWhitespace (drop (p + 2) body))
 unfoldable pub decimalEscape : List ℕ → ℕ → Piece
 decimalEscape body p =
     let count = min 3 (run isDigit (drop (p + 1) body)) in
-    let value = numeral 10 (take count (drop (p + 1) body)) in
+    let value = numeral 10 (part body (p + 1) (p + 1 + count)) in
     if leb value 255 then piece (value ∷ []) (1 + count) else malformed
 
--- unicode_escape_codepoint and char::from_u32: a number of digits and a value that the version allows, and a character that has that value
+-- unicode_escape_codepoint: a number of digits and a value that the version allows; and char::from_u32: a character has that value
+unfoldable pub allowsDigits : Rules → ℕ → Bool
+allowsDigits rules count = leb 1 count && (not (rules .«unicode_escape_digit_limit») || leb count 16)
+
+unfoldable pub codePointLimit : Rules → ℕ
+codePointLimit rules = if rules .«extended_unicode_escape» then 0x7FFF_FFFF else 0x10_FFFF
+
 unfoldable pub allowsCodePoint : Rules → ℕ → ℕ → Bool
-allowsCodePoint rules count value =
-    let limit : ℕ = if rules .«extended_unicode_escape» then 0x7FFF_FFFF else 0x10_FFFF in
-    leb 1 count && (not (rules .«unicode_escape_digit_limit») || leb count 16) && leb value limit && isChar value
+allowsCodePoint rules count value = allowsDigits rules count && leb value (codePointLimit rules) && isChar value
 
 -- any number of hexadecimal digits in braces
 unfoldable pub unicodeEscape : Rules → List ℕ → ℕ → Piece
 unicodeEscape rules body p =
     let count = run isXdigit (drop (p + 3) body) in
-    let value = numeral 16 (take count (drop (p + 3) body)) in
+    let value = numeral 16 (part body (p + 3) (p + 3 + count)) in
     if eqb (byteAt body (p + 2)) (code "{") && eqb (byteAt body (p + 3 + count)) (code "}") && allowsCodePoint rules count value
     then piece (utf8Bytes value) (count + 4)
     else malformed
 
 -- the escape whose backslash stands at place p
 unfoldable pub escapeAs : Rules → Escape → List ℕ → ℕ → Piece
-escapeAs rules (simple b) body p = piece (b ∷ []) 2
-escapeAs rules line-break body p = lineBreakEscape (rules .«lfcr_line_break») body p
-escapeAs rules hex body p = hexEscape body p
-escapeAs rules whitespace body p = whitespaceEscape body p
-escapeAs rules decimal body p = decimalEscape body p
-escapeAs rules unicode body p = unicodeEscape rules body p
-escapeAs rules itself body p = piece (byteAt body (p + 1) ∷ []) 2
-escapeAs rules undefined body p = malformed
+escapeAs rules (Simple b) body p = piece (b ∷ []) 2
+escapeAs rules LineBreak body p = lineBreakEscape (rules .«lfcr_line_break») body p
+escapeAs rules Hex body p = hexEscape body p
+escapeAs rules Whitespace body p = whitespaceEscape body p
+escapeAs rules Decimal body p = decimalEscape body p
+escapeAs rules Unicode body p = unicodeEscape rules body p
+escapeAs rules Itself body p = piece (byteAt body (p + 1) ∷ []) 2
+escapeAs rules Undefined body p = malformed
 
 unfoldable pub escapeAt : Rules → List ℕ → ℕ → Piece
 escapeAt rules body p =
@@ -166,5 +173,5 @@ valueOf long rules body = walkFrom (λ p before. taken before (pieceAt long rule
 unfoldable pub literalValue : Rules → List ℕ → Option (List ℕ)
 literalValue rules raw =
     let long = valueOf true rules (longStringBody (rules .«lfcr_line_break») raw) in
-    let short = valueOf false rules (slice 1 (length raw - 1) raw) in
-    if isLong raw then long else if isShort raw then short else none
+    let short = valueOf false rules (part raw 1 (length raw - 1)) in
+    if ltb 0 (bracketWidth raw) then long else if isShort raw then short else none

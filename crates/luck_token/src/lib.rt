@@ -1,6 +1,6 @@
 // What the checks and the trial of Lua strings stand on: the versions' rules, UTF-8, line breaks, string literals and spans.
-// The modules and their names are those of luck's crate luck_token.
-pub mod numeral;
+// The modules and their names are those of luck's crate luck_token; `scan` has what luck writes with take_while and parse.
+pub mod scan;
 pub mod span;
 pub mod string;
 pub mod utf8;

@@ -1,7 +1,9 @@
 // Whitespace and line breaks.
 ghost use mathlib.Core.Path.{_≡_};
-ghost use Prim.Native.Nat.{_+_, _<_, _≤_};
+ghost use Prim.Native.Nat.{_+_, _<_};
 ghost use lib.ListN.{length};
+ghost use lib.Dec.{eqb};
+ghost use Rattle.luck_token.specs.Bytes.{byteAt};
 ghost use Rattle.luck_token.specs.Version.{rulesOf};
 ghost use Rattle.luck_token.specs.Whitespace.{isLuaWhitespace, lineBreak, stripLineBreak};
 use crate::version;
@@ -9,23 +11,52 @@ use crate::version;
 pub fn is_lua_whitespace(byte: u8) -> bool
     ensures { λ r. ⌜ r ≡ isLuaWhitespace byte ⌝ }
 {
-    match byte {
-        b' ' => true,
-        9..=13 => true,
-        _ => false,
+    if byte == b' ' {
+        return true;
     }
+    if byte < b'\t' {
+        return false;
+    }
+    byte <= b'\r'
+}
+
+// Whether this byte stands after `at`.
+fn is_next(text: &[u8], at: usize, byte: u8) -> bool
+    requires { ⌜ (at < length (now text)) × (0 < byte) ⌝ }
+    ensures { λ r. ⌜ r ≡ eqb (byteAt (now (text .entry)) (at + 1)) byte ⌝ }
+{
+    let next = at + 1;
+    if text.len() <= next {
+        return false;
+    }
+    text[next] == byte
 }
 
 // How many bytes the line break at `at` has, 0 where there is none.
 pub fn line_break(text: &[u8], at: usize, lfcr: bool) -> usize
-    ensures is { λ r. ⌜ r ≡ lineBreak lfcr (now (text .entry)) at ⌝ }
-    ensures inside { λ r. ⌜ (at ≤ length (now (text .entry)) → at + r ≤ length (now (text .entry))) ⌝ }
+    ensures { λ r. ⌜ r ≡ lineBreak lfcr (now (text .entry)) at ⌝ }
 {
     if text.len() <= at {
         return 0;
     }
     let here = text[at];
-    let last = text.len() - at == 1;
+    if here == b'\r' {
+        if is_next(text, at, b'\n') {
+            return 2;
+        }
+        if lfcr {
+            return 1;
+        }
+        return 0;
+    }
+    if here == b'\n' {
+        if lfcr {
+            if is_next(text, at, b'\r') {
+                return 2;
+            }
+        }
+        return 1;
+    }
     0
 }
 
