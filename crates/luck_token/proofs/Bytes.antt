@@ -142,5 +142,6 @@ hex-value b e =
         small : (t : Bool) → (false || t || false) ≡ true → t ≡ true
         small true q = refl
         small false q = q
+
         cong : between 48 57 b ≡ false → between 65 70 b ≡ false → (between 48 57 b || between 97 102 b || between 65 70 b) ≡ (false || between 97 102 b || false)
         cong p q = rw (p, q)

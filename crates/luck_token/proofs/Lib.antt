@@ -3,3 +3,4 @@ pub mod Walk
 pub mod Bytes
 pub mod Breaks
 pub mod Literals
+pub mod Values

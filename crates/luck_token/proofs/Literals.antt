@@ -77,7 +77,7 @@ module _ (rules : Rules) (b : ℕ) where
         ne-eqb b 39 (λ e. absurd (omega arith)),
         ne-eqb b 10 (λ e. absurd (omega arith)),
         ne-eqb b 13 (λ e. absurd (omega arith)),
-        within 48 57 b l h
+        within 48 57 b l h,
       )
 
 -- ---- A code point that a version allows
@@ -114,7 +114,7 @@ module _ (rules : Rules) (value : ℕ) where
   unfolding allowsCodePoint
   none-allowed count h = second-false (allowsDigits rules count && leb value (codePointLimit rules)) (isChar value) (no-char h)
 
-  allowed-small : (count : ℕ) → allowsCodePoint rules count value ≡ true → value ≤ 0x10_FFFF
+  pub allowed-small : (count : ℕ) → allowsCodePoint rules count value ≡ true → value ≤ 0x10_FFFF
   unfolding allowsCodePoint
   allowed-small count e = char-small (and-right (allowsDigits rules count && leb value (codePointLimit rules)) (isChar value) e)
 

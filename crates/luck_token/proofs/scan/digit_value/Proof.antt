@@ -4,8 +4,6 @@ use Rattle.luck_token.proofs.Bytes.{digit-none, digit-decimal, digit-be
 use borrow.Author.Needs.{needs}
 use Rattle.luck_token.proofs.scan.digit_value.Statement.{statement}
 use Rattle.luck_token.proofs.scan.digit_value.Tie as tie
-use Rattle.luck_token.proofs.scan.digit_value.Reads as reads
-use Rattle.luck_token.proofs.scan.digit_value.Lts as lts
 
 returns : tie.Need-returns
 returns c = digit-none (c .before .args .byte) (omega arith)

@@ -4,8 +4,6 @@ use Rattle.luck_token.specs.Bytes.{isDigit, isXdigit}
 use Rattle.luck_token.proofs.Bytes.{within, below, above}
 use Rattle.luck_token.proofs.scan.is_hex_digit.Statement.{statement}
 use Rattle.luck_token.proofs.scan.is_hex_digit.Tie as tie
-use Rattle.luck_token.proofs.scan.is_hex_digit.Reads as reads
-use Rattle.luck_token.proofs.scan.is_hex_digit.Lts as lts
 
 returns : tie.Need-returns
 unfolding isDigit isXdigit

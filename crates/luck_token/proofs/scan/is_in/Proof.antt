@@ -4,11 +4,6 @@ use Rattle.luck_token.specs.Scan.{inClass}
 use borrow.Author.Needs.{needs}
 use Rattle.luck_token.proofs.scan.is_in.Statement.{statement}
 use Rattle.luck_token.proofs.scan.is_in.Tie as tie
-use Rattle.luck_token.proofs.scan.is_in.Reads as reads
-use Rattle.luck_token.proofs.scan.is_in.Lts as lts
-use Rattle.luck_token.proofs.scan.is_digit.Reads as is-digit-reads
-use Rattle.luck_token.proofs.scan.is_hex_digit.Reads as is-hex-digit-reads
-use Rattle.luck_token.proofs.whitespace.is_lua_whitespace.Reads as is-lua-whitespace-reads
 
 enum-told : tie.Need-enum-told
 enum-told c = search needs

@@ -10,9 +10,6 @@ use Rattle.luck_token.proofs.Bytes as bytes
 use borrow.Author.Needs.{needs}
 use Rattle.luck_token.proofs.scan.numeral.Statement.{statement}
 use Rattle.luck_token.proofs.scan.numeral.Tie as tie
-use Rattle.luck_token.proofs.scan.numeral.Reads as reads
-use Rattle.luck_token.proofs.scan.numeral.Lts as lts
-use Rattle.luck_token.proofs.scan.with_digit.Reads as with-digit-reads
 
 abbrev Inv-loop : tie.InvT-loop
 Inv-loop text from to base at₀ value₀ at value = (exact : ℕ) × (value ≡ min exact most) × (numeralFrom base exact (part text at to) ≡ numeral base (part text from to))
@@ -28,7 +25,7 @@ cast-result : tie.Need-cast-result Inv-loop μ-loop
 cast-result c = omega (arith, c .before .before .loop .inv .1)
 
 returns : tie.Need-returns Inv-loop μ-loop
-returns c = 
+returns c =
     let l = c .before .before .loop in
     l .inv .1 ∙ ap (λ (n : ℕ). min n most) (sym (bytes.digit-end (c .before .before .before .before .args .base) (c .before .before .before .before .args .text .now) (c .before .before .before .before .args .to) (l .inv .0) (l .at) (inr (c .if1 .taken))) ∙ l .inv .2)
 
@@ -45,7 +42,7 @@ loop-less : tie.Need-loop-less Inv-loop μ-loop
 loop-less c = search needs
 
 loop-again : tie.Need-loop-again Inv-loop μ-loop
-loop-again c = 
+loop-again c =
     let l = c .before .before .before .before .loop in
     let a = c .before .before .before .before .before .before .args in
     let d = byteAt (a .text .now) (l .at) in (
@@ -58,7 +55,7 @@ cast-result-2 : tie.Need-cast-result-2 Inv-loop μ-loop
 cast-result-2 c = omega (arith, c .before .loop .inv .1)
 
 returns-2 : tie.Need-returns-2 Inv-loop μ-loop
-returns-2 c = 
+returns-2 c =
     let l = c .before .loop in
     l .inv .1 ∙ ap (λ (n : ℕ). min n most) (sym (bytes.digit-end (c .before .before .before .args .base) (c .before .before .before .args .text .now) (c .before .before .before .args .to) (l .inv .0) (l .at) (inl (c .loop-test .left))) ∙ l .inv .2)
 

@@ -10,9 +10,6 @@ use Rattle.luck_token.proofs.Bytes as bytes
 use borrow.Author.Needs.{needs}
 use Rattle.luck_token.proofs.scan.run.Statement.{statement}
 use Rattle.luck_token.proofs.scan.run.Tie as tie
-use Rattle.luck_token.proofs.scan.run.Reads as reads
-use Rattle.luck_token.proofs.scan.run.Lts as lts
-use Rattle.luck_token.proofs.scan.is_in.Reads as is-in-reads
 
 abbrev Inv-loop : tie.InvT-loop
 Inv-loop text at class end₀ end = (at ≤ end) × (run (inClass class) (drop at text) ≡ end - at + run (inClass class) (drop end text))
@@ -33,7 +30,7 @@ sub-result : tie.Need-sub-result Inv-loop μ-loop
 sub-result c = search needs
 
 returns : tie.Need-returns Inv-loop μ-loop
-returns c = 
+returns c =
     omega (arith, c .before .before .before .before .loop .inv .1, bytes.run-stop (inClass (c .before .before .before .before .before .before .args .class)) (c .before .before .before .before .before .before .args .text .now) (c .before .before .before .before .loop .end) (c .before .before .before .loop-test .taken) (sym (c .before .is-in .ensures) ∙ not-true _ (c .if1 .taken)))
 
 add-end : tie.Need-add-end Inv-loop μ-loop
@@ -44,15 +41,15 @@ loop-less c = search needs
 
 loop-again : tie.Need-loop-again Inv-loop μ-loop
 loop-again c = (
-      omega arith,
-      omega (arith, c .before .before .before .before .loop .inv .1, bytes.run-more (inClass (c .before .before .before .before .before .before .args .class)) (c .before .before .before .before .before .before .args .text .now) (c .before .before .before .before .loop .end) (c .before .before .before .loop-test .taken) (sym (c .before .is-in .ensures) ∙ not-false _ (c .if1 .left))),
-    )
+  omega arith,
+  omega (arith, c .before .before .before .before .loop .inv .1, bytes.run-more (inClass (c .before .before .before .before .before .before .args .class)) (c .before .before .before .before .before .before .args .text .now) (c .before .before .before .before .loop .end) (c .before .before .before .loop-test .taken) (sym (c .before .is-in .ensures) ∙ not-false _ (c .if1 .left))),
+)
 
 sub-result-2 : tie.Need-sub-result-2 Inv-loop μ-loop
 sub-result-2 c = search needs
 
 returns-2 : tie.Need-returns-2 Inv-loop μ-loop
-returns-2 c = 
+returns-2 c =
     omega (arith, c .before .loop .inv .1, bytes.run-end (inClass (c .before .before .before .args .class)) (c .before .before .before .args .text .now) (c .before .loop .end) (c .loop-test .left))
 
 pub run-spec : {M : Type 1} → statement M

@@ -8,14 +8,9 @@ use native.Mathlib.Nat.{mul-le-mul}
 use borrow.Author.Needs.{needs}
 use Rattle.luck_token.proofs.scan.with_digit.Statement.{statement}
 use Rattle.luck_token.proofs.scan.with_digit.Tie as tie
-use Rattle.luck_token.proofs.scan.with_digit.Reads as reads
-use Rattle.luck_token.proofs.scan.with_digit.Lts as lts
-use Rattle.luck_token.proofs.scan.digit_value.Reads as digit-value-reads
 
--- <pre>
 product : (value base : ℕ) → value ≤ most → base < 0x1_0000_0000 → value * base ≤ 0x8000_0000 * 0xFFFF_FFFF
 product value base h b = let l : base ≤ 0xFFFF_FFFF = omega arith in mul-le-mul h l
--- </pre>
 
 mul-larger : tie.Need-mul-larger
 mul-larger c = omega (arith, product (c .args .value) (c .args .base) (c .pre) (c .fits .base .fits))

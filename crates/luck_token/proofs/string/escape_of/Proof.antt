@@ -11,9 +11,6 @@ use Rattle.luck_token.proofs.Literals.{decimal-escape}
 use borrow.Author.Needs.{needs}
 use Rattle.luck_token.proofs.string.escape_of.Statement.{statement}
 use Rattle.luck_token.proofs.string.escape_of.Tie as tie
-use Rattle.luck_token.proofs.string.escape_of.Reads as reads
-use Rattle.luck_token.proofs.string.escape_of.Lts as lts
-use Rattle.luck_token.proofs.string.other_escape.Reads as other-escape-reads
 
 returns : tie.Need-returns
 unfolding escapeOf if_then_else_ isDigit
@@ -104,7 +101,7 @@ returns-19 c = decimal-escape (c .before .before .before .args .rules) (c .befor
 
 returns-20 : tie.Need-returns-20
 unfolding escapeOf if_then_else_ isDigit
-returns-20 c = 
+returns-20 c =
     let x = c .before .before .before .args .byte in
     let w = c .before .before .match .rest in
     let no-digit : between 48 57 x ≡ false = ⊎-elim (λ l. below 48 57 x (omega arith)) (λ l. above 48 57 x (omega arith)) (c .before .if4 .came) in

@@ -7,8 +7,6 @@ use lib.ListN.{length}
 use borrow.Author.Needs.{needs}
 use Rattle.luck_token.proofs.string.is_short.Statement.{statement}
 use Rattle.luck_token.proofs.string.is_short.Tie as tie
-use Rattle.luck_token.proofs.string.is_short.Reads as reads
-use Rattle.luck_token.proofs.string.is_short.Lts as lts
 
 returns : tie.Need-returns
 unfolding isShort

@@ -8,9 +8,6 @@ use Rattle.luck_token.proofs.Literals.{newline}
 use borrow.Author.Needs.{needs}
 use Rattle.luck_token.proofs.string.line_break_escape.Statement.{statement}
 use Rattle.luck_token.proofs.string.line_break_escape.Tie as tie
-use Rattle.luck_token.proofs.string.line_break_escape.Reads as reads
-use Rattle.luck_token.proofs.string.line_break_escape.Lts as lts
-use Rattle.luck_token.proofs.whitespace.line_break.Reads as line-break-reads
 
 add-line-break : tie.Need-add-line-break
 add-line-break c = search needs

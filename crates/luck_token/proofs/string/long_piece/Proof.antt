@@ -7,9 +7,6 @@ use Rattle.luck_token.proofs.Literals.{long-byte, long-break}
 use borrow.Author.Needs.{needs}
 use Rattle.luck_token.proofs.string.long_piece.Statement.{statement}
 use Rattle.luck_token.proofs.string.long_piece.Tie as tie
-use Rattle.luck_token.proofs.string.long_piece.Reads as reads
-use Rattle.luck_token.proofs.string.long_piece.Lts as lts
-use Rattle.luck_token.proofs.whitespace.line_break.Reads as line-break-reads
 
 line-break-requires : tie.Need-line-break-requires
 line-break-requires c κs = search needs

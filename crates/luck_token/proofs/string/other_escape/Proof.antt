@@ -4,8 +4,6 @@ use Rattle.luck_token.specs.Literal.{otherEscape}
 use Rattle.luck_token.specs.Bytes.{if_then_else_}
 use Rattle.luck_token.proofs.string.other_escape.Statement.{statement}
 use Rattle.luck_token.proofs.string.other_escape.Tie as tie
-use Rattle.luck_token.proofs.string.other_escape.Reads as reads
-use Rattle.luck_token.proofs.string.other_escape.Lts as lts
 
 returns : tie.Need-returns
 unfolding otherEscape if_then_else_

@@ -7,9 +7,6 @@ use Rattle.luck_token.proofs.Literals.{both-quotes}
 use borrow.Author.Needs.{needs}
 use Rattle.luck_token.proofs.string.short_string_body.Statement.{statement}
 use Rattle.luck_token.proofs.string.short_string_body.Tie as tie
-use Rattle.luck_token.proofs.string.short_string_body.Reads as reads
-use Rattle.luck_token.proofs.string.short_string_body.Lts as lts
-use Rattle.luck_token.proofs.string.is_short.Reads as is-short-reads
 
 is-short-requires : tie.Need-is-short-requires
 is-short-requires c κs = search needs

@@ -3,8 +3,6 @@ use borrow.Author.Tests.{ltb-true, ltb-false, leb-true, leb-false, eqb-true, eqb
 use Rattle.luck_token.specs.Version.{isVersion}
 use Rattle.luck_token.proofs.version.is_version.Statement.{statement}
 use Rattle.luck_token.proofs.version.is_version.Tie as tie
-use Rattle.luck_token.proofs.version.is_version.Reads as reads
-use Rattle.luck_token.proofs.version.is_version.Lts as lts
 
 returns : tie.Need-returns
 unfolding isVersion

@@ -11,10 +11,7 @@ use Rattle.luck_token.proofs.Bytes.{below, above}
 use borrow.Author.Needs.{needs}
 use Rattle.luck_token.proofs.version.rules_of.Statement.{statement}
 use Rattle.luck_token.proofs.version.rules_of.Tie as tie
-use Rattle.luck_token.proofs.version.rules_of.Reads as reads
-use Rattle.luck_token.proofs.version.rules_of.Lts as lts
 
--- <pre>
 abbrev rules : Bool → Bool → Bool → Bool → Bool → Bool → Bool → Bool → Bool → Bool → Bool → Rules
 rules a b c d e f g h i j k =
     record {
@@ -28,7 +25,7 @@ rules a b c d e f g h i j k =
       «checked_format_modifiers» = h;
       «star_format» = i;
       «strict_gsub_replacement» = j;
-      «date_format_options» = k
+      «date_format_options» = k;
     }
 
 abbrev no-rules : Rules
@@ -62,7 +59,6 @@ entry v l h = ap (λ (t : List Rules). getD t (v - 1) no-rules) table-rule ∙ L
     number (suc (suc (suc (suc (suc zero))))) l h = refl
     number (suc (suc (suc (suc (suc (suc zero)))))) l h = refl
     number (suc (suc (suc (suc (suc (suc (suc v))))))) l h = absurd (omega arith)
--- </pre>
 
 returns : tie.Need-returns
 unfolding isVersion has rulesOf

@@ -5,8 +5,6 @@ use Rattle.luck_token.specs.Whitespace.{isLuaWhitespace}
 use Rattle.luck_token.proofs.Bytes.{within, below, above}
 use Rattle.luck_token.proofs.whitespace.is_lua_whitespace.Statement.{statement}
 use Rattle.luck_token.proofs.whitespace.is_lua_whitespace.Tie as tie
-use Rattle.luck_token.proofs.whitespace.is_lua_whitespace.Reads as reads
-use Rattle.luck_token.proofs.whitespace.is_lua_whitespace.Lts as lts
 
 returns : tie.Need-returns
 unfolding isLuaWhitespace

@@ -8,14 +8,12 @@ use lib.ListN.{List·getD-eq-default}
 use borrow.Author.Needs.{needs}
 use Rattle.luck_token.proofs.whitespace.is_next.Statement.{statement}
 use Rattle.luck_token.proofs.whitespace.is_next.Tie as tie
-use Rattle.luck_token.proofs.whitespace.is_next.Reads as reads
-use Rattle.luck_token.proofs.whitespace.is_next.Lts as lts
 
 add-next : tie.Need-add-next
 add-next c = search needs
 
 returns : tie.Need-returns
-returns c = 
+returns c =
     let a = c .before .args in
     let e = List·getD-eq-default (a .text .now) 0 (c .if1 .taken) in
     sym (ne-eqb (byteAt (a .text .now) (a .at + 1)) (a .byte) (λ f. absurd (omega (arith, c .before .pre .1))))

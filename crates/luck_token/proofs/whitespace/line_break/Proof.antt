@@ -5,9 +5,6 @@ use Rattle.luck_token.proofs.Breaks as breaks
 use borrow.Author.Needs.{needs}
 use Rattle.luck_token.proofs.whitespace.line_break.Statement.{statement}
 use Rattle.luck_token.proofs.whitespace.line_break.Tie as tie
-use Rattle.luck_token.proofs.whitespace.line_break.Reads as reads
-use Rattle.luck_token.proofs.whitespace.line_break.Lts as lts
-use Rattle.luck_token.proofs.whitespace.is_next.Reads as is-next-reads
 
 returns : tie.Need-returns
 returns c = breaks.end-break (c .before .before .args .lfcr) (c .before .before .args .text .now) (c .before .before .args .at) (c .if1 .taken)

@@ -7,10 +7,6 @@ use Rattle.luck_token.proofs.Literals.{stripped}
 use borrow.Author.Needs.{needs}
 use Rattle.luck_token.proofs.whitespace.strip_line_break.Statement.{statement}
 use Rattle.luck_token.proofs.whitespace.strip_line_break.Tie as tie
-use Rattle.luck_token.proofs.whitespace.strip_line_break.Reads as reads
-use Rattle.luck_token.proofs.whitespace.strip_line_break.Lts as lts
-use Rattle.luck_token.proofs.version.rules_of.Reads as rules-of-reads
-use Rattle.luck_token.proofs.whitespace.line_break.Reads as line-break-reads
 
 rules-of-requires : tie.Need-rules-of-requires
 rules-of-requires c κs = search needs

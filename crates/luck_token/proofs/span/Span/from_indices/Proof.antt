@@ -4,9 +4,6 @@ use Rattle.luck_token.specs.Span.{spanOf}
 use borrow.Author.Needs.{needs}
 use Rattle.luck_token.proofs.span.Span.from_indices.Statement.{statement}
 use Rattle.luck_token.proofs.span.Span.from_indices.Tie as tie
-use Rattle.luck_token.proofs.span.Span.from_indices.Reads as reads
-use Rattle.luck_token.proofs.span.Span.from_indices.Lts as lts
-use Rattle.luck_token.proofs.span.index_to_offset.Reads as index-to-offset-reads
 
 index-to-offset-requires : tie.Need-index-to-offset-requires
 index-to-offset-requires c κs = search needs

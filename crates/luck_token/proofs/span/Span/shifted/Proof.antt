@@ -4,9 +4,6 @@ use Rattle.luck_token.specs.Span.{spanOf, shiftedBy}
 use borrow.Author.Needs.{needs}
 use Rattle.luck_token.proofs.span.Span.shifted.Statement.{statement}
 use Rattle.luck_token.proofs.span.Span.shifted.Tie as tie
-use Rattle.luck_token.proofs.span.Span.shifted.Reads as reads
-use Rattle.luck_token.proofs.span.Span.shifted.Lts as lts
-use Rattle.luck_token.proofs.span.Span.from_indices.Reads as from-indices-reads
 
 cast-start : tie.Need-cast-start
 cast-start c = search needs

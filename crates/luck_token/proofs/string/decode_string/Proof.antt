@@ -1,0 +1,64 @@
+-- `luck_token::string::decode_string` meets its contract. Assumes nothing.
+use mathlib.Core.Path.{_≡_, refl, sym, ap, subst, _∙_}
+use lib.ListN.{length}
+use Rattle.luck_token.specs.Utf8.{placeOf}
+use Rattle.luck_token.specs.Literal.{literalValue}
+use Rattle.luck_token.specs.Decode.{Outcome, withRoom, answerOf, numbered, outputOf}
+use Rattle.luck_token.specs.declared.version.Rules.{Rules}
+use Rattle.luck_token.proofs.Values as values
+use borrow.Author.Needs.{needs}
+use Rattle.luck_token.proofs.string.decode_string.Statement.{statement}
+use Rattle.luck_token.proofs.string.decode_string.Tie as tie
+
+is-version-requires : tie.Need-is-version-requires
+is-version-requires c κs = search needs
+
+validate-requires : tie.Need-validate-requires
+validate-requires c κs = search needs
+
+enum-known-utf8 : tie.Need-enum-known-utf8
+enum-known-utf8 c = search needs
+
+enum-told : tie.Need-enum-told
+enum-told c = search needs
+
+rules-of-requires : tie.Need-rules-of-requires
+rules-of-requires c κs = search needs
+
+decode-literal-requires : tie.Need-decode-literal-requires
+decode-literal-requires c κs = search needs
+
+returns : tie.Need-returns
+unfolding answerOf numbered outputOf
+returns c =
+    let e = values.not-utf8 (c .before .before .before .before .before .before .before .before .args .version) (c .before .before .before .before .before .before .before .before .args .raw .now) (length (c .before .before .before .before .before .before .before .before .args .output .now)) (sym (c .before .before .before .before .before .is-version .ensures) ∙ c .before .before .before .before .if1 .taken) (c .before .utf8 .given .0 .0) (sym (ap placeOf (c .before .utf8 .given .1)) ∙ c .before .before .before .validate .ensures) in
+    (ap answerOf e, ap (λ (o : Outcome). outputOf o (c .before .before .before .before .before .before .before .before .args .output .now)) e)
+
+same-length : tie.Need-same-length
+same-length c = search needs
+
+returns-2 : tie.Need-returns-2
+returns-2 c =
+    let e = ap (λ (r : Rules). withRoom (length (c .before .before .before .before .before .before .before .before .before .before .before .before .args .output .now)) (literalValue r (c .before .before .before .before .before .before .before .before .before .before .before .before .args .raw .now))) (c .before .before .before .before .rules-of .ensures) ∙ values.literal (c .before .before .before .before .before .before .before .before .before .before .before .before .args .version) (c .before .before .before .before .before .before .before .before .before .before .before .before .args .raw .now) (length (c .before .before .before .before .before .before .before .before .before .before .before .before .args .output .now)) (sym (c .before .before .before .before .before .before .before .before .before .is-version .ensures) ∙ c .before .before .before .before .before .before .before .before .if1 .taken) (sym (ap placeOf (c .before .before .before .before .before .enum-told .given .1)) ∙ c .before .before .before .before .before .before .before .validate .ensures) in
+    (c .before .before .decode-literal .ensures .0 ∙ ap answerOf e, c .before .before .decode-literal .ensures .1 ∙ ap (λ (o : Outcome). outputOf o (c .before .before .before .before .before .before .before .before .before .before .before .before .args .output .now)) e)
+
+returns-3 : tie.Need-returns-3
+unfolding answerOf numbered outputOf
+returns-3 c =
+    let e = values.unknown-version (c .before .before .before .before .args .version) (c .before .before .before .before .args .raw .now) (length (c .before .before .before .before .args .output .now)) (sym (c .before .is-version .ensures) ∙ c .if1 .left) in
+    (ap answerOf e, ap (λ (o : Outcome). outputOf o (c .before .before .before .before .args .output .now)) e)
+
+pub decode-string-spec : {M : Type 1} → statement M
+decode-string-spec =
+    tie.close
+    (tie.spec
+    is-version-requires
+    validate-requires
+    enum-known-utf8
+    enum-told
+    rules-of-requires
+    decode-literal-requires
+    returns
+    same-length
+    returns-2
+    returns-3)
