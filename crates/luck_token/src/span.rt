@@ -3,6 +3,7 @@ ghost use mathlib.Core.Path.{_≡_};
 ghost use Prim.Native.Nat.{min};
 ghost use Rattle.luck_token.specs.Span.{u32-max, spanOf, shiftedBy};
 
+#[repr(C)]
 pub struct Span {
     pub start: u32,
     pub end: u32,

@@ -3,6 +3,7 @@ ghost use mathlib.Core.Path.{_≡_};
 ghost use Rattle.luck_token.specs.Version.{isVersion, rulesOf};
 
 // A row of the table, one entry per rule, by luck's names without `has_`.
+#[repr(C)]
 pub struct Rules {
     pub strict_escapes: bool,
     // `\x` and, with luck's has_whitespace_escape, `\z`

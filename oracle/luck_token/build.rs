@@ -1,0 +1,3 @@
+fn main() {
+    luck_source::write_crate_root("luck_token", &["span", "string", "version", "whitespace"]);
+}
