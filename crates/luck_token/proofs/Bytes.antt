@@ -11,8 +11,8 @@ use mathlib.Core.List.{List, [], _∷_}
 use lib.ListN.{length, drop, length-drop, drop-of-length-le}
 use lib.Seq.{drop-cons, take-nil}
 use lib.Dec.{leb}
-use borrow.Author.Tests.{le-leb, lt-leb, leb-true, leb-false}
-use Rattle.luck_token.specs.Bytes.{if_then_else_, byteAt, part, between, isDigit, isXdigit, run, digitValue, numeralFrom, numeral}
+use borrow.Author.Tests.{le-leb, lt-leb, leb-true, leb-false, eq-eqb, ne-eqb}
+use Rattle.luck_token.specs.Bytes.{if_then_else_, byteAt, part, between, among, isDigit, isXdigit, run, digitValue, numeralFrom, numeral}
 use Rattle.luck_token.specs.Scan.{most, grown}
 use Rattle.luck_token.proofs.Cases.{by-test, order, and-right, second-false}
 
@@ -27,6 +27,22 @@ module _ (low high b : ℕ) where
 
   pub above : high < b → between low high b ≡ false
   above h = second-false (leb low b) (leb b high) (lt-leb b high h)
+
+-- ---- A set
+
+module _ (b : ℕ) (set : List ℕ) (p : ℕ) where
+  -- the byte stands at p, or further on, or the set ends at p
+  pub among-here : p < length set → b ≡ byteAt set p → true ≡ among b (drop p set)
+  unfolding among
+  among-here h e = rw (drop-cons set p 0, eq-eqb b (byteAt set p) e)
+
+  pub among-later : p < length set → (b ≡ byteAt set p → ⊥) → among b (drop (p + 1) set) ≡ among b (drop p set)
+  unfolding among
+  among-later h e = rw (drop-cons set p 0, add-one p, ne-eqb b (byteAt set p) e)
+
+  pub among-end : length set ≤ p → false ≡ among b (drop p set)
+  unfolding among
+  among-end h = rw (drop-of-length-le set h)
 
 -- ---- A run
 

@@ -29,6 +29,11 @@ ascii (c then s) = code c ∷ ascii s
 abbrev pub between : ℕ → ℕ → ℕ → Bool
 between low high b = leb low b && leb b high
 
+-- a number is one of a list
+unfoldable pub among : ℕ → List ℕ → Bool
+among b [] = false
+among b (x ∷ xs) = eqb b x || among b xs
+
 -- isdigit and isxdigit of the C locale
 unfoldable pub isDigit : ℕ → Bool
 isDigit b = between (code "0") (code "9") b

@@ -1,10 +1,9 @@
 -- Document 01, "Records": the version numbers, and the rules by version.
 -- Assumes nothing.
 use Prim.Native.Nat.{ℕ}
-use mathlib.Core.Bool.{Bool, true, false, _&&_, _||_}
+use mathlib.Core.Bool.{Bool, _&&_}
 use mathlib.Core.List.{List, [], _∷_}
-use lib.Dec.{eqb}
-use Rattle.luck_token.specs.Bytes.{between}
+use Rattle.luck_token.specs.Bytes.{between, among}
 use Rattle.luck_token.specs.declared.version.Rules.{Rules}
 
 -- 1 to 5 are Lua 5.1 to 5.5, 6 is Luau
@@ -37,10 +36,6 @@ versions checked-format-modifiers = 4 ∷ 5 ∷ []
 versions star-format = 6 ∷ []
 versions strict-gsub-replacement = 2 ∷ 3 ∷ 4 ∷ 5 ∷ 6 ∷ []
 versions date-format-options = 2 ∷ 3 ∷ 4 ∷ 5 ∷ []
-
-unfoldable pub among : ℕ → List ℕ → Bool
-among version [] = false
-among version (v ∷ vs) = eqb version v || among version vs
 
 -- a number that is no version has no rule
 unfoldable pub has : Rule → ℕ → Bool

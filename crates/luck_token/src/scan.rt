@@ -2,7 +2,7 @@
 ghost use mathlib.Core.Path.{_≡_};
 ghost use Prim.Native.Nat.{_≤_, min};
 ghost use lib.ListN.{length, drop};
-ghost use Rattle.luck_token.specs.Bytes.{part, run as runOf, digitValue, numeral as numeralOf};
+ghost use Rattle.luck_token.specs.Bytes.{part, among, run as runOf, digitValue, numeral as numeralOf};
 ghost use Rattle.luck_token.specs.Scan.{inClass, most, grown};
 use crate::whitespace;
 
@@ -52,6 +52,34 @@ pub fn run(text: &[u8], at: usize, class: Class) -> usize
     let mut end = at;
     while end < text.len() {
         if !is_in(class, text[end]) {
+            return end - at;
+        }
+        end += 1;
+    }
+    end - at
+}
+
+// Whether the byte is one of a set's.
+pub fn contains(set: &[u8], byte: u8) -> bool
+    ensures { λ r. ⌜ r ≡ among byte (now (set .entry)) ⌝ }
+{
+    let mut at = 0;
+    while at < set.len() {
+        if byte == set[at] {
+            return true;
+        }
+        at += 1;
+    }
+    false
+}
+
+// How many bytes from `at` on are of a set, up to the first that is not.
+pub fn run_in(text: &[u8], at: usize, set: &[u8]) -> usize
+    ensures { λ r. ⌜ r ≡ runOf (λ b. among b (now (set .entry))) (drop at (now (text .entry))) ⌝ }
+{
+    let mut end = at;
+    while end < text.len() {
+        if !contains(set, text[end]) {
             return end - at;
         }
         end += 1;
