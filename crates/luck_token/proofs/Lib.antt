@@ -1,6 +1,7 @@
 pub mod Cases
 pub mod Walk
 pub mod Bytes
+pub mod Sequences
 pub mod Breaks
 pub mod Literals
 pub mod Values
