@@ -1,0 +1,171 @@
+// Stored answers of decode_string. A record: the version in one byte, the output's length and the text's in two, the text,
+// the answer's number in one byte, its offset and the value's length in two, and the value.
+ghost use Prim.Native.Nat.{_+_, _<_, _≤_};
+ghost use lib.ListN.{length};
+ghost use Rattle.vectors.specs.Places.{Lies, LiesBehind};
+use crate::bytes;
+use crate::reader;
+use crate::reader::Loaded;
+use crate::report;
+use crate::tally;
+use crate::tally::Replay;
+use luck_token::string;
+use luck_token::string::Decoded;
+
+// An answer in numbers: a refusal's number and offset, or 0, 0 and how many bytes the value has.
+struct Answer {
+    number: u32,
+    offset: usize,
+    written: usize,
+}
+
+struct Record {
+    version: u32,
+    room: usize,
+    // the text's place, and that of the answer behind it
+    text: usize,
+    answer: usize,
+    stored: Answer,
+    // the value's place, and that of the next record
+    value: usize,
+    next: usize,
+}
+
+enum Read {
+    Whole(Record),
+    Bad,
+}
+
+// What no output is written with: well-formed text has no such byte, only an escape makes one.
+const UNTOUCHED: u8 = 0xF9;
+
+// How many bytes behind the output are watched.
+const BEHIND: usize = 16;
+
+pub fn run(file: &mut [u8], output: &mut [u8])
+    requires { ⌜ 65551 < length (now output) ⌝ }
+{
+    let loaded = reader::load(b"literals.bin", file);
+    match loaded {
+        Loaded::Length(n) => report::replayed(b"literals", replay(&file[0..n], output)),
+        _ => report::not_read(b"literals", loaded),
+    }
+}
+
+fn replay(file: &[u8], output: &mut [u8]) -> Replay
+    requires { ⌜ 65551 < length (now output) ⌝ }
+{
+    let mut tally = tally::none();
+    let mut at = 0;
+    while at < file.len() {
+        let read = record_at(file, at);
+        match read {
+            Read::Bad => return Replay::BadFile,
+            Read::Whole(record) => {
+                tally = tally::count(tally, agrees(file, record, output));
+                at = record.next;
+            }
+        }
+    }
+    Replay::Whole(tally)
+}
+
+fn record_at(file: &[u8], at: usize) -> Read
+    requires { ⌜ at ≤ length (now file) ⌝ }
+    ensures { λ r. ⌜ LiesBehind at (length (now (file .entry))) r ⌝ }
+{
+    if file.len() - at < 5 {
+        return Read::Bad;
+    }
+    let version = bytes::byte_at(file, at);
+    let room = bytes::short_at(file, at + 1);
+    let text = at + 5;
+    let answer = text + bytes::short_at(file, at + 3);
+    if file.len() < answer + 5 {
+        return Read::Bad;
+    }
+    let stored = answer_at(file, answer);
+    let value = answer + 5;
+    let next = value + stored.written;
+    if file.len() < next {
+        return Read::Bad;
+    }
+    if room < stored.written {
+        return Read::Bad;
+    }
+    Read::Whole(Record {
+        version,
+        room,
+        text,
+        answer,
+        stored,
+        value,
+        next,
+    })
+}
+
+fn answer_at(file: &[u8], at: usize) -> Answer
+    requires { ⌜ at + 5 ≤ length (now file) ⌝ }
+    ensures { λ r. ⌜ r .written < 65536 ⌝ }
+{
+    Answer {
+        number: bytes::byte_at(file, at),
+        offset: bytes::short_at(file, at + 1),
+        written: bytes::short_at(file, at + 3),
+    }
+}
+
+// Whether the library's answer and value are the stored ones, and no other byte of the output or behind it was written.
+fn agrees(file: &[u8], record: Record, output: &mut [u8]) -> bool
+    requires { ⌜ Lies (length (now file)) «record» × (65551 < length (now output)) ⌝ }
+{
+    let room = record.room;
+    let watched = room + BEHIND;
+    bytes::fill(output, watched, UNTOUCHED);
+    let text = record.text;
+    let answer = record.answer;
+    let decoded = string::decode_string(record.version, &file[text..answer], &mut output[0..room]);
+    let stored = record.stored;
+    if !is_same(numbered(decoded), stored) {
+        return false;
+    }
+    let written = stored.written;
+    let value = record.value;
+    let next = record.next;
+    if !check::same(&output[0..written], &file[value..next]) {
+        return false;
+    }
+    bytes::is_filled(output, written, watched, UNTOUCHED)
+}
+
+fn is_same(given: Answer, stored: Answer) -> bool {
+    if given.number != stored.number {
+        return false;
+    }
+    if given.offset != stored.offset {
+        return false;
+    }
+    given.written == stored.written
+}
+
+fn numbered(decoded: Decoded) -> Answer {
+    match decoded {
+        Decoded::Value(n) => Answer {
+            number: 0,
+            offset: 0,
+            written: n,
+        },
+        Decoded::UnknownVersion => refusal(25, 0),
+        Decoded::NotUtf8(at) => refusal(23, at),
+        Decoded::Undecodable => refusal(24, 0),
+        Decoded::OutputTooShort => refusal(26, 0),
+    }
+}
+
+fn refusal(number: u32, offset: usize) -> Answer {
+    Answer {
+        number,
+        offset,
+        written: 0,
+    }
+}
