@@ -1,0 +1,45 @@
+-- `luck_linter::rules::format_string::span_at` meets its contract. Assumes nothing.
+use mathlib.Core.Path.{_≡_, refl, sym, ap, subst, _∙_}
+use Prim.Native.Nat.{ℕ, zero, suc, _+_, _-_, _*_, _≤_, _<_, min, max}
+use Rattle.luck_token.specs.Span.{spanOf, shiftedBy}
+use Rattle.luck_token.specs.Utf8.{charAt}
+use Rattle.luck_token.specs.declared.span.Span.{Span}
+use Rattle.luck_token.specs.declared.utf8.Char.{Char}
+use Rattle.luck_linter.specs.StringLiteral.{spanAt}
+use Rattle.luck_linter.proofs.StringLiterals.{same-span}
+use borrow.Author.Needs.{needs}
+use Rattle.luck_linter.proofs.rules.format_string.span_at.Statement.{statement}
+use Rattle.luck_linter.proofs.rules.format_string.span_at.Tie as tie
+
+char-at-requires : tie.Need-char-at-requires
+char-at-requires c κs = search needs
+
+saturating-add-requires : tie.Need-saturating-add-requires
+saturating-add-requires c κs = search needs
+
+from-indices-requires : tie.Need-from-indices-requires
+from-indices-requires c κs = search needs
+
+one-later-requires : tie.Need-one-later-requires
+one-later-requires c κs = search needs
+
+shifted-requires : tie.Need-shifted-requires
+shifted-requires c κs = search needs
+
+returns : tie.Need-returns
+unfolding spanAt
+returns c =
+    let o = c .before .before .before .before .before .before .args .offset in
+    let span = c .before .before .from-indices .ensures ∙ ap (spanOf o) (c .before .before .before .saturating-add .ensures) ∙ same-span o _ ∙ ap (λ (x : Char). spanOf o (o + x .width)) (c .before .before .before .before .char-at .ensures) in
+    c .shifted .ensures ∙ ap (λ (s : Span). shiftedBy s (c .before .one-later .result)) span ∙ ap (shiftedBy (spanOf o (o + charAt (c .before .before .before .before .before .before .args .body .now) o .width))) (c .before .one-later .ensures)
+
+pub span-at-spec : {M : Type 1} → statement M
+span-at-spec =
+    tie.close
+    (tie.spec
+    char-at-requires
+    saturating-add-requires
+    from-indices-requires
+    one-later-requires
+    shifted-requires
+    returns)

@@ -1,0 +1,117 @@
+-- What the inner functions of the checks promise each other. No public contract rests on these.
+-- Assumes nothing.
+use Prim.Native.Nat.{ℕ, _+_, _^_, _<_, _≤_}
+use mathlib.Core.Path.{_≡_}
+use mathlib.Core.Bool.{Bool, true, false}
+use mathlib.Core.List.{List}
+use mathlib.Core.Option.{Option, none, some}
+use Rattle.luck_token.specs.Walk.{Step, stop, goes}
+use Rattle.luck_linter.specs.Answer.{Answer, refusal}
+use Rattle.luck_linter.specs.Captures.{flagsOf}
+use Rattle.luck_linter.specs.Pattern.{Read, past, fault}
+use Rattle.luck_linter.specs.Format as format
+use Rattle.luck_linter.specs.Pack as pack
+use Rattle.luck_linter.specs.declared.format_pattern.pattern.Scan.{Scan}
+use Rattle.luck_linter.specs.declared.format_pattern.pattern.Scan.the-variants as scan
+use Rattle.luck_linter.specs.declared.format_pattern.pattern.Closing.{Closing}
+use Rattle.luck_linter.specs.declared.format_pattern.pattern.Closing.the-variants.{Open, Unmatched}
+use Rattle.luck_linter.specs.declared.format_pattern.format.Modifiers.{Modifiers}
+use Rattle.luck_linter.specs.declared.format_pattern.format.Modifiers.the-variants as modifiers
+use Rattle.luck_linter.specs.declared.format_pattern.format.Specifier.{Specifier}
+use Rattle.luck_linter.specs.declared.format_pattern.format.Specifier.the-variants as specifier
+use Rattle.luck_linter.specs.declared.format_pattern.pack.PackOption.{PackOption}
+use Rattle.luck_linter.specs.declared.format_pattern.pack.Size.{Size}
+use Rattle.luck_linter.specs.declared.format_pattern.pack.Size.the-variants as size
+use Rattle.luck_linter.specs.declared.format_pattern.pack.Plain.{Plain}
+use Rattle.luck_linter.specs.declared.format_pattern.pack.Plain.the-variants as plain
+use Rattle.luck_linter.specs.declared.format_pattern.pack.Read.{Read as PackRead}
+use Rattle.luck_linter.specs.declared.format_pattern.pack.Read.the-variants as packread
+use Rattle.luck_linter.specs.declared.format_pattern.pack.Alignment.{Alignment}
+use Rattle.luck_linter.specs.declared.format_pattern.pack.Alignment.the-variants as alignment
+use Rattle.luck_linter.specs.declared.format_pattern.pack.Step.{Step as PackStep}
+use Rattle.luck_linter.specs.declared.format_pattern.pack.Step.the-variants as packstep
+
+-- ---- Patterns
+
+abbrev pub readOf : Scan → Read
+readOf (scan.Past q) = past q
+readOf (scan.Fault e) = fault (refusal e)
+
+-- the place after what was read lies behind its start and in the text
+abbrev pub Within : Scan → ℕ → ℕ → Type 0
+Within (scan.Past q) p len = (p < q) × (q ≤ len)
+Within (scan.Fault e) p len = Unit {0}
+
+-- what closing the latest capture gave, and that the word has no bit beyond the count
+abbrev pub closedOf : ℕ → Closing → Option (List Bool)
+closedOf count (Open word) = some (flagsOf count word)
+closedOf count Unmatched = none
+
+abbrev pub Below : ℕ → Closing → Type 0
+Below count (Open word) = word < 2 ^ count
+Below count Unmatched = Unit {0}
+
+-- ---- Formats
+
+abbrev pub modifiersOf : Modifiers → format.Modifiers
+modifiersOf (modifiers.EndAt q) = format.end-at q
+modifiersOf (modifiers.Fault e) = format.fault (refusal e)
+
+abbrev pub EndsIn : Modifiers → ℕ → ℕ → Type 0
+EndsIn (modifiers.EndAt q) p len = (p ≤ q) × (q ≤ len)
+EndsIn (modifiers.Fault e) p len = Unit {0}
+
+-- the walk's step, from the specifiers so far
+abbrev pub stepOf : ℕ → Specifier → Step ℕ Answer
+stepOf count (specifier.Counted width) = goes width (count + 1)
+stepOf count (specifier.Literal width) = goes width count
+stepOf count (specifier.Fault e) = stop (refusal e)
+
+abbrev pub GoesIn : Specifier → ℕ → ℕ → Type 0
+GoesIn (specifier.Counted width) p len = (0 < width) × (p + width ≤ len)
+GoesIn (specifier.Literal width) p len = (0 < width) × (p + width ≤ len)
+GoesIn (specifier.Fault e) p len = Unit {0}
+
+-- ---- Pack formats
+
+abbrev pub sizeRead : (ℕ → PackOption) → Size → pack.Read
+sizeRead make (size.Of n width) = pack.option (make n) width
+sizeRead make (size.Fault e) = pack.fault (refusal e)
+
+-- the digits at p and the byte before them lie in the text
+abbrev pub SizeIn : Size → ℕ → ℕ → Type 0
+SizeIn (size.Of n width) p len = (0 < width) × (p + width ≤ len + 1)
+SizeIn (size.Fault e) p len = Unit {0}
+
+abbrev pub plainRead : Plain → Option PackOption
+plainRead (plain.Of o) = some o
+plainRead plain.Other = none
+
+abbrev pub optionRead : PackRead → pack.Read
+optionRead (packread.Option o width) = pack.option o width
+optionRead (packread.Fault e) = pack.fault (refusal e)
+
+abbrev pub OptionIn : PackRead → ℕ → ℕ → Type 0
+OptionIn (packread.Option o width) p len = (0 < width) × (p + width ≤ len)
+OptionIn (packread.Fault e) p len = Unit {0}
+
+abbrev pub alignmentRead : Alignment → Option ℕ
+alignmentRead (alignment.To n) = some n
+alignmentRead alignment.Refused = none
+
+-- the state after an option with or without a value
+abbrev pub withValue : Bool → ℕ → ℕ → pack.State
+withValue true values largest = pack.state (values + 1) largest
+withValue false values largest = pack.state values largest
+
+abbrev pub packStepOf : ℕ → PackStep → Step pack.State Answer
+packStepOf values (packstep.Goes width has largest) = goes width (withValue has values largest)
+packStepOf values (packstep.Fault e) = stop (refusal e)
+
+abbrev pub GoesBy : PackStep → ℕ → Type 0
+GoesBy (packstep.Goes width has largest) w = width ≡ w
+GoesBy (packstep.Fault e) w = Unit {0}
+
+abbrev pub PackGoesIn : PackStep → ℕ → ℕ → Type 0
+PackGoesIn (packstep.Goes width has largest) p len = (0 < width) × (p + width ≤ len)
+PackGoesIn (packstep.Fault e) p len = Unit {0}
