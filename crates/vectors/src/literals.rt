@@ -42,13 +42,26 @@ const UNTOUCHED: u8 = 0xF9;
 // How many bytes behind the output are watched.
 const BEHIND: usize = 16;
 
-pub fn run(file: &mut [u8], output: &mut [u8])
+pub fn replay_stored(file: &mut [u8], output: &mut [u8])
     requires { ⌜ 65551 < length (now output) ⌝ }
 {
-    let loaded = reader::load(b"literals.bin", file);
+    run(b"literals", b"literals.bin", file, output);
+}
+
+// Two records that are right, and others that are wrong in one field each: the line shows that a difference is told.
+pub fn replay_wrong(file: &mut [u8], output: &mut [u8])
+    requires { ⌜ 65551 < length (now output) ⌝ }
+{
+    run(b"wrong literals", b"wrong.bin", file, output);
+}
+
+fn run(name: &[u8], path: &[u8], file: &mut [u8], output: &mut [u8])
+    requires { ⌜ 65551 < length (now output) ⌝ }
+{
+    let loaded = reader::load(path, file);
     match loaded {
-        Loaded::Length(n) => report::replayed(b"literals", replay(&file[0..n], output)),
-        _ => report::not_read(b"literals", loaded),
+        Loaded::Length(n) => report::replayed(name, replay(&file[0..n], output)),
+        _ => report::not_read(name, loaded),
     }
 }
 

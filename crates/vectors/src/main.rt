@@ -9,5 +9,6 @@ mod tally;
 fn main() {
     let mut stored = [0u8; 262144];
     let mut output = [0u8; 65552];
-    literals::run(&mut stored, &mut output);
+    literals::replay_stored(&mut stored, &mut output);
+    literals::replay_wrong(&mut stored, &mut output);
 }

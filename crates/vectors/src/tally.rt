@@ -1,6 +1,7 @@
 // How many records of a file ran, and how many of them differ.
 ghost use mathlib.Core.Path.{_≡_};
 ghost use Prim.Native.Nat.{_+_, _<_, _≤_};
+ghost use Rattle.vectors.specs.Counts.{differing};
 
 pub struct Tally {
     pub ran: usize,
@@ -28,7 +29,7 @@ pub fn none() -> Tally
 // The tally with one more record.
 pub fn count(tally: Tally, agrees: bool) -> Tally
     requires { ⌜ (tally .differ ≤ tally .ran) × (tally .ran < 0x8000_0000_0000_0000) ⌝ }
-    ensures { λ r. ⌜ (r .ran ≡ tally .ran + 1) × (r .differ ≤ r .ran) ⌝ }
+    ensures { λ r. ⌜ (r .ran ≡ tally .ran + 1) × (r .differ ≤ r .ran) × (r .differ ≡ tally .differ + differing agrees) ⌝ }
 {
     if agrees {
         return Tally {

@@ -9,15 +9,17 @@ use std::path::Path;
 
 use crate::edges;
 use crate::grammar;
+use crate::library::Decoded;
 use crate::random::Random;
 use crate::reference::{self, VERSIONS};
 
 const FILE: &str = "literals.bin";
+const WRONG_FILE: &str = "wrong.bin";
 const SEED: u64 = 1;
 const SHORT_TEXTS: usize = 330;
 const LONG_TEXTS: usize = 10;
 
-/// Writes the file and answers how many records and bytes it has.
+/// Writes the files and answers how many records and bytes the stored answers have.
 pub fn write(folder: &Path) -> io::Result<(usize, usize)> {
     let mut records = Records::default();
     edge_records(&mut records);
@@ -26,6 +28,7 @@ pub fn write(folder: &Path) -> io::Result<(usize, usize)> {
     random_records(&mut records);
     fs::create_dir_all(folder)?;
     fs::write(folder.join(FILE), &records.bytes)?;
+    fs::write(folder.join(WRONG_FILE), wrong_records().bytes)?;
     Ok((records.count, records.bytes.len()))
 }
 
@@ -39,6 +42,10 @@ impl Records {
     fn add(&mut self, version: u8, text: &[u8], room: usize) {
         let value = reference::value(version.into(), text);
         let (answer, written) = reference::decoded(&value, room);
+        self.push(version, text, room, answer, written);
+    }
+
+    fn push(&mut self, version: u8, text: &[u8], room: usize, answer: Decoded, value: &[u8]) {
         self.bytes.push(version);
         self.short(room);
         self.short(text.len());
@@ -46,7 +53,7 @@ impl Records {
         self.bytes.push(u8::try_from(answer.number).expect("refusals are under 256"));
         self.short(answer.offset);
         self.short(answer.written);
-        self.bytes.extend_from_slice(written);
+        self.bytes.extend_from_slice(value);
         self.count += 1;
     }
 
@@ -116,6 +123,26 @@ fn version_records(records: &mut Records) {
             records.add(version, text, 0);
         }
     }
+}
+
+/// Two records that are right, and others that are wrong in one field each, all of which a replay must tell.
+fn wrong_records() -> Records {
+    const RIGHT: Decoded = Decoded { number: 0, offset: 0, written: 2 };
+    const REFUSED: Decoded = Decoded { number: 23, offset: 1, written: 0 };
+    let mut records = Records::default();
+    let mut value = |answer: Decoded, value: &[u8]| records.push(4, b"\"ab\"", 3, answer, value);
+    value(RIGHT, b"ab");
+    value(Decoded { number: 24, ..RIGHT }, b"ab");
+    value(Decoded { offset: 1, ..RIGHT }, b"ab");
+    value(Decoded { written: 1, ..RIGHT }, b"a");
+    value(Decoded { written: 3, ..RIGHT }, b"ab\xF9");
+    value(RIGHT, b"bb");
+    value(RIGHT, b"aa");
+    let mut refusal = |answer: Decoded| records.push(4, b"\"\xFF\"", 3, answer, b"");
+    refusal(REFUSED);
+    refusal(Decoded { number: 24, ..REFUSED });
+    refusal(Decoded { offset: 0, ..REFUSED });
+    records
 }
 
 /// Random literals, every other one damaged, in two versions each: mostly short, and a few of some hundred bytes.

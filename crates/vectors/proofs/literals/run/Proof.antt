@@ -7,17 +7,11 @@ use borrow.Author.Needs.{needs}
 use Rattle.vectors.proofs.literals.run.Statement.{statement}
 use Rattle.vectors.proofs.literals.run.Tie as tie
 
-slice-aggregate-load : tie.Need-slice-aggregate-load
-slice-aggregate-load c = search needs
-
 load-requires : tie.Need-load-requires
 load-requires c κs = search needs
 
 enum-known-loaded : tie.Need-enum-known-loaded
 enum-known-loaded c = search needs
-
-slice-aggregate-replayed : tie.Need-slice-aggregate-replayed
-slice-aggregate-replayed c = search needs
 
 sub-replay : tie.Need-sub-replay
 sub-replay c = search needs
@@ -27,17 +21,14 @@ part-replay-start c = search needs
 
 part-replay-end : tie.Need-part-replay-end
 part-replay-end c =
-    let h = subst (Loads (length (c .before .before .before .before .before .before .before .before .before .before .before .before .args .file .now))) (c .before .before .before .loaded .given .1) (c .before .before .before .before .before .before .before .load .ensures) in
-    omega (arith, c .before .before .before .before .before .before .before .load .kept)
+    let h = subst (Loads (length (c .before .before .before .before .before .before .before .before .before .before .before .before .args .file .now))) (c .before .before .loaded .given .1) (c .before .before .before .before .before .before .load .ensures) in
+    omega (arith, c .before .before .before .before .before .before .load .kept)
 
 replay-requires : tie.Need-replay-requires
 replay-requires c κs = search needs
 
 replayed-requires : tie.Need-replayed-requires
 replayed-requires c κs = search needs
-
-slice-aggregate-not-read : tie.Need-slice-aggregate-not-read
-slice-aggregate-not-read c = search needs
 
 not-read-requires : tie.Need-not-read-requires
 not-read-requires c κs = search needs
@@ -61,16 +52,13 @@ pub run-spec : {M : Type 1} → statement M
 run-spec =
     tie.close
     (tie.spec
-    slice-aggregate-load
     load-requires
     enum-known-loaded
-    slice-aggregate-replayed
     sub-replay
     part-replay-start
     part-replay-end
     replay-requires
     replayed-requires
-    slice-aggregate-not-read
     not-read-requires
     same-length
     same-length-2
