@@ -14,7 +14,7 @@ use Rattle.luck_token.specs.Walk.{walkFrom, Step, stop, goes}
 use Rattle.luck_token.proofs.Walk.{walk-end, walk-stop, walk-goes}
 use Rattle.luck_token.proofs.Cases.{if-true, if-false, both-true, first-false, second-false}
 use Rattle.luck_linter.specs.Answer.{Answer, accepted, refused}
-use Rattle.luck_linter.specs.Date.{c89, c99, secondBytes, isPair, conversionWidth, singleWidth, pairWidth, dateStep, dateEnd, isStarT, isTable, conversionsWalk, dateWalk}
+use Rattle.luck_linter.specs.Date.{everywhere, withOptions, secondBytes, isPair, conversionWidth, singleWidth, pairWidth, dateStep, dateEnd, isStarT, isTable, conversionsWalk, dateWalk}
 
 module _ (options : Bool) (text : List ℕ) where
   abbrev pub on : ℕ → Answer
@@ -59,18 +59,18 @@ module _ (options : Bool) (text : List ℕ) where
 -- ---- The width of a conversion
 
 module _ (options : Bool) (b : ℕ) where
-  pub single-c89 : among b c89 ≡ true → 2 ≡ singleWidth options b
+  pub single-everywhere : among b everywhere ≡ true → 2 ≡ singleWidth options b
   unfolding singleWidth if_then_else_
-  single-c89 e = rw e
+  single-everywhere e = rw e
 
-  pub single-c99 : among b c89 ≡ false → options ≡ true → among b c99 ≡ true → 2 ≡ singleWidth options b
+  pub single-with-options : among b everywhere ≡ false → options ≡ true → among b withOptions ≡ true → 2 ≡ singleWidth options b
   unfolding singleWidth if_then_else_
-  single-c99 e o f = rw (e, o, f)
+  single-with-options e o f = rw (e, o, f)
 
-  pub single-none : among b c89 ≡ false → (options ≡ false) ⊎ (among b c99 ≡ false) → 0 ≡ singleWidth options b
+  pub single-none : among b everywhere ≡ false → (options ≡ false) ⊎ (among b withOptions ≡ false) → 0 ≡ singleWidth options b
   unfolding singleWidth
-  single-none e (inl o) = sym (if-false _ _ _ (ap₂ (λ x y. x || (y && among b c99)) e o))
-  single-none e (inr f) = sym (if-false _ _ _ (ap (λ x. x || (options && among b c99)) e ∙ second-false options (among b c99) f))
+  single-none e (inl o) = sym (if-false _ _ _ (ap₂ (λ x y. x || (y && among b withOptions)) e o))
+  single-none e (inr f) = sym (if-false _ _ _ (ap (λ x. x || (options && among b withOptions)) e ∙ second-false options (among b withOptions) f))
 
 module _ (options : Bool) (text : List ℕ) (p : ℕ) where
   module _ (o : options ≡ true) (e : isPair (byteAt text (p + 1)) ≡ true) where

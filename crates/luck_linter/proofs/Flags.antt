@@ -13,7 +13,7 @@ use lib.Dec.{eqb, eqb·suc-zero, lit<}
 use lib.ListN.{length, getD}
 use lib.Pow.{pow-pos, shl-exact}
 use borrow.Author.Tests.{ne-eqb}
-use Rattle.luck_linter.specs.Captures.{closeLatest, allClosed, flagsOf}
+use Rattle.luck_linter.specs.Captures.{closeHere, closeLatest, allClosed, flagsOf}
 
 pub flags-length : (n w : ℕ) → length (flagsOf n w) ≡ n
 unfolding flagsOf
@@ -41,7 +41,7 @@ flags-none n w e = rw e (none-open n)
 pub flags-close : (n w j : ℕ) → w < 2 ^ n → 2 ^ j ≤ w → w < 2 ^ suc j → closeLatest (flagsOf n w) ≡ some (flagsOf n (w - 2 ^ j))
 unfolding flagsOf closeLatest
 flags-close zero w j h l u = let p : 0 < 2 ^ j = pow-pos j in absurd (omega arith)
-flags-close (suc n) w zero h l u = let e : w ≡ 1 = omega arith in rw (e, none-open n)
+flags-close (suc n) w zero h l u = let e : w ≡ 1 = omega arith in rw e (ap (closeHere false (flagsOf n 0)) (none-open n))
 flags-close (suc n) w (suc j) h l u =
     let p : 2 ^ suc n ≡ 2 ^ n * 2 = pow-suc 2 n in
     let q : 2 ^ suc j ≡ 2 ^ j * 2 = pow-suc 2 j in

@@ -6,3 +6,5 @@ pub mod Formats
 pub mod Packs
 pub mod Dates
 pub mod StringLiterals
+pub mod Offsets
+pub mod PackOffsets

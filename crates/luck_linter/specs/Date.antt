@@ -11,12 +11,12 @@ use Rattle.luck_token.specs.Version.{rulesOf}
 use Rattle.luck_token.specs.Walk.{Step, stop, goes, walkFrom}
 use Rattle.luck_linter.specs.Answer.{Answer, accepted, refused, checkText}
 
--- the conversions of C89, those that C99 adds, and what may follow `%E`, `%O` and Windows' `%#`
-abbrev pub c89 : List ℕ
-c89 = ascii "aAbBcdHIjmMpSUwWxXyYzZ%"
+-- luck's lists, each the union over the platforms: the conversions that every checked version has, and those of the versions with options
+abbrev pub everywhere : List ℕ
+everywhere = ascii "aAbBcdHIjmMpSUwWxXyYzZ%"
 
-abbrev pub c99 : List ℕ
-c99 = ascii "CDeFgGhnrRtTuV"
+abbrev pub withOptions : List ℕ
+withOptions = ascii "CDeFgGhnrRtTuV"
 
 -- the bytes of which one must follow this one
 unfoldable pub secondBytes : ℕ → List ℕ
@@ -30,7 +30,7 @@ isPair b = among b (ascii "EO#")
 
 -- how many bytes a conversion of one letter has with its `%`, 0 where there is none such
 unfoldable pub singleWidth : Bool → ℕ → ℕ
-singleWidth options b = if among b c89 || (options && among b c99) then 2 else 0
+singleWidth options b = if among b everywhere || (options && among b withOptions) then 2 else 0
 
 -- one of two letters, the second at place p
 unfoldable pub pairWidth : List ℕ → ℕ → ℕ → ℕ

@@ -1,5 +1,6 @@
--- How a format of string.pack is read (getoption and getdetails of lstrlib.c), and which are accepted (validate_pack_format of luck). A size
--- that the build decides is read as its smallest, as in luck, so that `!5j` is accepted.
+-- How a format of string.pack is read (getoption and getdetails of lstrlib.c), and which are accepted (validate_pack_format of luck). Sizes
+-- that the build decides are luck's: `n` is 8 and the others 4, so that `!5j` is accepted and `!5n` refused. `c` takes any number, where
+-- getnum of lstrlib.c stops at the largest int.
 -- Assumes nothing.
 use Prim.Native.Nat.{ℕ, _+_, min}
 use Prim.Native.Char.{code}
@@ -25,14 +26,14 @@ pub data Read : Type 0 where
   option : PackOption → ℕ → Read
   fault : Answer → Read
 
--- getnumlimit: the digits at p, a size from 1 to 16, or the default where there are none
+-- getnumlimit: a size from 1 to 16 whose digits stand at p, behind the option's byte, or the default where there are none; the width counts that byte
 unfoldable pub limited : (ℕ → PackOption) → ℕ → List ℕ → ℕ → Read
 limited make default text p =
     let count = run isDigit (drop p text) in
     let size = numeral 10 (part text p (p + count)) in
     if eqb count 0 then option (make default) 1 else if between 1 16 size then option (make size) (1 + count) else fault (refused 16 p)
 
--- `c` needs a size
+-- `c` needs a size, whose digits stand at p
 unfoldable pub fixedString : List ℕ → ℕ → Read
 fixedString text p = let count = run isDigit (drop p text) in if eqb count 0 then fault (refused 15 p) else option FixedString (1 + count)
 
@@ -48,7 +49,7 @@ plainOption b =
     else if eqb b (code "X") then some AlignToNext
     else if among b (ascii " <>=") then some Control else none
 
--- the options with a size; a digit lands at the end where it follows an option that takes none
+-- the options with a size; any other byte is refused, a digit behind an option that takes none too
 unfoldable pub sizedOption : List ℕ → ℕ → Read
 sizedOption text p =
     let b = byteAt text p in

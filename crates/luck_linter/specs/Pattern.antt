@@ -1,4 +1,4 @@
--- What stands at a place of a pattern, as do_match and classEnd of lstrlib.c read it, and which patterns are accepted (validate_lua_pattern,
+-- What stands at a place of a pattern, as do_match and classEnd of lstrlib.c read it, as far as the check needs it, and which patterns are accepted (validate_lua_pattern,
 -- scan_escape and scan_set of luck). luck passes over a whole UTF-8 character where this passes over one byte: the bytes after a
 -- character's first are 128 or more, so none of them is a byte that is tested for here, and the two read the same items.
 -- Assumes nothing.
@@ -51,7 +51,7 @@ memberAt pat first p =
     let member = if eqb (byteAt pat p) (code "%") then escape else byte-member in
     if eqb (byteAt pat p) (code "]") && not first then closing-bracket else member
 
--- where a set ends: at its closing `]`; not at all, for a `%` that ends the pattern; not at all
+-- where a set ends: at its closing `]`; nowhere, since a `%` at this place ends the pattern; or nowhere
 pub data SetEnd : Type 0 where
   closes-at cut-at : ℕ → SetEnd
   unclosed : SetEnd

@@ -17,7 +17,7 @@ if_then_else_ false x y = y
 abbrev pub byteAt : List ℕ → ℕ → ℕ
 byteAt text p = getD text p 0
 
--- the bytes from a place to another
+-- the bytes from a place up to another, which does not belong to them
 abbrev pub part : List ℕ → ℕ → ℕ → List ℕ
 part text from to = take (to - from) (drop from text)
 

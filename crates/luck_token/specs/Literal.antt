@@ -72,7 +72,8 @@ longPiece lfcr body p =
 unfoldable pub otherEscape : Rules → Escape
 otherEscape rules = if rules .«strict_escapes» then Undefined else Itself
 
--- what the byte after a backslash begins
+-- what the byte after a backslash begins. The code's enum Escape: Simple (the byte that it stands for), LineBreak, Hex `\xXX`, Whitespace `\z`,
+-- Decimal `\ddd`, Unicode `\u{XXX}`, Itself (the byte stands for itself), Undefined. 07, 08, 0C and 0B are BEL, BS, FF and VT.
 unfoldable pub escapeOf : Rules → ℕ → Escape
 escapeOf rules e =
     if eqb e (code "a") then Simple 0x07
@@ -110,13 +111,14 @@ decimalEscape body p =
     let value = numeral 10 (part body (p + 1) (p + 1 + count)) in
     if leb value 255 then piece (value ∷ []) (1 + count) else malformed
 
--- unicode_escape_codepoint: a number of digits and a value that the version allows; and char::from_u32: a character has that value
+-- unicode_escape_codepoint of luck: how many digits the version allows, and its largest value
 unfoldable pub allowsDigits : Rules → ℕ → Bool
 allowsDigits rules count = leb 1 count && (not (rules .«unicode_escape_digit_limit») || leb count 16)
 
 unfoldable pub codePointLimit : Rules → ℕ
 codePointLimit rules = if rules .«extended_unicode_escape» then 0x7FFF_FFFF else 0x10_FFFF
 
+-- and char::from_u32: a character has the value. There is none above 10FFFF, so the limit 7FFFFFFF of 5.4 and 5.5 has no effect.
 unfoldable pub allowsCodePoint : Rules → ℕ → ℕ → Bool
 allowsCodePoint rules count value = allowsDigits rules count && leb value (codePointLimit rules) && isChar value
 

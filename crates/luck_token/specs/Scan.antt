@@ -14,7 +14,7 @@ inClass HexDigit b = isXdigit b
 inClass Whitespace b = isLuaWhitespace b
 inClass (Byte c) b = eqb c b
 
--- a number that is larger than every limit of a check: numbers from here on are not told apart
+-- 80000000 (hexadecimal) is larger than every limit of a check, of which 7FFFFFFF is the largest: numbers from here on are not told apart
 abbrev pub most : ℕ
 most = 0x8000_0000
 

@@ -89,7 +89,7 @@ codePoint text p width =
     else if eqb width 3 then ((b0 - 0xE0) * 0x40 + b1) * 0x40 + b2
     else (((b0 - 0xF0) * 0x40 + b1) * 0x40 + b2) * 0x40 + b3
 
--- the character at a place; at the end and inside a character, as in luck, U+FFFD (char::REPLACEMENT_CHARACTER), of width 1
+-- the character at a place; at the end, inside a character and at an ill-formed sequence U+FFFD of width 1, as in luck (peek_char, literal_error)
 unfoldable pub charAt : List ℕ → ℕ → Char
 charAt text p =
     let width = sequence text p in
@@ -99,7 +99,7 @@ charAt text p =
 unfoldable pub isChar : ℕ → Bool
 isChar c = ltb c 0xD800 || between 0xE000 0x10FFFF c
 
--- the bytes of a character
+-- the bytes of a code point of at most 10FFFF
 unfoldable pub utf8Bytes : ℕ → List ℕ
 utf8Bytes c =
     if ltb c 0x80 then c ∷ []

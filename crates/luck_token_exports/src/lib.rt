@@ -1,4 +1,4 @@
-// luck_token's public functions as C functions, so that they can be compared with luck's Rust in one process.
+// What luck_token has in common with luck's Rust, and the UTF-8 test, as C functions, so that the two can be compared in one process.
 ghost use mathlib.Core.Path.{_≡_};
 ghost use lib.ListN.{length};
 ghost use Rattle.luck_token.specs.Decode.{decodeString, answer, answerOf, outputOf};

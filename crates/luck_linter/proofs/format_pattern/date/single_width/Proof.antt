@@ -14,7 +14,7 @@ contains-requires : tie.Need-contains-requires
 contains-requires c κs = search needs
 
 returns : tie.Need-returns
-returns c = (laws.single-c89 (c .before .before .before .args .has-options) (c .before .before .before .args .byte) (sym (c .before .contains .ensures) ∙ c .if1 .taken), omega arith)
+returns c = (laws.single-everywhere (c .before .before .before .args .has-options) (c .before .before .before .args .byte) (sym (c .before .contains .ensures) ∙ c .if1 .taken), omega arith)
 
 slice-aggregate-contains-2 : tie.Need-slice-aggregate-contains-2
 slice-aggregate-contains-2 c = search needs
@@ -23,7 +23,7 @@ contains-requires-2 : tie.Need-contains-requires-2
 contains-requires-2 c κs = search needs
 
 returns-2 : tie.Need-returns-2
-returns-2 c = (laws.single-c99 (c .before .before .before .before .before .before .before .args .has-options) (c .before .before .before .before .before .before .before .args .byte) (sym (c .before .before .before .before .before .contains .ensures) ∙ c .before .before .before .before .if1 .left) (c .before .before .before .if2 .taken) (sym (c .before .contains2 .ensures) ∙ c .if3 .taken), omega arith)
+returns-2 c = (laws.single-with-options (c .before .before .before .before .before .before .before .args .has-options) (c .before .before .before .before .before .before .before .args .byte) (sym (c .before .before .before .before .before .contains .ensures) ∙ c .before .before .before .before .if1 .left) (c .before .before .before .if2 .taken) (sym (c .before .contains2 .ensures) ∙ c .if3 .taken), omega arith)
 
 returns-3 : tie.Need-returns-3
 returns-3 c = (laws.single-none (c .before .before .before .before .before .before .before .args .has-options) (c .before .before .before .before .before .before .before .args .byte) (sym (c .before .before .before .before .before .contains .ensures) ∙ c .before .before .before .before .if1 .left) (inr (sym (c .before .contains2 .ensures) ∙ c .if3 .left)), omega arith)

@@ -20,16 +20,16 @@ numeral-requires : tie.Need-numeral-requires
 numeral-requires c κs = search needs
 
 returns-2 : tie.Need-returns-2
-returns-2 c = (λ make. size-too-small make (c .before .before .before .before .before .args .default) (c .before .before .before .before .before .args .text .now) (c .before .before .before .before .before .args .at) (c .before .before .before .run .result) (c .before .before .before .run .ensures) (c .before .before .if1 .left) (c .before .numeral .result) (c .before .numeral .ensures) (c .if2 .taken), tt)
+returns-2 c = (λ make. size-too-small make (c .before .before .before .before .before .args .default) (c .before .before .before .before .before .args .text .now) (c .before .before .before .before .before .args .at) (c .before .before .before .run .result) (c .before .before .before .run .ensures) (c .before .before .if1 .left) (c .before .numeral .result) (c .before .numeral .ensures) (omega arith), tt)
 
 returns-3 : tie.Need-returns-3
-returns-3 c = (λ make. size-too-large make (c .before .before .before .before .before .before .args .default) (c .before .before .before .before .before .before .args .text .now) (c .before .before .before .before .before .before .args .at) (c .before .before .before .before .run .result) (c .before .before .before .before .run .ensures) (c .before .before .before .if1 .left) (c .before .before .numeral .result) (c .before .before .numeral .ensures) (c .if3 .taken), tt)
+returns-3 c = (λ make. size-too-large make (c .before .before .before .before .before .before .args .default) (c .before .before .before .before .before .before .args .text .now) (c .before .before .before .before .before .before .args .at) (c .before .before .before .before .run .result) (c .before .before .before .before .run .ensures) (c .before .before .before .if1 .left) (c .before .before .numeral .result) (c .before .before .numeral .ensures) (omega arith), tt)
 
 add-t8 : tie.Need-add-t8
 add-t8 c = omega (arith, c .before .before .before .before .run .ensures, run-inside isDigit (c .before .before .before .before .before .before .args .text .now) (c .before .before .before .before .before .before .args .at) (omega arith))
 
 returns-4 : tie.Need-returns-4
-returns-4 c = (λ make. size-within make (c .before .before .before .before .before .before .args .default) (c .before .before .before .before .before .before .args .text .now) (c .before .before .before .before .before .before .args .at) (c .before .before .before .before .run .result) (c .before .before .before .before .run .ensures) (c .before .before .before .if1 .left) (c .before .before .numeral .result) (c .before .before .numeral .ensures) (c .before .if2 .left) (c .if3 .left), (omega arith, omega (arith, c .before .before .before .before .run .ensures, run-inside isDigit (c .before .before .before .before .before .before .args .text .now) (c .before .before .before .before .before .before .args .at) (omega arith))))
+returns-4 c = (λ make. size-within make (c .before .before .before .before .before .before .args .default) (c .before .before .before .before .before .before .args .text .now) (c .before .before .before .before .before .before .args .at) (c .before .before .before .before .run .result) (c .before .before .before .before .run .ensures) (c .before .before .before .if1 .left) (c .before .before .numeral .result) (c .before .before .numeral .ensures) (omega arith) (omega arith), (omega arith, omega (arith, c .before .before .before .before .run .ensures, run-inside isDigit (c .before .before .before .before .before .before .args .text .now) (c .before .before .before .before .before .before .args .at) (omega arith))))
 
 pub scan-limited-size-spec : {M : Type 1} → statement M
 scan-limited-size-spec =

@@ -88,7 +88,7 @@ members-again c =
       omega arith,
       l .inv .2,
       l .inv .3,
-      set-first (a .text .now) (a .start) (c .before .before .before .before .before .before .first-member .result) (l .at) (l .inv .4) (c .before .before .before .if3 .left) (l .inv .0) (c .before .match .keys1) (c .if4 .left),
+      set-first (a .text .now) (a .start) (c .before .before .before .before .before .before .first-member .result) (l .at) (l .inv .4) (c .before .before .before .if3 .left) (l .inv .0) (c .before .match .keys1) (omega arith),
     )
 
 sub-if5 : tie.Need-sub-if5 Inv-members μ-members
