@@ -36,7 +36,7 @@ enum Read {
     Bad,
 }
 
-// What no output is written with: well-formed text has no such byte, only an escape makes one.
+// Well-formed text has no such byte: only `\249` and `\xF9` put it into a value.
 const UNTOUCHED: u8 = 0xF9;
 
 // How many bytes behind the output are watched.
