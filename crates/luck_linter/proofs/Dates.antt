@@ -7,18 +7,18 @@ use mathlib.Core.Logic.{_⊎_, inl, inr}
 use mathlib.Core.Bool.{Bool, true, false, not, _&&_, _||_}
 use mathlib.Core.List.{List}
 use lib.ListN.{length, List·getD-eq-default}
-use lib.Dec.{eqb, ltb}
-use borrow.Author.Tests.{eq-eqb, ne-eqb, lt-ltb, le-ltb}
+use lib.Dec.{eqb, leb}
+use borrow.Author.Tests.{eq-eqb, ne-eqb, lt-leb, le-leb}
 use Rattle.luck_token.specs.Bytes.{if_then_else_, byteAt, among}
-use Rattle.luck_token.specs.Walk.{walkFrom, Step, stop, goes}
+use Rattle.luck_token.specs.Walk.{walkFrom, Turn, stop, goes}
 use Rattle.luck_token.proofs.Walk.{walk-end, walk-stop, walk-goes}
 use Rattle.luck_token.proofs.Cases.{if-true, if-false, both-true, first-false, second-false}
 use Rattle.luck_linter.specs.Answer.{Answer, accepted, refused}
-use Rattle.luck_linter.specs.Date.{everywhere, withOptions, secondBytes, isPair, conversionWidth, singleWidth, pairWidth, dateStep, dateEnd, isStarT, isTable, conversionsWalk, dateWalk}
+use Rattle.luck_linter.specs.Date.{everywhere, withOptions, secondBytes, isPair, conversionWidth, singleWidth, pairWidth, dateTurn, dateEnd, isStarT, isTable, conversionsWalk, dateWalk}
 
 module _ (options : Bool) (text : List ℕ) where
   abbrev pub on : ℕ → Answer
-  on p = walkFrom (dateStep options text) dateEnd (length text) p tt
+  on p = walkFrom (dateTurn options text) dateEnd (length text) p tt
 
   pub start : on 0 ≡ conversionsWalk options text
   unfolding conversionsWalk
@@ -26,35 +26,35 @@ module _ (options : Bool) (text : List ℕ) where
 
   pub at-end : (p : ℕ) → length text ≤ p → accepted 0 ≡ on p
   unfolding dateEnd
-  at-end p h = sym (walk-end (dateStep options text) dateEnd (length text) p tt h)
+  at-end p h = sym (walk-end (dateTurn options text) dateEnd (length text) p tt h)
 
   module _ (p : ℕ) (h : p < length text) where
-    stops : (a : Answer) → dateStep options text p tt ≡ stop a → a ≡ on p
-    stops a e = sym (walk-stop (dateStep options text) dateEnd (length text) p tt a h e)
+    stops : (a : Answer) → dateTurn options text p tt ≡ stop a → a ≡ on p
+    stops a e = sym (walk-stop (dateTurn options text) dateEnd (length text) p tt a h e)
 
-    passes : (w : ℕ) → 0 < w → p + w ≤ length text → dateStep options text p tt ≡ goes w tt → on (p + w) ≡ on p
-    passes w g i e = sym (walk-goes (dateStep options text) dateEnd (length text) p tt w tt g i e)
+    passes : (w : ℕ) → 0 < w → p + w ≤ length text → dateTurn options text p tt ≡ goes w tt → on (p + w) ≡ on p
+    passes w g i e = sym (walk-goes (dateTurn options text) dateEnd (length text) p tt w tt g i e)
 
     pub passes-byte : (byteAt text p ≡ 37 → ⊥) → on (p + 1) ≡ on p
-    unfolding dateStep if_then_else_
+    unfolding dateTurn if_then_else_
     passes-byte n = passes 1 (omega arith) (omega arith) (rw (ne-eqb (byteAt text p) 37 n))
 
     module _ (e : byteAt text p ≡ 37) where
       pub lone-strict : length text ≤ p + 1 → options ≡ true → refused 19 p ≡ on p
-      unfolding dateStep if_then_else_
-      lone-strict l t = stops _ (rw (e, le-ltb (p + 1) (length text) l, t))
+      unfolding dateTurn if_then_else_
+      lone-strict l t = stops _ (rw (e, le-leb (length text) (p + 1) l, t))
 
       pub lone-lenient : length text ≤ p + 1 → options ≡ false → accepted 0 ≡ on p
-      unfolding dateStep if_then_else_
-      lone-lenient l t = at-end (p + 1) l ∙ passes 1 (omega arith) (omega arith) (rw (e, le-ltb (p + 1) (length text) l, t))
+      unfolding dateTurn if_then_else_
+      lone-lenient l t = at-end (p + 1) l ∙ passes 1 (omega arith) (omega arith) (rw (e, le-leb (length text) (p + 1) l, t))
 
       pub no-conversion : p + 1 < length text → conversionWidth options text p ≡ 0 → refused 22 (p + 1) ≡ on p
-      unfolding dateStep if_then_else_
-      no-conversion l w = stops _ (rw (e, lt-ltb (p + 1) (length text) l, w))
+      unfolding dateTurn if_then_else_
+      no-conversion l w = stops _ (rw (e, lt-leb (length text) (p + 1) l, w))
 
       pub passes-conversion : p + 1 < length text → (w : ℕ) → w ≡ conversionWidth options text p → (w ≡ 0 → ⊥) → p + w ≤ length text → on (p + w) ≡ on p
-      unfolding dateStep if_then_else_
-      passes-conversion l w f n i = passes w (omega arith) i (rw (e, lt-ltb (p + 1) (length text) l, ← f, ne-eqb w 0 n))
+      unfolding dateTurn if_then_else_
+      passes-conversion l w f n i = passes w (omega arith) i (rw (e, lt-leb (length text) (p + 1) l, ← f, ne-eqb w 0 n))
 
 -- ---- The width of a conversion
 

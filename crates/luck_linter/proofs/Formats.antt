@@ -7,11 +7,11 @@ use mathlib.Core.Bool.{Bool, true, false, _&&_, _||_, true≢false}
 use mathlib.Core.List.{List}
 use lib.ListN.{length, drop, List·getD-eq-default}
 use lib.Dec.{eqb, ltb}
-use borrow.Author.Tests.{lt-ltb, le-ltb, le-leb, lt-leb, eq-eqb, ne-eqb, ltb-true, leb-true, eqb-true}
+use borrow.Author.Tests.{lt-ltb, le-ltb, le-leb, lt-leb, eq-eqb, ne-eqb, ltb-true, leb-true, eqb-true, leb-false}
 use Rattle.luck_token.specs.Bytes.{if_then_else_, byteAt, ascii, among, isDigit, run}
 use Rattle.luck_token.specs.Utf8.{charAt}
 use Rattle.luck_token.specs.Version.{rulesOf}
-use Rattle.luck_token.specs.Walk.{Step, stop, goes, walkFrom}
+use Rattle.luck_token.specs.Walk.{Turn, stop, goes, walkFrom}
 use Rattle.luck_token.specs.declared.version.Rules.{Rules}
 use Rattle.luck_token.proofs.Cases.{by-test, and-right, second-false, present}
 use Rattle.luck_token.proofs.Bytes.{run-inside}
@@ -33,16 +33,16 @@ use Rattle.luck_linter.specs.Format.{
   flagsRun,
   takesPrecision,
   afterTwoDigits,
-  checkFormat,
-  conversionStep,
-  specifierStep,
-  percentStep,
-  formatStep,
+  goodModifiers,
+  conversionTurn,
+  specifierTurn,
+  percentTurn,
+  formatTurn,
   formatEnd,
   formatWalk,
-  checkFormatString,
+  checkFormat,
 }
-use Rattle.luck_linter.specs.Inner.{modifiersOf, EndsIn, stepOf, GoesIn}
+use Rattle.luck_linter.specs.Inner.{modifiersOf, EndsIn, turnOf, GoesIn}
 use Rattle.luck_linter.specs.declared.format_pattern.Text.{Text}
 use Rattle.luck_linter.specs.declared.format_pattern.format.Modifiers.{Modifiers as Found}
 use Rattle.luck_linter.specs.declared.format_pattern.format.Modifiers.the-variants as found
@@ -196,80 +196,80 @@ module _ (b : ℕ) (text : List ℕ) (p : ℕ) where
   unfolding flagsRun
   flags-inside h = run-inside (λ x. among x (flagsFor b)) text p h
 
-  pub no-modifiers : b ≡ 113 → p ≡ checkFormat b text p
-  unfolding checkFormat if_then_else_
+  pub no-modifiers : b ≡ 113 → p ≡ goodModifiers b text p
+  unfolding goodModifiers if_then_else_
   no-modifiers e = rw (eq-eqb b 113 e)
 
   module _ (n : b ≡ 113 → ⊥) (count : ℕ) (q : count ≡ flagsRun b text p) where
-    pub zero-stays : byteAt text (p + count) ≡ 48 → p + count ≡ checkFormat b text p
-    unfolding checkFormat if_then_else_
+    pub zero-stays : byteAt text (p + count) ≡ 48 → p + count ≡ goodModifiers b text p
+    unfolding goodModifiers if_then_else_
     zero-stays e = rw (ne-eqb b 113 n, ← q, eq-eqb (byteAt text (p + count)) 48 e)
 
     module _ (z : byteAt text (p + count) ≡ 48 → ⊥) (width : ℕ) (w : width ≡ afterTwoDigits text (p + count)) where
-      pub dot-stays : takesPrecision b ≡ false → width ≡ checkFormat b text p
-      unfolding checkFormat if_then_else_
+      pub dot-stays : takesPrecision b ≡ false → width ≡ goodModifiers b text p
+      unfolding goodModifiers if_then_else_
       dot-stays t = rw (ne-eqb b 113 n, ← q, ne-eqb (byteAt text (p + count)) 48 z, t, ← w)
 
-      pub dot-passed : takesPrecision b ≡ true → byteAt text width ≡ 46 → afterTwoDigits text (width + 1) ≡ checkFormat b text p
-      unfolding checkFormat if_then_else_
+      pub dot-passed : takesPrecision b ≡ true → byteAt text width ≡ 46 → afterTwoDigits text (width + 1) ≡ goodModifiers b text p
+      unfolding goodModifiers if_then_else_
       dot-passed t e = rw (ne-eqb b 113 n, ← q, ne-eqb (byteAt text (p + count)) 48 z, t, ← w, eq-eqb (byteAt text width) 46 e)
 
-      pub no-dot : (byteAt text width ≡ 46 → ⊥) → width ≡ checkFormat b text p
-      unfolding checkFormat if_then_else_
+      pub no-dot : (byteAt text width ≡ 46 → ⊥) → width ≡ goodModifiers b text p
+      unfolding goodModifiers if_then_else_
       no-dot e = rw (ne-eqb b 113 n, ← q, ne-eqb (byteAt text (p + count)) 48 z, ← w, second-false (takesPrecision b) (eqb (byteAt text width) 46) (ne-eqb (byteAt text width) 46 e))
 
 -- ---- A specifier
 
 module _ (rules : Rules) (text : List ℕ) (p e count : ℕ) where
-  pub cut-off : length text ≤ e → stop (refused 1 p) ≡ conversionStep rules text p count e
-  unfolding conversionStep if_then_else_
-  cut-off h = rw (le-ltb e (length text) h)
+  pub cut-off : length text ≤ e → stop (refused 1 p) ≡ conversionTurn rules text p count e
+  unfolding conversionTurn if_then_else_
+  cut-off h = rw (le-leb (length text) e h)
 
   module _ (h : e < length text) where
-    pub unknown : isConversion rules (byteAt text e) ≡ false → stop (refusedWith 2 e (charAt text e .code)) ≡ conversionStep rules text p count e
-    unfolding conversionStep if_then_else_
-    unknown n = rw (lt-ltb e (length text) h, n)
+    pub unknown : isConversion rules (byteAt text e) ≡ false → stop (refusedWith 2 e (charAt text e .code)) ≡ conversionTurn rules text p count e
+    unfolding conversionTurn if_then_else_
+    unknown n = rw (lt-leb (length text) e h, n)
 
     module _ (k : isConversion rules (byteAt text e) ≡ true) where
-      pub bad-modifier : (good : ℕ) → good ≡ checkFormat (byteAt text e) text (p + 1) → rules .«checked_format_modifiers» ≡ true → good < e
-          → stop (refusedBoth 6 good (byteAt text good) (byteAt text e)) ≡ conversionStep rules text p count e
-      unfolding conversionStep if_then_else_
-      bad-modifier good q r g = rw (lt-ltb e (length text) h, k, r, ← q, lt-ltb good e g)
+      pub bad-modifier : (good : ℕ) → good ≡ goodModifiers (byteAt text e) text (p + 1) → rules .«checked_format_modifiers» ≡ true → good < e
+          → stop (refusedBoth 6 good (byteAt text good) (byteAt text e)) ≡ conversionTurn rules text p count e
+      unfolding conversionTurn if_then_else_
+      bad-modifier good q r g = rw (lt-leb (length text) e h, k, r, ← q, lt-ltb good e g)
 
-      pub good-modifiers : (good : ℕ) → good ≡ checkFormat (byteAt text e) text (p + 1) → rules .«checked_format_modifiers» ≡ true → e ≤ good
-          → goes (e + 1 - p) (count + 1) ≡ conversionStep rules text p count e
-      unfolding conversionStep if_then_else_
-      good-modifiers good q r g = rw (lt-ltb e (length text) h, k, r, ← q, le-ltb good e g)
+      pub good-modifiers : (good : ℕ) → good ≡ goodModifiers (byteAt text e) text (p + 1) → rules .«checked_format_modifiers» ≡ true → e ≤ good
+          → goes (e + 1 - p) (count + 1) ≡ conversionTurn rules text p count e
+      unfolding conversionTurn if_then_else_
+      good-modifiers good q r g = rw (lt-leb (length text) e h, k, r, ← q, le-ltb good e g)
 
-      pub unchecked : rules .«checked_format_modifiers» ≡ false → goes (e + 1 - p) (count + 1) ≡ conversionStep rules text p count e
-      unfolding conversionStep if_then_else_
-      unchecked r = rw (lt-ltb e (length text) h, k, r)
+      pub unchecked : rules .«checked_format_modifiers» ≡ false → goes (e + 1 - p) (count + 1) ≡ conversionTurn rules text p count e
+      unfolding conversionTurn if_then_else_
+      unchecked r = rw (lt-leb (length text) e h, k, r)
 
 module _ (rules : Rules) (text : List ℕ) (p count : ℕ) where
-  pub lone-percent : length text ≤ p + 1 → stop (refused 1 p) ≡ percentStep rules text p count
-  unfolding percentStep if_then_else_
-  lone-percent h = rw (le-ltb (p + 1) (length text) h)
+  pub lone-percent : length text ≤ p + 1 → stop (refused 1 p) ≡ percentTurn rules text p count
+  unfolding percentTurn if_then_else_
+  lone-percent h = rw (le-leb (length text) (p + 1) h)
 
   module _ (h : p + 1 < length text) where
-    pub two-percents : byteAt text (p + 1) ≡ 37 → goes 2 count ≡ percentStep rules text p count
-    unfolding percentStep if_then_else_
-    two-percents e = rw (lt-ltb (p + 1) (length text) h, eq-eqb (byteAt text (p + 1)) 37 e)
+    pub two-percents : byteAt text (p + 1) ≡ 37 → goes 2 count ≡ percentTurn rules text p count
+    unfolding percentTurn if_then_else_
+    two-percents e = rw (lt-leb (length text) (p + 1) h, eq-eqb (byteAt text (p + 1)) 37 e)
 
     module _ (n : byteAt text (p + 1) ≡ 37 → ⊥) where
-      pub star : byteAt text (p + 1) ≡ 42 → rules .«star_format» ≡ true → goes 2 (count + 1) ≡ percentStep rules text p count
-      unfolding percentStep if_then_else_
-      star e r = rw (lt-ltb (p + 1) (length text) h, ne-eqb (byteAt text (p + 1)) 37 n, eq-eqb (byteAt text (p + 1)) 42 e, r)
+      pub star : byteAt text (p + 1) ≡ 42 → rules .«star_format» ≡ true → goes 2 (count + 1) ≡ percentTurn rules text p count
+      unfolding percentTurn if_then_else_
+      star e r = rw (lt-leb (length text) (p + 1) h, ne-eqb (byteAt text (p + 1)) 37 n, eq-eqb (byteAt text (p + 1)) 42 e, r)
 
       module _ (m : (eqb (byteAt text (p + 1)) 42 && rules .«star_format») ≡ false) where
         pub after-modifiers : (e : ℕ) → end-at e ≡ modifiersAt (rules .«checked_format_modifiers») text (p + 1)
-            → conversionStep rules text p count e ≡ percentStep rules text p count
-        unfolding percentStep specifierStep if_then_else_
-        after-modifiers e q = rw (lt-ltb (p + 1) (length text) h, ne-eqb (byteAt text (p + 1)) 37 n, m, ← q)
+            → conversionTurn rules text p count e ≡ percentTurn rules text p count
+        unfolding percentTurn specifierTurn if_then_else_
+        after-modifiers e q = rw (lt-leb (length text) (p + 1) h, ne-eqb (byteAt text (p + 1)) 37 n, m, ← q)
 
         pub faulty-modifiers : (answer : Answer) → fault answer ≡ modifiersAt (rules .«checked_format_modifiers») text (p + 1)
-            → stop answer ≡ percentStep rules text p count
-        unfolding percentStep specifierStep if_then_else_
-        faulty-modifiers answer q = rw (lt-ltb (p + 1) (length text) h, ne-eqb (byteAt text (p + 1)) 37 n, m, ← q)
+            → stop answer ≡ percentTurn rules text p count
+        unfolding percentTurn specifierTurn if_then_else_
+        faulty-modifiers answer q = rw (lt-leb (length text) (p + 1) h, ne-eqb (byteAt text (p + 1)) 37 n, m, ← q)
 
 -- what is known of the modifiers that were read
 module _ (m : Modifiers) (p len : ℕ) where
@@ -280,7 +280,7 @@ module _ (m : Modifiers) (p len : ℕ) where
 
 module _ (rules : Rules) (text : List ℕ) where
   abbrev pub on : ℕ → ℕ → Answer
-  on p count = walkFrom (formatStep rules text) formatEnd (length text) p count
+  on p count = walkFrom (formatTurn rules text) formatEnd (length text) p count
 
   pub start : on 0 0 ≡ formatWalk rules text
   unfolding formatWalk
@@ -288,40 +288,40 @@ module _ (rules : Rules) (text : List ℕ) where
 
   -- what is known of the specifier that was read
   pub read : (p : ℕ) {r : Specifier} (shape : Specifier) → r ≡ shape
-      → ((count : ℕ) → stepOf count r ≡ percentStep rules text p count) × GoesIn r p (length text)
-      → ((count : ℕ) → stepOf count shape ≡ percentStep rules text p count) × GoesIn shape p (length text)
-  read p shape e w = subst (λ (x : Specifier). ((count : ℕ) → stepOf count x ≡ percentStep rules text p count) × GoesIn x p (length text)) e w
+      → ((count : ℕ) → turnOf count r ≡ percentTurn rules text p count) × GoesIn r p (length text)
+      → ((count : ℕ) → turnOf count shape ≡ percentTurn rules text p count) × GoesIn shape p (length text)
+  read p shape e w = subst (λ (x : Specifier). ((count : ℕ) → turnOf count x ≡ percentTurn rules text p count) × GoesIn x p (length text)) e w
 
   module _ (p count : ℕ) (whole : Answer) (w : on p count ≡ whole) where
     pub done : length text ≤ p → accepted count ≡ whole
     unfolding formatEnd
-    done h = sym (walk-end (formatStep rules text) formatEnd (length text) p count h) ∙ w
+    done h = sym (walk-end (formatTurn rules text) formatEnd (length text) p count h) ∙ w
 
     module _ (h : p < length text) where
-      plain-step : (byteAt text p ≡ 37 → ⊥) → formatStep rules text p count ≡ goes 1 count
-      unfolding formatStep if_then_else_
+      plain-step : (byteAt text p ≡ 37 → ⊥) → formatTurn rules text p count ≡ goes 1 count
+      unfolding formatTurn if_then_else_
       plain-step n = rw (ne-eqb (byteAt text p) 37 n)
 
       pub plain-turn : (byteAt text p ≡ 37 → ⊥) → on (p + 1) count ≡ whole
-      plain-turn n = sym (walk-goes (formatStep rules text) formatEnd (length text) p count 1 count (omega arith) (omega arith) (plain-step n)) ∙ w
+      plain-turn n = sym (walk-goes (formatTurn rules text) formatEnd (length text) p count 1 count (omega arith) (omega arith) (plain-step n)) ∙ w
 
       module _ (e : byteAt text p ≡ 37) where
-        percent-step : formatStep rules text p count ≡ percentStep rules text p count
-        unfolding formatStep if_then_else_
+        percent-step : formatTurn rules text p count ≡ percentTurn rules text p count
+        unfolding formatTurn if_then_else_
         percent-step = rw (eq-eqb (byteAt text p) 37 e)
 
-        pub turn : (width count′ : ℕ) → goes width count′ ≡ percentStep rules text p count → 0 < width → p + width ≤ length text → on (p + width) count′ ≡ whole
-        turn width count′ s g l = sym (walk-goes (formatStep rules text) formatEnd (length text) p count width count′ g l (percent-step ∙ sym s)) ∙ w
+        pub turn : (width count′ : ℕ) → goes width count′ ≡ percentTurn rules text p count → 0 < width → p + width ≤ length text → on (p + width) count′ ≡ whole
+        turn width count′ s g l = sym (walk-goes (formatTurn rules text) formatEnd (length text) p count width count′ g l (percent-step ∙ sym s)) ∙ w
 
-        pub bad : (answer : Answer) → stop answer ≡ percentStep rules text p count → answer ≡ whole
-        bad answer s = sym (walk-stop (formatStep rules text) formatEnd (length text) p count answer h (percent-step ∙ sym s)) ∙ w
+        pub bad : (answer : Answer) → stop answer ≡ percentTurn rules text p count → answer ≡ whole
+        bad answer s = sym (walk-stop (formatTurn rules text) formatEnd (length text) p count answer h (percent-step ∙ sym s)) ∙ w
 
 -- ---- The check
 
 -- what a text that was read gives the check
 pub checked : (version : ℕ) (text : List ℕ) {r : Text} (shape : Text) → r ≡ shape → ((walked : Answer) → textAnswer r walked ≡ checkText version text walked)
-    → textAnswer shape (formatWalk (rulesOf version) text) ≡ checkFormatString version text
-unfolding checkFormatString
+    → textAnswer shape (formatWalk (rulesOf version) text) ≡ checkFormat version text
+unfolding checkFormat
 checked version text shape e w =
     let walked = formatWalk (rulesOf version) text in
     subst (λ (x : Text). textAnswer x walked ≡ checkText version text walked) e (w walked)
@@ -333,7 +333,7 @@ module _ (text : List ℕ) where
   FaultIn (end-at e) = Unit {0}
   FaultIn (fault answer) = answer .offset ≤ length text
 
-  abbrev StopsIn : Step ℕ Answer → Type 0
+  abbrev StopsIn : Turn ℕ Answer → Type 0
   StopsIn (stop answer) = answer .offset ≤ length text
   StopsIn (goes width count) = Unit {0}
 
@@ -367,35 +367,32 @@ module _ (text : List ℕ) where
   modifiers false p h = scan-format p h
 
   module _ (rules : Rules) (p count : ℕ) where
-    conversion : (e : ℕ) → p < length text → StopsIn (conversionStep rules text p count e)
-    unfolding conversionStep
+    conversion : (e : ℕ) → p < length text → StopsIn (conversionTurn rules text p count e)
+    unfolding conversionTurn
     conversion e h =
-        let good = checkFormat (byteAt text e) text (p + 1) in
-        by-test StopsIn _ _ _
-        (λ l. by-test StopsIn _ _ _
-        (λ _. by-test StopsIn _ _ _ (λ b. omega (arith, ltb-true e (length text) l, ltb-true good e (and-right (rules .«checked_format_modifiers») (ltb good e) b))) (λ _. tt))
-        (λ _. omega (arith, ltb-true e (length text) l)))
-        (λ _. omega arith)
+        let good = goodModifiers (byteAt text e) text (p + 1) in
+        by-test StopsIn _ _ _ (λ _. omega arith)
+        (λ l. by-test StopsIn _ _ _ (λ _. omega (arith, leb-false (length text) e l))
+        (λ _. by-test StopsIn _ _ _ (λ b. omega (arith, leb-false (length text) e l, ltb-true good e (and-right (rules .«checked_format_modifiers») (ltb good e) b))) (λ _. tt)))
 
-    specifier-in : (m : Modifiers) → FaultIn m → p < length text → StopsIn (specifierStep rules text p count m)
-    unfolding specifierStep
+    specifier-in : (m : Modifiers) → FaultIn m → p < length text → StopsIn (specifierTurn rules text p count m)
+    unfolding specifierTurn
     specifier-in (end-at e) f h = conversion e h
     specifier-in (fault answer) f h = f
 
-    percent : p < length text → StopsIn (percentStep rules text p count)
-    unfolding percentStep
+    percent : p < length text → StopsIn (percentTurn rules text p count)
+    unfolding percentTurn
     percent h =
-        by-test StopsIn _ _ _
+        by-test StopsIn _ _ _ (λ _. omega arith)
         (λ l. by-test StopsIn _ _ _ (λ _. tt)
-        (λ _. by-test StopsIn _ _ _ (λ _. tt) (λ _. specifier-in _ (modifiers (rules .«checked_format_modifiers») (p + 1) (omega (arith, ltb-true (p + 1) (length text) l))) h)))
-        (λ _. omega arith)
+        (λ _. by-test StopsIn _ _ _ (λ _. tt) (λ _. specifier-in _ (modifiers (rules .«checked_format_modifiers») (p + 1) (omega (arith, leb-false (length text) (p + 1) l))) h)))
 
-    step : StopsIn (formatStep rules text p count)
-    unfolding formatStep
+    step : StopsIn (formatTurn rules text p count)
+    unfolding formatTurn
     step = by-test StopsIn _ _ _ (λ e. percent (there p 37 (omega arith) e)) (λ _. tt)
 
   pub offset-inside : (rules : Rules) → formatWalk rules text .offset ≤ length text
   unfolding formatWalk formatEnd
   offset-inside rules =
-      walk-related (formatStep rules text) formatEnd (λ count answer. answer .offset ≤ length text)
+      walk-related (formatTurn rules text) formatEnd (λ count answer. answer .offset ≤ length text)
       (λ p count answer e. subst StopsIn e (step rules p count)) (λ p count width count′ answer e r. r) (λ p count. omega arith) (length text) 0 0

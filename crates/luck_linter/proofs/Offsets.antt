@@ -12,9 +12,9 @@ use borrow.Author.Tests.{eqb-true}
 use Rattle.luck_token.specs.Bytes.{byteAt}
 use Rattle.luck_token.specs.Version.{isVersion}
 use Rattle.luck_token.specs.Utf8.{sequence, sequenceAt, noneIllFormed, illFormed}
-use Rattle.luck_token.specs.Walk.{Step, stop, goes, walk, walkFrom}
+use Rattle.luck_token.specs.Walk.{Turn, stop, goes, walk, walkFrom}
 use Rattle.luck_token.proofs.Cases.{by-test, present}
-use Rattle.luck_linter.specs.Answer.{Answer, afterUtf8, checkText}
+use Rattle.luck_linter.specs.Answer.{Answer, afterVersion, afterUtf8, checkText}
 use Rattle.luck_linter.specs.Captures.{closeLatest, isClosed, allClosed}
 use Rattle.luck_linter.specs.Pattern.{
   Head,
@@ -42,7 +42,7 @@ use Rattle.luck_linter.specs.Pattern.{
   cut-at,
   unclosed,
   memberBy,
-  memberStep,
+  memberTurn,
   membersEnd,
   firstMember,
   setEnd,
@@ -55,8 +55,8 @@ use Rattle.luck_linter.specs.Pattern.{
   escapeRead,
   onward,
   afterClose,
-  headStep,
-  patternStep,
+  headTurn,
+  patternTurn,
   patternEnd,
   patternWalk,
   checkPattern,
@@ -64,13 +64,13 @@ use Rattle.luck_linter.specs.Pattern.{
 
 -- ---- A walk
 
--- what holds of the answer of a step, if it has one
-abbrev pub Stops : {S A : Type 0} → (A → Type 0) → Step S A → Type 0
+-- what holds of the answer of a turn, if it has one
+abbrev pub Stops : {S A : Type 0} → (A → Type 0) → Turn S A → Type 0
 Stops P (stop a) = P a
 Stops P (goes width s) = Unit {0}
 
--- what holds of the answer of each step that stops in the text, and at its end, holds of the walk's answer
-module _ {S A : Type 0} (item : ℕ → S → Step S A) (ends : ℕ → S → A) (len : ℕ) (P : A → Type 0)
+-- what holds of the answer of each turn that stops in the text, and at its end, holds of the walk's answer
+module _ {S A : Type 0} (item : ℕ → S → Turn S A) (ends : ℕ → S → A) (len : ℕ) (P : A → Type 0)
     (stops : (p : ℕ) (s : S) → p < len → Stops P (item p s))
     (at-end : (p : ℕ) (s : S) → P (ends p s)) where
   one-stop : (n p : ℕ) (s : S) (a : A) → item p s ≡ stop a → walk item ends (suc n) 0 p s ≡ a
@@ -87,7 +87,7 @@ module _ {S A : Type 0} (item : ℕ → S → Step S A) (ends : ℕ → S → A)
   every (suc n) (suc k) p s h = every n k (suc p) s (omega arith)
   every (suc n) zero p s h = go (λ w s′. every n (w - 1) (suc p) s′ (omega arith)) (item p s) refl
     where
-      go : ((w : ℕ) (s′ : S) → P (walk item ends n (w - 1) (suc p) s′)) → (t : Step S A) → item p s ≡ t → P (walk item ends (suc n) 0 p s)
+      go : ((w : ℕ) (s′ : S) → P (walk item ends n (w - 1) (suc p) s′)) → (t : Turn S A) → item p s ≡ t → P (walk item ends (suc n) 0 p s)
       go rest (stop a) e = subst P (sym (one-stop n p s a e)) (subst (Stops P) e (stops p s (omega arith)))
       go rest (goes w s′) e = subst P (sym (one-goes n p s w s′ e)) (rest w s′)
 
@@ -124,7 +124,7 @@ module _ (text : List ℕ) where
 
   -- a check's, if its walk's does
   pub check-offset : (version : ℕ) (walked : Answer) → walked .offset ≤ length text → checkText version text walked .offset ≤ length text
-  unfolding checkText
+  unfolding checkText afterVersion
   check-offset version walked h =
       by-test (AnswerIn (length text)) (isVersion version) _ _ (λ _. after-in (illFormed text) walked place-in h) (λ _. omega arith)
 
@@ -147,8 +147,8 @@ module _ (text : List ℕ) where
   member-in p cut-escape h = h
   member-in p byte-member h = tt
 
-  members-in : (p : ℕ) (first : Bool) → p < length text → Stops (EndIn (length text)) (memberStep text p first)
-  unfolding memberStep
+  members-in : (p : ℕ) (first : Bool) → p < length text → Stops (EndIn (length text)) (memberTurn text p first)
+  unfolding memberTurn
   members-in p first h = member-in p (memberAt text first p) h
 
   no-member-in : (p : ℕ) (first : Bool) → EndIn (length text) (membersEnd p first)
@@ -157,7 +157,7 @@ module _ (text : List ℕ) where
 
   end-in : (p : ℕ) → EndIn (length text) (setEnd text p)
   unfolding setEnd
-  end-in p = walk-every (memberStep text) membersEnd (length text) (EndIn (length text)) members-in no-member-in (firstMember text p) _
+  end-in p = walk-every (memberTurn text) membersEnd (length text) (EndIn (length text)) members-in no-member-in (firstMember text p) _
 
   set-as-in : (p : ℕ) (end : SetEnd) → p < length text → EndIn (length text) end → ReadIn (length text) (setAs text p end)
   unfolding setAs
@@ -194,17 +194,17 @@ module _ (text : List ℕ) where
     close-in none = omega arith
     close-in (some after) = tt
 
-    head-in : (h : Head) → Stops (AnswerIn (length text)) (headStep text p captures h)
-    unfolding headStep
+    head-in : (h : Head) → Stops (AnswerIn (length text)) (headTurn text p captures h)
+    unfolding headTurn
     head-in at-open = by-test (Stops (AnswerIn (length text))) (ltb (length captures) 32) _ _ (λ _. tt) (λ _. omega arith)
     head-in at-close = close-in (closeLatest captures)
     head-in at-percent = onward-in (escapeRead text p captures) escape-in
     head-in at-set = onward-in (setRead text p) (set-in p inside)
     head-in at-other = tt
 
-    step-in : Stops (AnswerIn (length text)) (patternStep text p captures)
-    unfolding patternStep
-    step-in = head-in (headOf (byteAt text p))
+    turn-in : Stops (AnswerIn (length text)) (patternTurn text p captures)
+    unfolding patternTurn
+    turn-in = head-in (headOf (byteAt text p))
 
   last-in : (p : ℕ) (captures : List Bool) → AnswerIn (length text) (patternEnd text p captures)
   unfolding patternEnd
@@ -212,7 +212,7 @@ module _ (text : List ℕ) where
 
   pub pattern-offset : patternWalk text .offset ≤ length text
   unfolding patternWalk
-  pattern-offset = walk-every (patternStep text) (patternEnd text) (length text) (AnswerIn (length text)) (λ p captures h. step-in p captures h) last-in 0 []
+  pattern-offset = walk-every (patternTurn text) (patternEnd text) (length text) (AnswerIn (length text)) (λ p captures h. turn-in p captures h) last-in 0 []
 
   pub check-pattern-offset : (version : ℕ) → checkPattern version text .offset ≤ length text
   unfolding checkPattern

@@ -9,8 +9,8 @@ use mathlib.Core.Option.{Option, none, some}
 use lib.ListN.{length}
 use borrow.Author.Tests.{ltb-true}
 use Rattle.luck_token.specs.Bytes.{byteAt}
-use Rattle.luck_token.specs.Walk.{Step}
-use Rattle.luck_token.specs.Walk.Step.{stop, goes}
+use Rattle.luck_token.specs.Walk.{Turn}
+use Rattle.luck_token.specs.Walk.Turn.{stop, goes}
 use Rattle.luck_token.proofs.Cases.{by-test}
 use Rattle.luck_linter.specs.Answer.{Answer}
 use Rattle.luck_linter.proofs.Offsets.{Stops, walk-every}
@@ -30,8 +30,8 @@ use Rattle.luck_linter.specs.Pack.{
   alignmentOf,
   alignBy,
   alignToNext,
-  optionStep,
-  packStep,
+  optionTurn,
+  packTurn,
   packEnd,
   packWalk,
 }
@@ -72,7 +72,7 @@ module _ (packsize : Bool) (text : List ℕ) where
   unfolding optionAt
   option-placed p h = by-test Reads _ _ _ (λ e. by-placed p (plainOption (byteAt text p)) (ltb-true p (length text) e)) (λ _. h)
 
-  abbrev Steps : Step State Answer → Type 0
+  abbrev Steps : Turn State Answer → Type 0
   Steps t = Stops Placed t
 
   module _ (p : ℕ) (h : p < length text) (s : State) where
@@ -83,7 +83,7 @@ module _ (packsize : Bool) (text : List ℕ) where
     unfolding aligned
     aligned-placed width size after = by-test Steps _ _ _ (λ _. here) (λ _. tt)
 
-    variable-placed : (t : Step State Answer) → Steps t → Steps (variable packsize text p t)
+    variable-placed : (t : Turn State Answer) → Steps t → Steps (variable packsize text p t)
     unfolding variable
     variable-placed t r = by-test Steps _ _ _ (λ _. here) (λ _. r)
 
@@ -97,8 +97,8 @@ module _ (packsize : Bool) (text : List ℕ) where
     next-placed (option o width) r = align-placed width (alignmentOf o)
     next-placed (fault a) r = r
 
-    step-placed : (read : Read) → Reads read → Steps (optionStep packsize text p s read)
-    unfolding optionStep
+    step-placed : (read : Read) → Reads read → Steps (optionTurn packsize text p s read)
+    unfolding optionTurn
     step-placed (option (Sized size) width) r = aligned-placed width size _
     step-placed (option (Counted size) width) r = variable-placed _ (aligned-placed width size _)
     step-placed (option ZeroTerminated width) r = variable-placed _ tt
@@ -109,8 +109,8 @@ module _ (packsize : Bool) (text : List ℕ) where
     step-placed (option Control width) r = tt
     step-placed (fault a) r = r
 
-    item-placed : Steps (packStep packsize text p s)
-    unfolding packStep
+    item-placed : Steps (packTurn packsize text p s)
+    unfolding packTurn
     item-placed = step-placed (optionAt text p) (option-placed p here)
 
   end-placed : (p : ℕ) (s : State) → Placed (packEnd p s)
@@ -119,4 +119,4 @@ module _ (packsize : Bool) (text : List ℕ) where
 
   pub pack-offset : packWalk packsize text .offset ≤ length text
   unfolding packWalk
-  pack-offset = walk-every (packStep packsize text) packEnd (length text) Placed (λ p s h. item-placed p h s) end-placed 0 _
+  pack-offset = walk-every (packTurn packsize text) packEnd (length text) Placed (λ p s h. item-placed p h s) end-placed 0 _

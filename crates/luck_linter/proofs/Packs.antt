@@ -14,8 +14,8 @@ use borrow.Author.Tests.{lt-ltb, le-ltb, eq-eqb, ne-eqb}
 use Rattle.luck_token.specs.Bytes.{if_then_else_, byteAt, part, ascii, among, isDigit, run, numeral}
 use Rattle.luck_token.specs.Utf8.{charAt}
 use Rattle.luck_token.specs.Scan.{most}
-use Rattle.luck_token.specs.Walk.{Step, walkFrom}
-use Rattle.luck_token.specs.Walk.Step.{stop, goes}
+use Rattle.luck_token.specs.Walk.{Turn, walkFrom}
+use Rattle.luck_token.specs.Walk.Turn.{stop, goes}
 use Rattle.luck_token.proofs.Cases.{if-true, if-false}
 use Rattle.luck_token.proofs.Bytes.{within, below, above}
 use Rattle.luck_token.proofs.Walk.{walk-end, walk-stop, walk-goes}
@@ -39,11 +39,11 @@ use Rattle.luck_linter.specs.Pack.{
   alignmentOf,
   alignBy,
   alignToNext,
-  packStep,
+  packTurn,
   packEnd,
   packWalk,
 }
-use Rattle.luck_linter.specs.Inner.{sizeRead, SizeIn, optionRead, OptionIn, withValue, packStepOf, GoesBy, PackGoesIn}
+use Rattle.luck_linter.specs.Inner.{sizeRead, SizeIn, optionRead, OptionIn, withValue, packTurnOf, GoesBy, PackGoesIn}
 use Rattle.luck_linter.specs.declared.format_pattern.PatternError.{PatternError}
 use Rattle.luck_linter.specs.declared.format_pattern.PatternError.the-variants as error
 use Rattle.luck_linter.specs.declared.format_pattern.pack.PackOption.{PackOption}
@@ -52,8 +52,8 @@ use Rattle.luck_linter.specs.declared.format_pattern.pack.Size.{Size}
 use Rattle.luck_linter.specs.declared.format_pattern.pack.Size.the-variants as size
 use Rattle.luck_linter.specs.declared.format_pattern.pack.Read.{Read as Found}
 use Rattle.luck_linter.specs.declared.format_pattern.pack.Read.the-variants as found
-use Rattle.luck_linter.specs.declared.format_pattern.pack.Step.{Step as PackStep}
-use Rattle.luck_linter.specs.declared.format_pattern.pack.Step.the-variants as packstep
+use Rattle.luck_linter.specs.declared.format_pattern.pack.Turn.{Turn as PackTurn}
+use Rattle.luck_linter.specs.declared.format_pattern.pack.Turn.the-variants as packturn
 
 -- ---- A size
 
@@ -185,13 +185,13 @@ module _ (p width n largest : ℕ) (has : Bool) (values : ℕ) where
   well-aligned e = sym (if-false _ _ _ e)
 
 -- a step of this width lies in the text
-pub goes-in : (r : PackStep) (width p len : ℕ) → GoesBy r width → 0 < width → p + width ≤ len → PackGoesIn r p len
-goes-in (packstep.Goes w has largest) width p len e l h = (omega arith, omega arith)
-goes-in (packstep.Fault refusing) width p len e l h = tt
+pub goes-in : (r : PackTurn) (width p len : ℕ) → GoesBy r width → 0 < width → p + width ≤ len → PackGoesIn r p len
+goes-in (packturn.Goes w has largest) width p len e l h = (omega arith, omega arith)
+goes-in (packturn.Fault refusing) width p len e l h = tt
 
 -- ---- `X`
 
-module _ (text : List ℕ) (p : ℕ) (s : State) (step : Step State Answer) where
+module _ (text : List ℕ) (p : ℕ) (s : State) (step : Turn State Answer) where
   module _ (o : PackOption) (width : ℕ) (e : option o width ≡ optionAt text (p + 1)) where
     pub align-to : (n : ℕ) → some n ≡ alignmentOf o → step ≡ aligned p (1 + width) n s s → step ≡ alignToNext text p s (optionAt text (p + 1))
     unfolding alignToNext alignBy
@@ -208,23 +208,23 @@ module _ (text : List ℕ) (p : ℕ) (s : State) (step : Step State Answer) wher
 -- ---- An option of variable length
 
 module _ (packsize : Bool) (text : List ℕ) (p : ℕ) where
-  pub refuses : (r : PackStep) → r ≡ packstep.Fault (error.VariableLengthPackOption p (charAt text p .code)) → packsize ≡ true
-      → (values : ℕ) (step : Step State Answer) → packStepOf values r ≡ variable packsize text p step
+  pub refuses : (r : PackTurn) → r ≡ packturn.Fault (error.VariableLengthPackOption p (charAt text p .code)) → packsize ≡ true
+      → (values : ℕ) (step : Turn State Answer) → packTurnOf values r ≡ variable packsize text p step
   unfolding variable
-  refuses r e t values step = ap (packStepOf values) e ∙ sym (if-true _ _ _ t)
+  refuses r e t values step = ap (packTurnOf values) e ∙ sym (if-true _ _ _ t)
 
-  pub allows : packsize ≡ false → (step : Step State Answer) → step ≡ variable packsize text p step
+  pub allows : packsize ≡ false → (step : Turn State Answer) → step ≡ variable packsize text p step
   unfolding variable
   allows t step = sym (if-false _ _ _ t)
 
-pub stays : (r : PackStep) (refusing : PatternError) (p len : ℕ) → r ≡ packstep.Fault refusing → PackGoesIn r p len
-stays r refusing p len e = subst (λ (x : PackStep). PackGoesIn x p len) (sym e) tt
+pub stays : (r : PackTurn) (refusing : PatternError) (p len : ℕ) → r ≡ packturn.Fault refusing → PackGoesIn r p len
+stays r refusing p len e = subst (λ (x : PackTurn). PackGoesIn x p len) (sym e) tt
 
 -- ---- The walk
 
 module _ (packsize : Bool) (text : List ℕ) where
   abbrev pub on : ℕ → State → Answer
-  on p s = walkFrom (packStep packsize text) packEnd (length text) p s
+  on p s = walkFrom (packTurn packsize text) packEnd (length text) p s
 
   pub start : on 0 (state 0 1) ≡ packWalk packsize text
   unfolding packWalk
@@ -232,22 +232,22 @@ module _ (packsize : Bool) (text : List ℕ) where
 
   module _ (p values largest : ℕ) (whole : Answer) (h : on p (state values largest) ≡ whole) where
     -- what is known of a step, once its shape is
-    module _ (r : PackStep) (is : packStepOf values r ≡ packStep packsize text p (state values largest)) (inside : PackGoesIn r p (length text)) where
-      pub step-inside : (width : ℕ) (has : Bool) (next : ℕ) → r ≡ packstep.Goes width has next → (0 < width) × (p + width ≤ length text)
-      step-inside width has next e = subst (λ (x : PackStep). PackGoesIn x p (length text)) e inside
+    module _ (r : PackTurn) (is : packTurnOf values r ≡ packTurn packsize text p (state values largest)) (inside : PackGoesIn r p (length text)) where
+      pub step-inside : (width : ℕ) (has : Bool) (next : ℕ) → r ≡ packturn.Goes width has next → (0 < width) × (p + width ≤ length text)
+      step-inside width has next e = subst (λ (x : PackTurn). PackGoesIn x p (length text)) e inside
 
-      pub turn : (width : ℕ) (has : Bool) (next : ℕ) → r ≡ packstep.Goes width has next → on (p + width) (withValue has values next) ≡ whole
+      pub turn : (width : ℕ) (has : Bool) (next : ℕ) → r ≡ packturn.Goes width has next → on (p + width) (withValue has values next) ≡ whole
       turn width has next e =
           let i = step-inside width has next e in
-          sym (walk-goes (packStep packsize text) packEnd (length text) p (state values largest) width (withValue has values next) (i .0) (i .1) (sym is ∙ ap (packStepOf values) e)) ∙ h
+          sym (walk-goes (packTurn packsize text) packEnd (length text) p (state values largest) width (withValue has values next) (i .0) (i .1) (sym is ∙ ap (packTurnOf values) e)) ∙ h
 
-      pub stopped : (refusing : PatternError) → r ≡ packstep.Fault refusing → p < length text → refusal refusing ≡ whole
+      pub stopped : (refusing : PatternError) → r ≡ packturn.Fault refusing → p < length text → refusal refusing ≡ whole
       stopped refusing e l =
-          sym (walk-stop (packStep packsize text) packEnd (length text) p (state values largest) (refusal refusing) l (sym is ∙ ap (packStepOf values) e)) ∙ h
+          sym (walk-stop (packTurn packsize text) packEnd (length text) p (state values largest) (refusal refusing) l (sym is ∙ ap (packTurnOf values) e)) ∙ h
 
     pub done : length text ≤ p → accepted values ≡ whole
     unfolding packEnd
-    done l = sym (walk-end (packStep packsize text) packEnd (length text) p (state values largest) l) ∙ h
+    done l = sym (walk-end (packTurn packsize text) packEnd (length text) p (state values largest) l) ∙ h
 
 -- the values after an option with or without one
 pub counted : (has : Bool) (values next after : ℕ) → ((has ≡ true) × (after ≡ values + 1)) ⊎ ((has ≡ false) × (after ≡ values))

@@ -38,7 +38,7 @@ use Rattle.luck_linter.specs.Pattern.{
   cut-at,
   unclosed,
   memberBy,
-  memberStep,
+  memberTurn,
   membersEnd,
   firstMember,
   setEnd,
@@ -52,8 +52,8 @@ use Rattle.luck_linter.specs.Pattern.{
   escapeRead,
   onward,
   afterClose,
-  headStep,
-  patternStep,
+  headTurn,
+  patternTurn,
   patternEnd,
   patternWalk,
 }
@@ -65,31 +65,31 @@ use Rattle.luck_linter.specs.declared.format_pattern.pattern.Scan.the-va
 -- ---- A member
 
 module _ (text : List ℕ) (at : ℕ) (first : Bool) where
-  closing : byteAt text at ≡ 93 → first ≡ false → memberStep text at first ≡ stop (closes-at at)
-  unfolding memberStep memberAt memberBy if_then_else_
+  closing : byteAt text at ≡ 93 → first ≡ false → memberTurn text at first ≡ stop (closes-at at)
+  unfolding memberTurn memberAt memberBy if_then_else_
   closing e f = rw (e, f)
 
-  first-bracket : byteAt text at ≡ 93 → first ≡ true → memberStep text at first ≡ goes 1 false
-  unfolding memberStep memberAt memberBy if_then_else_
+  first-bracket : byteAt text at ≡ 93 → first ≡ true → memberTurn text at first ≡ goes 1 false
+  unfolding memberTurn memberAt memberBy if_then_else_
   first-bracket e f = rw (e, f)
 
-  escaped : byteAt text at ≡ 37 → at + 1 < length text → memberStep text at first ≡ goes 2 false
-  unfolding memberStep memberAt memberBy if_then_else_
+  escaped : byteAt text at ≡ 37 → at + 1 < length text → memberTurn text at first ≡ goes 2 false
+  unfolding memberTurn memberAt memberBy if_then_else_
   escaped e h = rw (e, lt-ltb (at + 1) (length text) h)
 
-  cut : byteAt text at ≡ 37 → length text ≤ at + 1 → memberStep text at first ≡ stop (cut-at at)
-  unfolding memberStep memberAt memberBy if_then_else_
+  cut : byteAt text at ≡ 37 → length text ≤ at + 1 → memberTurn text at first ≡ stop (cut-at at)
+  unfolding memberTurn memberAt memberBy if_then_else_
   cut e h = rw (e, le-ltb (at + 1) (length text) h)
 
-  plain : (byteAt text at ≡ 93 → ⊥) → (byteAt text at ≡ 37 → ⊥) → memberStep text at first ≡ goes 1 false
-  unfolding memberStep memberAt memberBy if_then_else_
+  plain : (byteAt text at ≡ 93 → ⊥) → (byteAt text at ≡ 37 → ⊥) → memberTurn text at first ≡ goes 1 false
+  unfolding memberTurn memberAt memberBy if_then_else_
   plain p q = rw (ne-eqb (byteAt text at) 93 p, ne-eqb (byteAt text at) 37 q)
 
 -- ---- A set
 
 -- the members from a place on
 abbrev pub members : List ℕ → ℕ → Bool → SetEnd
-members text at first = walkFrom (memberStep text) membersEnd (length text) at first
+members text at first = walkFrom (memberTurn text) membersEnd (length text) at first
 
 set-as : (text : List ℕ) (start : ℕ) (end : SetEnd) → end ≡ setEnd text start → setAs text start end ≡ setRead text start
 unfolding setRead
@@ -118,24 +118,24 @@ module _ (text : List ℕ) (start m : ℕ) (is : m ≡ firstMember text start) w
   set-empty h b =
       let last : m + 1 ≡ length text = omega arith in
       let empty : isEmptySet text start ≡ true = rw (← is, b, eq-eqb (m + 1) (length text) last) in
-      let one = walk-goes (memberStep text) membersEnd (length text) m (eqb m m) 1 false (omega arith) (omega arith) (first-bracket text m (eqb m m) b (eq-eqb m m refl)) in
-      let none-left = walk-end (memberStep text) membersEnd (length text) (m + 1) false (omega arith) in
+      let one = walk-goes (memberTurn text) membersEnd (length text) m (eqb m m) 1 false (omega arith) (omega arith) (first-bracket text m (eqb m m) b (eq-eqb m m refl)) in
+      let none-left = walk-end (memberTurn text) membersEnd (length text) (m + 1) false (omega arith) in
       set-open text start true empty (sym none-left ∙ sym one ∙ set-begins)
 
 -- a turn of the loop over the members, the first at m
 module _ (text : List ℕ) (start m at : ℕ) (whole : members text at (eqb at m) ≡ setEnd text start) where
-  passes : (w : ℕ) → 0 < w → at + w ≤ length text → m ≤ at → memberStep text at (eqb at m) ≡ goes w false
+  passes : (w : ℕ) → 0 < w → at + w ≤ length text → m ≤ at → memberTurn text at (eqb at m) ≡ goes w false
       → members text (at + w) (eqb (at + w) m) ≡ setEnd text start
   passes w g h l e =
       ap (members text (at + w)) (ne-eqb (at + w) m (λ q. omega arith))
-      ∙ sym (walk-goes (memberStep text) membersEnd (length text) at (eqb at m) w false g h e) ∙ whole
+      ∙ sym (walk-goes (memberTurn text) membersEnd (length text) at (eqb at m) w false g h e) ∙ whole
 
-  ends : (end : SetEnd) → at < length text → memberStep text at (eqb at m) ≡ stop end → setAs text start end ≡ setRead text start
-  ends end h e = set-as text start end (sym (walk-stop (memberStep text) membersEnd (length text) at (eqb at m) end h e) ∙ whole)
+  ends : (end : SetEnd) → at < length text → memberTurn text at (eqb at m) ≡ stop end → setAs text start end ≡ setRead text start
+  ends end h e = set-as text start end (sym (walk-stop (memberTurn text) membersEnd (length text) at (eqb at m) end h e) ∙ whole)
 
   pub set-unclosed : isEmptySet text start ≡ false → length text ≤ at → fault (refused 8 start) ≡ setRead text start
   unfolding membersEnd if_then_else_
-  set-unclosed e h = set-open text start false e (sym (walk-end (memberStep text) membersEnd (length text) at (eqb at m) h) ∙ whole)
+  set-unclosed e h = set-open text start false e (sym (walk-end (memberTurn text) membersEnd (length text) at (eqb at m) h) ∙ whole)
 
   module _ (inside : at < length text) where
     pub set-closes : byteAt text at ≡ 93 → m < at → past (at + 1) ≡ setRead text start
@@ -259,60 +259,60 @@ module _ (b : ℕ) where
 
 -- the walk from a place on, after these captures
 abbrev pub items : List ℕ → ℕ → List Bool → Answer
-items text p captures = walkFrom (patternStep text) (patternEnd text) (length text) p captures
+items text p captures = walkFrom (patternTurn text) (patternEnd text) (length text) p captures
 
 module _ (text : List ℕ) (p : ℕ) (captures : List Bool) where
-  item-as : (h : Head) → headOf (byteAt text p) ≡ h → patternStep text p captures ≡ headStep text p captures h
-  unfolding patternStep
-  item-as h e = ap (headStep text p captures) e
+  item-as : (h : Head) → headOf (byteAt text p) ≡ h → patternTurn text p captures ≡ headTurn text p captures h
+  unfolding patternTurn
+  item-as h e = ap (headTurn text p captures) e
 
-  pub item-escape : byteAt text p ≡ 37 → patternStep text p captures ≡ onward p captures (escapeRead text p captures)
-  unfolding headStep
+  pub item-escape : byteAt text p ≡ 37 → patternTurn text p captures ≡ onward p captures (escapeRead text p captures)
+  unfolding headTurn
   item-escape e = item-as at-percent (of-percent (byteAt text p) e)
 
-  pub item-set : byteAt text p ≡ 91 → patternStep text p captures ≡ onward p captures (setRead text p)
-  unfolding headStep
+  pub item-set : byteAt text p ≡ 91 → patternTurn text p captures ≡ onward p captures (setRead text p)
+  unfolding headTurn
   item-set e = item-as at-set (of-set (byteAt text p) e)
 
   -- a turn of the walk
   module _ (inside : p < length text) (whole : items text p captures ≡ patternWalk text) where
-    next : (after : List Bool) → patternStep text p captures ≡ goes 1 after → items text (p + 1) after ≡ patternWalk text
-    next after e = sym (walk-goes (patternStep text) (patternEnd text) (length text) p captures 1 after (omega arith) (omega arith) e) ∙ whole
+    next : (after : List Bool) → patternTurn text p captures ≡ goes 1 after → items text (p + 1) after ≡ patternWalk text
+    next after e = sym (walk-goes (patternTurn text) (patternEnd text) (length text) p captures 1 after (omega arith) (omega arith) e) ∙ whole
 
-    stops : (answer : Answer) → patternStep text p captures ≡ stop answer → answer ≡ patternWalk text
-    stops answer e = sym (walk-stop (patternStep text) (patternEnd text) (length text) p captures answer inside e) ∙ whole
+    stops : (answer : Answer) → patternTurn text p captures ≡ stop answer → answer ≡ patternWalk text
+    stops answer e = sym (walk-stop (patternTurn text) (patternEnd text) (length text) p captures answer inside e) ∙ whole
 
     pub turn-plain : (byteAt text p ≡ 37 → ⊥) → (byteAt text p ≡ 91 → ⊥) → (byteAt text p ≡ 40 → ⊥) → (byteAt text p ≡ 41 → ⊥)
         → items text (p + 1) captures ≡ patternWalk text
-    unfolding headStep
+    unfolding headTurn
     turn-plain e f g h = next captures (item-as at-other (of-plain (byteAt text p) e f g h))
 
     pub turn-open : byteAt text p ≡ 40 → length captures < 32 → items text (p + 1) (captures ++ (false ∷ [])) ≡ patternWalk text
-    unfolding headStep
+    unfolding headTurn
     turn-open e h = next (captures ++ (false ∷ [])) (item-as at-open (of-open (byteAt text p) e) ∙ if-true _ _ _ (lt-ltb (length captures) 32 h))
 
     pub turn-full : byteAt text p ≡ 40 → 32 ≤ length captures → refused 12 p ≡ patternWalk text
-    unfolding headStep
+    unfolding headTurn
     turn-full e h = stops (refused 12 p) (item-as at-open (of-open (byteAt text p) e) ∙ if-false _ _ _ (le-ltb (length captures) 32 h))
 
     pub turn-close : byteAt text p ≡ 41 → (after : List Bool) → some after ≡ closeLatest captures → items text (p + 1) after ≡ patternWalk text
-    unfolding headStep afterClose
+    unfolding headTurn afterClose
     turn-close e after h = next after (item-as at-close (of-close (byteAt text p) e) ∙ ap (afterClose p) (sym h))
 
     pub turn-unmatched : byteAt text p ≡ 41 → none ≡ closeLatest captures → refused 11 p ≡ patternWalk text
-    unfolding headStep afterClose
+    unfolding headTurn afterClose
     turn-unmatched e h = stops (refused 11 p) (item-as at-close (of-close (byteAt text p) e) ∙ ap (afterClose p) (sym h))
 
     -- what a scan found takes the walk on to the place after it, or ends it
-    module _ (r : Scan) (read : Read) (told : readOf r ≡ read) (here : patternStep text p captures ≡ onward p captures read) where
+    module _ (r : Scan) (read : Read) (told : readOf r ≡ read) (here : patternTurn text p captures ≡ onward p captures read) where
       pub turn-past : (q : ℕ) → r ≡ Past q → Within r p (length text) → items text q captures ≡ patternWalk text
       unfolding onward
       turn-past q e w =
           let b : (p < q) × (q ≤ length text) = subst (λ (x : Scan). Within x p (length text)) e w in
           let k : p + (q - p) ≡ q = omega arith in
-          let g : patternStep text p captures ≡ goes (q - p) captures = here ∙ ap (onward p captures) (sym told ∙ ap readOf e) in
+          let g : patternTurn text p captures ≡ goes (q - p) captures = here ∙ ap (onward p captures) (sym told ∙ ap readOf e) in
           ap (λ (x : ℕ). items text x captures) (sym k)
-          ∙ sym (walk-goes (patternStep text) (patternEnd text) (length text) p captures (q - p) captures (omega arith) (omega arith) g) ∙ whole
+          ∙ sym (walk-goes (patternTurn text) (patternEnd text) (length text) p captures (q - p) captures (omega arith) (omega arith) g) ∙ whole
 
       pub turn-fault : (e : PatternError) → r ≡ Fault e → refusal e ≡ patternWalk text
       unfolding onward
@@ -324,4 +324,4 @@ pub turn-end : (text : List ℕ) (p : ℕ) (captures : List Bool) (b : Bool) (n 
 unfolding patternEnd
 turn-end text p captures b n e f h whole =
     ap₂ (λ (x : Bool) (y : ℕ). if x then accepted y else refused 11 (length text)) e (sym f)
-    ∙ sym (walk-end (patternStep text) (patternEnd text) (length text) p captures h) ∙ whole
+    ∙ sym (walk-end (patternTurn text) (patternEnd text) (length text) p captures h) ∙ whole

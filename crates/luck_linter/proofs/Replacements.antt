@@ -6,6 +6,7 @@ use native.Mathlib.Omega.{arith}
 use mathlib.Core.Path.{_≡_, refl, sym, ap, ap₂, _∙_}
 use mathlib.Core.Bool.{Bool, true, false}
 use mathlib.Core.List.{List, [], _∷_}
+use mathlib.Core.Option.{Option}
 use lib.ListN.{length, drop, drop-of-length-le}
 use lib.Seq.{drop-cons}
 use lib.Dec.{eqb, leb}
@@ -14,7 +15,6 @@ use Rattle.luck_token.specs.Bytes.{if_then_else_, byteAt, isDigit}
 use Rattle.luck_token.proofs.Cases.{if-true, if-false}
 use Rattle.luck_linter.specs.Answer.{Answer, accepted, refused}
 use Rattle.luck_linter.specs.Replacement.{Piece, literal, digit, percent, other, lone, escaped, pieces, allowsDigit, piecesWalk}
-use Rattle.luck_linter.specs.declared.format_pattern.replacement.Captures.{Captures}
 
 -- ---- Reading
 
@@ -49,7 +49,7 @@ module _ (text : List ℕ) (p : ℕ) (h : p < length text) where
 
 -- ---- The walk
 
-module _ (strict : Bool) (captures : Captures) (text : List ℕ) where
+module _ (strict : Bool) (captures : Option ℕ) (text : List ℕ) where
   abbrev pub on : ℕ → Answer
   on p = piecesWalk strict captures (pieces (drop p text)) p
 

@@ -3,8 +3,8 @@
 use Prim.Native.Nat.{ℕ, suc, _+_, _-_, _≤_, _<_, min}
 use native.Mathlib.Numerals.{add-one}
 use native.Mathlib.Omega.{arith}
-use mathlib.Core.Path.{_≡_, refl, sym, ap, _∙_}
-use mathlib.Core.Bool.{Bool, true, false, _||_}
+use mathlib.Core.Path.{_≡_, refl, sym, ap, ap₂, _∙_}
+use mathlib.Core.Bool.{Bool, true, false, not, _||_}
 use mathlib.Core.List.{List, [], _∷_}
 use mathlib.Core.Option.{Option, none, some}
 use lib.ListN.{length, drop, drop-of-length-le}
@@ -15,7 +15,7 @@ use Rattle.luck_token.specs.Bytes.{if_then_else_, byteAt, part}
 use Rattle.luck_token.specs.Version.{isVersion, rulesOf}
 use Rattle.luck_token.specs.Utf8.{illFormed}
 use Rattle.luck_token.specs.Literal.{isShort, shortStringBody}
-use Rattle.luck_token.specs.Span.{spanOf}
+use Rattle.luck_token.specs.Span.{u32-max, spanOf, shiftedBy}
 use Rattle.luck_token.specs.declared.version.Rules.{Rules}
 use Rattle.luck_token.specs.declared.span.Span.{Span}
 use Rattle.luck_token.proofs.Cases.{if-true, if-false}
@@ -36,7 +36,6 @@ use Rattle.luck_linter.specs.StringLiteral.{
   afterText,
   checkLiteral,
 }
-use Rattle.luck_linter.specs.declared.format_pattern.replacement.Captures.{Captures}
 use Rattle.luck_linter.specs.declared.format_pattern.PatternError.{PatternError}
 use Rattle.luck_linter.specs.declared.format_pattern.PatternError.the-variants as error
 
@@ -94,6 +93,18 @@ same-span start end =
     let e : min (min end 0xFFFF_FFFF_FFFF_FFFF) 0xFFFF_FFFF ≡ min end 0xFFFF_FFFF = omega arith in
     ap (λ (x : ℕ). record { start = min start 0xFFFF_FFFF; end = x }) e
 
+-- a span that is moved by the literal's start + 1, each sum staying at the largest `u32`
+moved : (a b : ℕ) → min (min a 0xFFFF_FFFF + min b 0xFFFF_FFFF) 0xFFFF_FFFF ≡ min (b + a) 0xFFFF_FFFF
+moved a b = omega arith
+
+pub moved-span : (start from width : ℕ)
+    → shiftedBy (spanOf from (from + width)) (min (start + 1) u32-max) ≡ spanOf (start + 1 + from) (start + 1 + from + width)
+unfolding spanOf shiftedBy
+moved-span start from width =
+    let e : start + 1 + (from + width) ≡ start + 1 + from + width = omega arith in
+    ap₂ (λ (x y : ℕ). record { start = x; end = y }) (moved from (start + 1))
+    (moved (from + width) (start + 1) ∙ ap (λ (n : ℕ). min n 0xFFFF_FFFF) e)
+
 -- ---- The body
 
 -- a fault is no acceptance
@@ -121,7 +132,7 @@ numbered (error.BadReplacementEscape o) = refl
 numbered (error.CaptureIndexOutOfRange o) = refl
 numbered (error.BadDateSpecifier o) = refl
 
-module _ (kind : ℕ) (rules : Rules) (captures : Captures) (start : ℕ) (body : List ℕ) where
+module _ (kind : ℕ) (rules : Rules) (captures : Option ℕ) (start : ℕ) (body : List ℕ) where
   pub body-skipped : hasNumericEscape body ≡ true → skippedAnswer ≡ checkBody kind rules captures start body
   unfolding checkBody
   body-skipped e = sym (if-true _ _ _ e)
@@ -166,7 +177,7 @@ no-places raw e = go (isShort raw) refl
         absurd (omega arith)
     go false s = s
 
-module _ (kind : ℕ) (rules : Rules) (captures : Captures) (start : ℕ) (text : List ℕ) where
+module _ (kind : ℕ) (rules : Rules) (captures : Option ℕ) (start : ℕ) (text : List ℕ) where
   pub short : isShort text ≡ true → checkBody kind rules captures start (part text 1 (length text - 1)) ≡ checkShort kind rules captures start text
   unfolding checkShort
   short e = sym (if-true _ _ _ e)
@@ -175,20 +186,20 @@ module _ (kind : ℕ) (rules : Rules) (captures : Captures) (start : ℕ) (text 
   unfolding checkShort
   no-short e = sym (if-false _ _ _ e)
 
-module _ (kind version : ℕ) (captures : Captures) (start : ℕ) (text : List ℕ) where
+module _ (kind version : ℕ) (captures : Option ℕ) (start : ℕ) (text : List ℕ) where
   pub unknown-kind : isKind kind ≡ false → unspanned (refused 30 0) ≡ checkLiteral kind version captures start text
   unfolding checkLiteral
-  unknown-kind k = sym (if-false _ _ _ k)
+  unknown-kind k = sym (if-true _ _ _ (ap not k))
 
   module _ (k : isKind kind ≡ true) where
     pub unknown-version : isVersion version ≡ false → unspanned (refused 25 0) ≡ checkLiteral kind version captures start text
     unfolding checkLiteral
-    unknown-version v = sym (if-true _ _ _ k ∙ if-false _ _ _ v)
+    unknown-version v = sym (if-false _ _ _ (ap not k) ∙ if-true _ _ _ (ap not v))
 
     by-text : isVersion version ≡ true → (u : Option ℕ) → u ≡ illFormed text
         → afterText u (checkShort kind (rulesOf version) captures start text) ≡ checkLiteral kind version captures start text
     unfolding checkLiteral
-    by-text v u e = ap (λ x. afterText x (checkShort kind (rulesOf version) captures start text)) e ∙ sym (if-true _ _ _ k ∙ if-true _ _ _ v)
+    by-text v u e = ap (λ x. afterText x (checkShort kind (rulesOf version) captures start text)) e ∙ sym (if-false _ _ _ (ap not k) ∙ if-false _ _ _ (ap not v))
 
     pub not-utf8 : isVersion version ≡ true → (place : ℕ) → some place ≡ illFormed text → unspanned (refused 23 place) ≡ checkLiteral kind version captures start text
     unfolding afterText

@@ -8,17 +8,17 @@ use mathlib.Core.Option.{Option, none, some}
 use Rattle.luck_token.specs.Version.{isVersion}
 use Rattle.luck_token.specs.Utf8.{illFormed}
 use Rattle.luck_token.proofs.Cases.{if-true, if-false}
-use Rattle.luck_linter.specs.Answer.{Answer, refused, afterUtf8, checkText}
+use Rattle.luck_linter.specs.Answer.{Answer, refused, afterVersion, afterUtf8, checkText}
 
 module _ (version : ℕ) (text : List ℕ) (walked : Answer) where
   pub text-fine : isVersion version ≡ true → none ≡ illFormed text → walked ≡ checkText version text walked
-  unfolding checkText afterUtf8
+  unfolding checkText afterVersion afterUtf8
   text-fine v u = ap (λ (o : Option ℕ). afterUtf8 o walked) u ∙ sym (if-true _ _ _ v)
 
   pub text-ill-formed : isVersion version ≡ true → (place : ℕ) → some place ≡ illFormed text → refused 23 place ≡ checkText version text walked
-  unfolding checkText afterUtf8
+  unfolding checkText afterVersion afterUtf8
   text-ill-formed v place u = ap (λ (o : Option ℕ). afterUtf8 o walked) u ∙ sym (if-true _ _ _ v)
 
   pub text-unknown-version : isVersion version ≡ false → refused 25 0 ≡ checkText version text walked
-  unfolding checkText
+  unfolding checkText afterVersion
   text-unknown-version v = sym (if-false _ _ _ v)

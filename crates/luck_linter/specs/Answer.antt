@@ -35,13 +35,18 @@ refusedWith number offset character = refusedBoth number offset character 0
 abbrev pub refused : ℕ → ℕ → Answer
 refused number offset = refusedWith number offset 0
 
--- 25, then 23, then the walk, whose first fault is the answer
+-- 25 where the version is none of the six
+unfoldable pub afterVersion : ℕ → Answer → Answer
+afterVersion version answer = if isVersion version then answer else refused 25 0
+
+-- 23 at the first ill-formed sequence, if there is one
 unfoldable pub afterUtf8 : Option ℕ → Answer → Answer
 afterUtf8 none walked = walked
 afterUtf8 (some place) walked = refused 23 place
 
+-- 25, then 23, then the walk, whose first fault is the answer
 unfoldable pub checkText : ℕ → List ℕ → Answer → Answer
-checkText version text walked = let utf8 = afterUtf8 (illFormed text) walked in if isVersion version then utf8 else refused 25 0
+checkText version text walked = afterVersion version (afterUtf8 (illFormed text) walked)
 
 -- the code's faults and answers in those numbers
 abbrev pub refusal : PatternError → Answer

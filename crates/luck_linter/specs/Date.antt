@@ -5,11 +5,19 @@ use Prim.Native.Char.{code}
 use mathlib.Core.Bool.{Bool, true, false, not, _&&_, _||_}
 use mathlib.Core.List.{List, []}
 use lib.ListN.{length}
-use lib.Dec.{eqb, ltb}
+use lib.Dec.{eqb, leb}
 use Rattle.luck_token.specs.Bytes.{if_then_else_, byteAt, ascii, among}
 use Rattle.luck_token.specs.Version.{rulesOf}
-use Rattle.luck_token.specs.Walk.{Step, stop, goes, walkFrom}
+use Rattle.luck_token.specs.declared.version.Rules.{Rules}
+use Rattle.luck_token.specs.Walk.{Turn, stop, goes, walkFrom}
 use Rattle.luck_linter.specs.Answer.{Answer, accepted, refused, checkText}
+
+-- the rows "strict replacement, checked date" and "date options" of document 01
+abbrev pub checksDates : Rules → Bool
+checksDates rules = rules .«strict_gsub_replacement»
+
+abbrev pub hasDateOptions : Rules → Bool
+hasDateOptions rules = rules .«date_format_options»
 
 -- luck's lists, each the union over the platforms: the conversions that every checked version has, and those of the versions with options
 abbrev pub everywhere : List ℕ
@@ -42,12 +50,12 @@ conversionWidth options text p =
     let b = byteAt text (p + 1) in
     if options && isPair b then pairWidth text (p + 2) b else singleWidth options b
 
-unfoldable pub dateStep : Bool → List ℕ → ℕ → Unit {0} → Step (Unit {0}) Answer
-dateStep options text p u =
+unfoldable pub dateTurn : Bool → List ℕ → ℕ → Unit {0} → Turn (Unit {0}) Answer
+dateTurn options text p u =
     let width = conversionWidth options text p in
-    let conversion = if eqb width 0 then stop (refused 22 (p + 1)) else goes width tt in
-    let lone = if options then stop (refused 19 p) else goes 1 tt in
-    if eqb (byteAt text p) (code "%") then (if ltb (p + 1) (length text) then conversion else lone) else goes 1 tt
+    if not (eqb (byteAt text p) (code "%")) then goes 1 tt
+    else if leb (length text) (p + 1) then (if options then stop (refused 19 p) else goes 1 tt)
+    else if eqb width 0 then stop (refused 22 (p + 1)) else goes width tt
 
 unfoldable pub dateEnd : ℕ → Unit {0} → Answer
 dateEnd p u = accepted 0
@@ -60,7 +68,7 @@ unfoldable pub isTable : List ℕ → Bool
 isTable text = if eqb (byteAt text 0) (code "!") then isStarT text 1 else isStarT text 0
 
 unfoldable pub conversionsWalk : Bool → List ℕ → Answer
-conversionsWalk options text = walkFrom (dateStep options text) dateEnd (length text) 0 tt
+conversionsWalk options text = walkFrom (dateTurn options text) dateEnd (length text) 0 tt
 
 -- 5.1 passes the whole text to strftime
 unfoldable pub dateWalk : Bool → Bool → List ℕ → Answer
@@ -69,4 +77,4 @@ dateWalk checked options text =
     if not checked || isTable text then accepted 0 else walk
 
 unfoldable pub checkDate : ℕ → List ℕ → Answer
-checkDate version text = checkText version text (dateWalk (rulesOf version .«strict_gsub_replacement») (rulesOf version .«date_format_options») text)
+checkDate version text = checkText version text (dateWalk (checksDates (rulesOf version)) (hasDateOptions (rulesOf version)) text)

@@ -5,11 +5,12 @@ use Prim.Native.Char.{code}
 use mathlib.Core.Path.{_≡_, refl}
 use mathlib.Core.Bool.{Bool, true, false}
 use mathlib.Core.List.{List, [], _∷_}
+use mathlib.Core.Option.{Option, some}
 use Rattle.luck_token.specs.Bytes.{if_then_else_, ascii, among, isDigit, run, digitValue, numeralFrom, numeral}
 use Rattle.luck_token.specs.Walk.{walk, walkFrom}
 use Rattle.luck_token.specs.Version.{isVersion, versions, has, rulesOf}
 use Rattle.luck_token.specs.Utf8.{rfc3629, tailsOf, follow, widthBy, sequence, sequenceAt, noneIllFormed, illFormed, codePoint, charAt}
-use Rattle.luck_linter.specs.Answer.{Answer, accepted, refused, refusedWith, refusedBoth, afterUtf8, checkText}
+use Rattle.luck_linter.specs.Answer.{Answer, accepted, refused, refusedWith, refusedBoth, afterVersion, afterUtf8, checkText}
 use Rattle.luck_linter.specs.Captures.{closeLatest, isClosed, allClosed}
 use Rattle.luck_linter.specs.Pattern.{
   headOf,
@@ -17,7 +18,7 @@ use Rattle.luck_linter.specs.Pattern.{
   escapeAt,
   memberAt,
   memberBy,
-  memberStep,
+  memberTurn,
   membersEnd,
   firstMember,
   setEnd,
@@ -28,8 +29,8 @@ use Rattle.luck_linter.specs.Pattern.{
   escapeRead,
   onward,
   afterClose,
-  headStep,
-  patternStep,
+  headTurn,
+  patternTurn,
   patternEnd,
   patternWalk,
   checkPattern,
@@ -48,14 +49,14 @@ use Rattle.luck_linter.specs.Format.{
   flagsRun,
   takesPrecision,
   afterTwoDigits,
-  checkFormat,
-  conversionStep,
-  specifierStep,
-  percentStep,
-  formatStep,
+  goodModifiers,
+  conversionTurn,
+  specifierTurn,
+  percentTurn,
+  formatTurn,
   formatEnd,
   formatWalk,
-  checkFormatString,
+  checkFormat,
 }
 use Rattle.luck_linter.specs.Pack.{
   limited,
@@ -71,22 +72,20 @@ use Rattle.luck_linter.specs.Pack.{
   alignmentOf,
   alignBy,
   alignToNext,
-  optionStep,
-  packStep,
+  optionTurn,
+  packTurn,
   packEnd,
   packWalk,
   checkPack,
 }
-use Rattle.luck_linter.specs.declared.format_pattern.replacement.Captures.{Captures}
-use Rattle.luck_linter.specs.declared.format_pattern.replacement.Captures.the-variants.{Known}
 
 -- a case: what is given, and the answer wanted
 pub data Case : Type 0 where
   format pattern pack : ℕ → List ℕ → Answer → Case
-  replacement : ℕ → Captures → List ℕ → Answer → Case
+  replacement : ℕ → Option ℕ → List ℕ → Answer → Case
 
 abbrev pub Holds : Case → Type 0
-Holds (format version text wanted) = checkFormatString version text ≡ wanted
+Holds (format version text wanted) = checkFormat version text ≡ wanted
 Holds (pattern version text wanted) = checkPattern version text ≡ wanted
 Holds (pack version text wanted) = checkPack version false text ≡ wanted
 Holds (replacement version count text wanted) = checkReplacement version count text ≡ wanted
@@ -107,10 +106,10 @@ starred =
     ∷ pattern 1 (ascii "[]]") (accepted 0)
     ∷ pattern 1 (ascii "()%1") (accepted 1)
     ∷ pack 1 (ascii "!8i3") (refused 17 2)
-    ∷ replacement 2 (Known 1) (ascii "%2") (refused 21 1)
-    ∷ replacement 2 (Known 0) (ascii "%1") (accepted 0)
+    ∷ replacement 2 (some 1) (ascii "%2") (refused 21 1)
+    ∷ replacement 2 (some 0) (ascii "%1") (accepted 0)
     ∷ []
 
 pub starred-hold : All starred
-unfolding if_then_else_ among isDigit run digitValue numeralFrom numeral walk walkFrom isVersion versions has rulesOf rfc3629 tailsOf follow widthBy sequence sequenceAt noneIllFormed illFormed codePoint charAt afterUtf8 checkText closeLatest isClosed allClosed headOf escapeOf escapeAt memberAt memberBy memberStep membersEnd firstMember setEnd isEmptySet setAs setRead escapeAs escapeRead onward afterClose headStep patternStep patternEnd patternWalk checkPattern escaped pieces allowsDigit piecesWalk checkReplacement isFlag isModifier getFormat scanPrecision scanWidth scanFormat modifiersAt isConversion flagsFor flagsRun takesPrecision afterTwoDigits checkFormat conversionStep specifierStep percentStep formatStep formatEnd formatWalk checkFormatString limited fixedString plainOption sizedOption optionBy optionAt isPowerOfTwo isMisaligned aligned variable alignmentOf alignBy alignToNext optionStep packStep packEnd packWalk checkPack
+unfolding if_then_else_ among isDigit run digitValue numeralFrom numeral walk walkFrom isVersion versions has rulesOf rfc3629 tailsOf follow widthBy sequence sequenceAt noneIllFormed illFormed codePoint charAt afterVersion afterUtf8 checkText closeLatest isClosed allClosed headOf escapeOf escapeAt memberAt memberBy memberTurn membersEnd firstMember setEnd isEmptySet setAs setRead escapeAs escapeRead onward afterClose headTurn patternTurn patternEnd patternWalk checkPattern escaped pieces allowsDigit piecesWalk checkReplacement isFlag isModifier getFormat scanPrecision scanWidth scanFormat modifiersAt isConversion flagsFor flagsRun takesPrecision afterTwoDigits goodModifiers conversionTurn specifierTurn percentTurn formatTurn formatEnd formatWalk checkFormat limited fixedString plainOption sizedOption optionBy optionAt isPowerOfTwo isMisaligned aligned variable alignmentOf alignBy alignToNext optionTurn packTurn packEnd packWalk checkPack
 starred-hold = (refl, (refl, (refl, (refl, (refl, (refl, (refl, (refl, (refl, (refl, (refl, (refl, tt))))))))))))

@@ -10,9 +10,16 @@ use lib.Dec.{eqb, leb, ltb}
 use Rattle.luck_token.specs.Bytes.{if_then_else_, byteAt, ascii, among, isDigit, run}
 use Rattle.luck_token.specs.Utf8.{charAt}
 use Rattle.luck_token.specs.Version.{rulesOf}
-use Rattle.luck_token.specs.Walk.{Step, stop, goes, walkFrom}
+use Rattle.luck_token.specs.Walk.{Turn, stop, goes, walkFrom}
 use Rattle.luck_token.specs.declared.version.Rules.{Rules}
 use Rattle.luck_linter.specs.Answer.{Answer, accepted, refused, refusedWith, refusedBoth, checkText}
+
+-- the row "`%p`, checked modifiers" of document 01: getformat and checkformat read a specifier, and `%p` is a conversion
+abbrev pub checksModifiers : Rules → Bool
+checksModifiers rules = rules .«checked_format_modifiers»
+
+abbrev pub hasPointer : Rules → Bool
+hasPointer rules = rules .«checked_format_modifiers»
 
 -- ---- Between the `%` and the conversion
 
@@ -57,7 +64,7 @@ modifiersAt false text p = scanFormat text p
 
 unfoldable pub isConversion : Rules → ℕ → Bool
 isConversion rules b =
-    among b (ascii "cdiouxXeEfgGqs") || (among b (ascii "aA") && rules .«hex_float_format») || (eqb b (code "p") && rules .«checked_format_modifiers»)
+    among b (ascii "cdiouxXeEfgGqs") || (among b (ascii "aA") && rules .«hex_float_format») || (eqb b (code "p") && hasPointer rules)
 
 -- what str_format hands checkformat for a conversion: the flags that it takes, and whether a precision
 unfoldable pub flagsFor : ℕ → List ℕ
@@ -78,8 +85,8 @@ unfoldable pub afterTwoDigits : List ℕ → ℕ → ℕ
 afterTwoDigits text p = p + min 2 (run isDigit (drop p text))
 
 -- the place after the modifiers at p that checkformat accepts before this conversion; a width does not start with 0, and `%q` takes none
-unfoldable pub checkFormat : ℕ → List ℕ → ℕ → ℕ
-checkFormat conversion text p =
+unfoldable pub goodModifiers : ℕ → List ℕ → ℕ → ℕ
+goodModifiers conversion text p =
     let flags = p + flagsRun conversion text p in
     let width = afterTwoDigits text flags in
     let precision = afterTwoDigits text (width + 1) in
@@ -90,33 +97,34 @@ checkFormat conversion text p =
 -- ---- The walk, with the number of specifiers so far
 
 -- the specifier whose `%` stands at p and whose conversion at e
-unfoldable pub conversionStep : Rules → List ℕ → ℕ → ℕ → ℕ → Step ℕ Answer
-conversionStep rules text p count e =
+unfoldable pub conversionTurn : Rules → List ℕ → ℕ → ℕ → ℕ → Turn ℕ Answer
+conversionTurn rules text p count e =
     let conversion = byteAt text e in
-    let good = checkFormat conversion text (p + 1) in
-    let known = if rules .«checked_format_modifiers» && ltb good e then stop (refusedBoth 6 good (byteAt text good) conversion) else goes (e + 1 - p) (count + 1) in
-    let there = if isConversion rules conversion then known else stop (refusedWith 2 e (charAt text e .code)) in
-    if ltb e (length text) then there else stop (refused 1 p)
+    let good = goodModifiers conversion text (p + 1) in
+    if leb (length text) e then stop (refused 1 p)
+    else if not (isConversion rules conversion) then stop (refusedWith 2 e (charAt text e .code))
+    else if checksModifiers rules && ltb good e then stop (refusedBoth 6 good (byteAt text good) conversion) else goes (e + 1 - p) (count + 1)
 
-unfoldable pub specifierStep : Rules → List ℕ → ℕ → ℕ → Modifiers → Step ℕ Answer
-specifierStep rules text p count (end-at e) = conversionStep rules text p count e
-specifierStep rules text p count (fault answer) = stop answer
+unfoldable pub specifierTurn : Rules → List ℕ → ℕ → ℕ → Modifiers → Turn ℕ Answer
+specifierTurn rules text p count (end-at e) = conversionTurn rules text p count e
+specifierTurn rules text p count (fault answer) = stop answer
 
-unfoldable pub percentStep : Rules → List ℕ → ℕ → ℕ → Step ℕ Answer
-percentStep rules text p count =
+unfoldable pub percentTurn : Rules → List ℕ → ℕ → ℕ → Turn ℕ Answer
+percentTurn rules text p count =
     let next = byteAt text (p + 1) in
-    let specifier = specifierStep rules text p count (modifiersAt (rules .«checked_format_modifiers») text (p + 1)) in
-    let there = if eqb next (code "%") then goes 2 count else if eqb next (code "*") && rules .«star_format» then goes 2 (count + 1) else specifier in
-    if ltb (p + 1) (length text) then there else stop (refused 1 p)
+    let specifier = specifierTurn rules text p count (modifiersAt (checksModifiers rules) text (p + 1)) in
+    if leb (length text) (p + 1) then stop (refused 1 p)
+    else if eqb next (code "%") then goes 2 count
+    else if eqb next (code "*") && rules .«star_format» then goes 2 (count + 1) else specifier
 
-unfoldable pub formatStep : Rules → List ℕ → ℕ → ℕ → Step ℕ Answer
-formatStep rules text p count = let percent = percentStep rules text p count in if eqb (byteAt text p) (code "%") then percent else goes 1 count
+unfoldable pub formatTurn : Rules → List ℕ → ℕ → ℕ → Turn ℕ Answer
+formatTurn rules text p count = if eqb (byteAt text p) (code "%") then percentTurn rules text p count else goes 1 count
 
 unfoldable pub formatEnd : ℕ → ℕ → Answer
 formatEnd p count = accepted count
 
 unfoldable pub formatWalk : Rules → List ℕ → Answer
-formatWalk rules text = walkFrom (formatStep rules text) formatEnd (length text) 0 0
+formatWalk rules text = walkFrom (formatTurn rules text) formatEnd (length text) 0 0
 
-unfoldable pub checkFormatString : ℕ → List ℕ → Answer
-checkFormatString version text = checkText version text (formatWalk (rulesOf version) text)
+unfoldable pub checkFormat : ℕ → List ℕ → Answer
+checkFormat version text = checkText version text (formatWalk (rulesOf version) text)

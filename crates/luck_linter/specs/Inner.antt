@@ -5,7 +5,7 @@ use mathlib.Core.Path.{_≡_}
 use mathlib.Core.Bool.{Bool, true, false}
 use mathlib.Core.List.{List}
 use mathlib.Core.Option.{Option, none, some}
-use Rattle.luck_token.specs.Walk.{Step, stop, goes}
+use Rattle.luck_token.specs.Walk.{Turn, stop, goes}
 use Rattle.luck_linter.specs.Answer.{Answer, refusal}
 use Rattle.luck_linter.specs.Captures.{flagsOf}
 use Rattle.luck_linter.specs.Pattern.{Read, past, fault}
@@ -28,8 +28,8 @@ use Rattle.luck_linter.specs.declared.format_pattern.pack.Read.{Read as 
 use Rattle.luck_linter.specs.declared.format_pattern.pack.Read.the-variants as packread
 use Rattle.luck_linter.specs.declared.format_pattern.pack.Alignment.{Alignment}
 use Rattle.luck_linter.specs.declared.format_pattern.pack.Alignment.the-variants as alignment
-use Rattle.luck_linter.specs.declared.format_pattern.pack.Step.{Step as PackStep}
-use Rattle.luck_linter.specs.declared.format_pattern.pack.Step.the-variants as packstep
+use Rattle.luck_linter.specs.declared.format_pattern.pack.Turn.{Turn as PackTurn}
+use Rattle.luck_linter.specs.declared.format_pattern.pack.Turn.the-variants as packturn
 
 -- ---- Patterns
 
@@ -61,11 +61,11 @@ abbrev pub EndsIn : Modifiers → ℕ → ℕ → Type 0
 EndsIn (modifiers.EndAt q) p len = (p ≤ q) × (q ≤ len)
 EndsIn (modifiers.Fault e) p len = Unit {0}
 
--- the walk's step, from the specifiers so far
-abbrev pub stepOf : ℕ → Specifier → Step ℕ Answer
-stepOf count (specifier.Counted width) = goes width (count + 1)
-stepOf count (specifier.Literal width) = goes width count
-stepOf count (specifier.Fault e) = stop (refusal e)
+-- the walk's turn, from the specifiers so far
+abbrev pub turnOf : ℕ → Specifier → Turn ℕ Answer
+turnOf count (specifier.Counted width) = goes width (count + 1)
+turnOf count (specifier.Literal width) = goes width count
+turnOf count (specifier.Fault e) = stop (refusal e)
 
 abbrev pub GoesIn : Specifier → ℕ → ℕ → Type 0
 GoesIn (specifier.Counted width) p len = (0 < width) × (p + width ≤ len)
@@ -104,14 +104,14 @@ abbrev pub withValue : Bool → ℕ → ℕ → pack.State
 withValue true values largest = pack.state (values + 1) largest
 withValue false values largest = pack.state values largest
 
-abbrev pub packStepOf : ℕ → PackStep → Step pack.State Answer
-packStepOf values (packstep.Goes width has largest) = goes width (withValue has values largest)
-packStepOf values (packstep.Fault e) = stop (refusal e)
+abbrev pub packTurnOf : ℕ → PackTurn → Turn pack.State Answer
+packTurnOf values (packturn.Goes width has largest) = goes width (withValue has values largest)
+packTurnOf values (packturn.Fault e) = stop (refusal e)
 
-abbrev pub GoesBy : PackStep → ℕ → Type 0
-GoesBy (packstep.Goes width has largest) w = width ≡ w
-GoesBy (packstep.Fault e) w = Unit {0}
+abbrev pub GoesBy : PackTurn → ℕ → Type 0
+GoesBy (packturn.Goes width has largest) w = width ≡ w
+GoesBy (packturn.Fault e) w = Unit {0}
 
-abbrev pub PackGoesIn : PackStep → ℕ → ℕ → Type 0
-PackGoesIn (packstep.Goes width has largest) p len = (0 < width) × (p + width ≤ len)
-PackGoesIn (packstep.Fault e) p len = Unit {0}
+abbrev pub PackGoesIn : PackTurn → ℕ → ℕ → Type 0
+PackGoesIn (packturn.Goes width has largest) p len = (0 < width) × (p + width ≤ len)
+PackGoesIn (packturn.Fault e) p len = Unit {0}

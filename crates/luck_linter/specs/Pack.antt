@@ -11,7 +11,7 @@ use lib.ListN.{length, drop}
 use lib.Dec.{eqb, leb, ltb}
 use Rattle.luck_token.specs.Bytes.{if_then_else_, byteAt, part, ascii, between, among, isDigit, run, numeral}
 use Rattle.luck_token.specs.Utf8.{charAt}
-use Rattle.luck_token.specs.Walk.{Step, stop, goes, walkFrom}
+use Rattle.luck_token.specs.Walk.{Turn, stop, goes, walkFrom}
 use Rattle.luck_linter.specs.Answer.{Answer, accepted, refused, refusedWith, checkText}
 use Rattle.luck_linter.specs.declared.format_pattern.pack.PackOption.{PackOption}
 use Rattle.luck_linter.specs.declared.format_pattern.pack.PackOption.the-variants.{Sized, Counted, ZeroTerminated, FixedString, Padding, AlignToNext, SetMaxAlignment, Control}
@@ -84,11 +84,11 @@ unfoldable pub isMisaligned : ℕ → ℕ → Bool
 isMisaligned size alignment = ltb 1 size && not (isPowerOfTwo (min size alignment))
 
 -- the option at p, of this width and size
-unfoldable pub aligned : ℕ → ℕ → ℕ → State → State → Step State Answer
+unfoldable pub aligned : ℕ → ℕ → ℕ → State → State → Turn State Answer
 aligned p width size before after = if isMisaligned size (before .alignment) then stop (refused 17 p) else goes width after
 
 -- packsize takes no option of variable length
-unfoldable pub variable : Bool → List ℕ → ℕ → Step State Answer → Step State Answer
+unfoldable pub variable : Bool → List ℕ → ℕ → Turn State Answer → Turn State Answer
 variable packsize text p step = if packsize then stop (refusedWith 18 p (charAt text p .code)) else step
 
 -- what `X` may stand before, with its size
@@ -103,35 +103,35 @@ alignmentOf (SetMaxAlignment n) = none
 alignmentOf Control = none
 
 -- `X` at p, before an option of this width, which is passed over
-unfoldable pub alignBy : List ℕ → ℕ → State → ℕ → Option ℕ → Step State Answer
+unfoldable pub alignBy : List ℕ → ℕ → State → ℕ → Option ℕ → Turn State Answer
 alignBy text p s width (some size) = aligned p (1 + width) size s s
 alignBy text p s width none = stop (refusedWith 14 (p + 1) (charAt text (p + 1) .code))
 
-unfoldable pub alignToNext : List ℕ → ℕ → State → Read → Step State Answer
+unfoldable pub alignToNext : List ℕ → ℕ → State → Read → Turn State Answer
 alignToNext text p s (option next width) = alignBy text p s width (alignmentOf next)
 alignToNext text p s (fault answer) = stop answer
 
-unfoldable pub optionStep : Bool → List ℕ → ℕ → State → Read → Step State Answer
-optionStep packsize text p s (option (Sized size) width) = aligned p width size s (state (s .values + 1) (s .alignment))
-optionStep packsize text p s (option (Counted size) width) =
+unfoldable pub optionTurn : Bool → List ℕ → ℕ → State → Read → Turn State Answer
+optionTurn packsize text p s (option (Sized size) width) = aligned p width size s (state (s .values + 1) (s .alignment))
+optionTurn packsize text p s (option (Counted size) width) =
     variable packsize text p (aligned p width size s (state (s .values + 1) (s .alignment)))
-optionStep packsize text p s (option ZeroTerminated width) = variable packsize text p (goes width (state (s .values + 1) (s .alignment)))
-optionStep packsize text p s (option FixedString width) = goes width (state (s .values + 1) (s .alignment))
-optionStep packsize text p s (option Padding width) = goes width s
-optionStep packsize text p s (option AlignToNext width) = alignToNext text p s (optionAt text (p + 1))
-optionStep packsize text p s (option (SetMaxAlignment n) width) = goes width (state (s .values) n)
-optionStep packsize text p s (option Control width) = goes width s
-optionStep packsize text p s (fault answer) = stop answer
+optionTurn packsize text p s (option ZeroTerminated width) = variable packsize text p (goes width (state (s .values + 1) (s .alignment)))
+optionTurn packsize text p s (option FixedString width) = goes width (state (s .values + 1) (s .alignment))
+optionTurn packsize text p s (option Padding width) = goes width s
+optionTurn packsize text p s (option AlignToNext width) = alignToNext text p s (optionAt text (p + 1))
+optionTurn packsize text p s (option (SetMaxAlignment n) width) = goes width (state (s .values) n)
+optionTurn packsize text p s (option Control width) = goes width s
+optionTurn packsize text p s (fault answer) = stop answer
 
-unfoldable pub packStep : Bool → List ℕ → ℕ → State → Step State Answer
-packStep packsize text p s = optionStep packsize text p s (optionAt text p)
+unfoldable pub packTurn : Bool → List ℕ → ℕ → State → Turn State Answer
+packTurn packsize text p s = optionTurn packsize text p s (optionAt text p)
 
 unfoldable pub packEnd : ℕ → State → Answer
 packEnd p s = accepted (s .values)
 
 -- initheader: the maximum alignment is 1
 unfoldable pub packWalk : Bool → List ℕ → Answer
-packWalk packsize text = walkFrom (packStep packsize text) packEnd (length text) 0 (state 0 1)
+packWalk packsize text = walkFrom (packTurn packsize text) packEnd (length text) 0 (state 0 1)
 
 unfoldable pub checkPack : ℕ → Bool → List ℕ → Answer
 checkPack version packsize text = checkText version text (packWalk packsize text)

@@ -10,7 +10,7 @@ use mathlib.Core.Option.{Option, none, some}
 use lib.ListN.{length}
 use lib.Dec.{eqb, ltb}
 use Rattle.luck_token.specs.Bytes.{if_then_else_, byteAt, isDigit}
-use Rattle.luck_token.specs.Walk.{Step, stop, goes, walkFrom}
+use Rattle.luck_token.specs.Walk.{Turn, stop, goes, walkFrom}
 use Rattle.luck_linter.specs.Answer.{Answer, accepted, refused, refusedWith, checkText}
 use Rattle.luck_linter.specs.Captures.{closeLatest, isClosed, allClosed}
 
@@ -56,14 +56,14 @@ pub data SetEnd : Type 0 where
   closes-at cut-at : ℕ → SetEnd
   unclosed : SetEnd
 
-unfoldable pub memberBy : Member → ℕ → Step Bool SetEnd
+unfoldable pub memberBy : Member → ℕ → Turn Bool SetEnd
 memberBy closing-bracket p = stop (closes-at p)
 memberBy escaped-member p = goes 2 false
 memberBy cut-escape p = stop (cut-at p)
 memberBy byte-member p = goes 1 false
 
-unfoldable pub memberStep : List ℕ → ℕ → Bool → Step Bool SetEnd
-memberStep pat p first = memberBy (memberAt pat first p) p
+unfoldable pub memberTurn : List ℕ → ℕ → Bool → Turn Bool SetEnd
+memberTurn pat p first = memberBy (memberAt pat first p) p
 
 unfoldable pub membersEnd : ℕ → Bool → SetEnd
 membersEnd p first = unclosed
@@ -73,7 +73,7 @@ unfoldable pub firstMember : List ℕ → ℕ → ℕ
 firstMember pat p = if eqb (byteAt pat (p + 1)) (code "^") then p + 2 else p + 1
 
 unfoldable pub setEnd : List ℕ → ℕ → SetEnd
-setEnd pat p = walkFrom (memberStep pat) membersEnd (length pat) (firstMember pat p) true
+setEnd pat p = walkFrom (memberTurn pat) membersEnd (length pat) (firstMember pat p) true
 
 -- ---- The check
 
@@ -108,30 +108,30 @@ escapeAs pat p captures esc-other = past (p + 2)
 unfoldable pub escapeRead : List ℕ → ℕ → List Bool → Read
 escapeRead pat p captures = escapeAs pat p captures (escapeAt pat (p + 1))
 
-unfoldable pub onward : ℕ → List Bool → Read → Step (List Bool) Answer
+unfoldable pub onward : ℕ → List Bool → Read → Turn (List Bool) Answer
 onward p captures (past q) = goes (q - p) captures
 onward p captures (fault answer) = stop answer
 
-unfoldable pub afterClose : ℕ → Option (List Bool) → Step (List Bool) Answer
+unfoldable pub afterClose : ℕ → Option (List Bool) → Turn (List Bool) Answer
 afterClose p none = stop (refused 11 p)
 afterClose p (some captures) = goes 1 captures
 
 -- the item at place p, after these captures
-unfoldable pub headStep : List ℕ → ℕ → List Bool → Head → Step (List Bool) Answer
-headStep pat p captures at-open = if ltb (length captures) 32 then goes 1 (captures ++ (false ∷ [])) else stop (refused 12 p)
-headStep pat p captures at-close = afterClose p (closeLatest captures)
-headStep pat p captures at-percent = onward p captures (escapeRead pat p captures)
-headStep pat p captures at-set = onward p captures (setRead pat p)
-headStep pat p captures at-other = goes 1 captures
+unfoldable pub headTurn : List ℕ → ℕ → List Bool → Head → Turn (List Bool) Answer
+headTurn pat p captures at-open = if ltb (length captures) 32 then goes 1 (captures ++ (false ∷ [])) else stop (refused 12 p)
+headTurn pat p captures at-close = afterClose p (closeLatest captures)
+headTurn pat p captures at-percent = onward p captures (escapeRead pat p captures)
+headTurn pat p captures at-set = onward p captures (setRead pat p)
+headTurn pat p captures at-other = goes 1 captures
 
-unfoldable pub patternStep : List ℕ → ℕ → List Bool → Step (List Bool) Answer
-patternStep pat p captures = headStep pat p captures (headOf (byteAt pat p))
+unfoldable pub patternTurn : List ℕ → ℕ → List Bool → Turn (List Bool) Answer
+patternTurn pat p captures = headTurn pat p captures (headOf (byteAt pat p))
 
 unfoldable pub patternEnd : List ℕ → ℕ → List Bool → Answer
 patternEnd pat p captures = if allClosed captures then accepted (length captures) else refused 11 (length pat)
 
 unfoldable pub patternWalk : List ℕ → Answer
-patternWalk pat = walkFrom (patternStep pat) (patternEnd pat) (length pat) 0 []
+patternWalk pat = walkFrom (patternTurn pat) (patternEnd pat) (length pat) 0 []
 
 unfoldable pub checkPattern : ℕ → List ℕ → Answer
 checkPattern version pat = checkText version pat (patternWalk pat)

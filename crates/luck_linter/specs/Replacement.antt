@@ -4,12 +4,18 @@ use Prim.Native.Nat.{ℕ, _+_, _-_, max}
 use Prim.Native.Char.{code}
 use mathlib.Core.Bool.{Bool, true}
 use mathlib.Core.List.{List, [], _∷_}
+use mathlib.Core.Option.{Option, none, some}
 use lib.Dec.{eqb, leb}
 use Rattle.luck_token.specs.Bytes.{if_then_else_, isDigit}
 use Rattle.luck_token.specs.Version.{rulesOf}
+use Rattle.luck_token.specs.declared.version.Rules.{Rules}
 use Rattle.luck_linter.specs.Answer.{Answer, accepted, refused, checkText}
 use Rattle.luck_linter.specs.declared.format_pattern.replacement.Captures.{Captures}
 use Rattle.luck_linter.specs.declared.format_pattern.replacement.Captures.the-variants.{Known, Unknown}
+
+-- the row "strict replacement, checked date" of document 01
+abbrev pub isStrict : Rules → Bool
+isStrict rules = rules .«strict_gsub_replacement»
 
 pub data Piece : Type 0 where
   literal : ℕ → Piece  -- a byte for itself
@@ -29,13 +35,18 @@ pieces (b ∷ c ∷ more) =
     let one = literal b ∷ pieces (c ∷ more) in
     if eqb b (code "%") then two else one
 
+-- the pattern's count of captures, none where it is not known
+abbrev pub countOf : Captures → Option ℕ
+countOf (Known count) = some count
+countOf Unknown = none
+
 -- with a known count, a digit is at most the larger of it and 1
-unfoldable pub allowsDigit : Captures → ℕ → Bool
-allowsDigit (Known count) d = leb d (max count 1)
-allowsDigit Unknown d = true
+unfoldable pub allowsDigit : Option ℕ → ℕ → Bool
+allowsDigit (some count) d = leb d (max count 1)
+allowsDigit none d = true
 
 -- the pieces from place p on
-unfoldable pub piecesWalk : Bool → Captures → List Piece → ℕ → Answer
+unfoldable pub piecesWalk : Bool → Option ℕ → List Piece → ℕ → Answer
 piecesWalk strict count [] p = accepted 0
 piecesWalk strict count (literal b ∷ more) p = piecesWalk strict count more (p + 1)
 piecesWalk strict count (digit d ∷ more) p =
@@ -49,5 +60,5 @@ piecesWalk strict count (lone ∷ more) p =
     let on = piecesWalk strict count more (p + 1) in
     if strict then refused 19 p else on
 
-unfoldable pub checkReplacement : ℕ → Captures → List ℕ → Answer
-checkReplacement version count text = checkText version text (piecesWalk (rulesOf version .«strict_gsub_replacement») count (pieces text) 0)
+unfoldable pub checkReplacement : ℕ → Option ℕ → List ℕ → Answer
+checkReplacement version count text = checkText version text (piecesWalk (isStrict (rulesOf version)) count (pieces text) 0)

@@ -1,8 +1,8 @@
 -- The check of a literal in a source (checkable_body and literal_error of luck's rule format_string), by one of the kind letters of document 01.
 -- Assumes nothing.
-use Prim.Native.Nat.{ℕ, _+_, _-_, min}
+use Prim.Native.Nat.{ℕ, _+_, _-_}
 use Prim.Native.Char.{code}
-use mathlib.Core.Bool.{Bool, true, false, _&&_, _||_}
+use mathlib.Core.Bool.{Bool, true, false, not, _&&_, _||_}
 use mathlib.Core.List.{List, [], _∷_}
 use mathlib.Core.Option.{Option, none, some}
 use lib.ListN.{length}
@@ -11,16 +11,15 @@ use Rattle.luck_token.specs.Bytes.{if_then_else_, part, isDigit, ascii, among}
 use Rattle.luck_token.specs.Version.{isVersion, rulesOf}
 use Rattle.luck_token.specs.Utf8.{illFormed, charAt}
 use Rattle.luck_token.specs.Literal.{isShort}
-use Rattle.luck_token.specs.Span.{u32-max, spanOf, shiftedBy}
+use Rattle.luck_token.specs.Span.{spanOf}
 use Rattle.luck_token.specs.declared.version.Rules.{Rules}
 use Rattle.luck_token.specs.declared.span.Span.{Span}
 use Rattle.luck_linter.specs.Answer.{Answer, accepted, refused, refusal}
 use Rattle.luck_linter.specs.Pattern.{patternWalk}
-use Rattle.luck_linter.specs.Replacement.{pieces, piecesWalk}
+use Rattle.luck_linter.specs.Replacement.{isStrict, pieces, piecesWalk}
 use Rattle.luck_linter.specs.Format.{formatWalk}
 use Rattle.luck_linter.specs.Pack.{packWalk}
-use Rattle.luck_linter.specs.Date.{dateWalk}
-use Rattle.luck_linter.specs.declared.format_pattern.replacement.Captures.{Captures}
+use Rattle.luck_linter.specs.Date.{checksDates, hasDateOptions, dateWalk}
 use Rattle.luck_linter.specs.declared.rules.format_string.LiteralChecked.{LiteralChecked}
 use Rattle.luck_linter.specs.declared.rules.format_string.LiteralChecked.the-variants as checked
 
@@ -29,14 +28,14 @@ unfoldable pub isKind : ℕ → Bool
 isKind kind = among kind (ascii "FPKSGD")
 
 -- what is checked of a body that is UTF-8
-unfoldable pub bodyWalk : ℕ → Rules → Captures → List ℕ → Answer
+unfoldable pub bodyWalk : ℕ → Rules → Option ℕ → List ℕ → Answer
 bodyWalk kind rules captures body =
     if eqb kind (code "F") then formatWalk rules body
     else if eqb kind (code "P") then patternWalk body
     else if eqb kind (code "K") then packWalk false body
     else if eqb kind (code "S") then packWalk true body
-    else if eqb kind (code "G") then piecesWalk (rules .«strict_gsub_replacement») captures (pieces body) 0
-    else dateWalk (rules .«strict_gsub_replacement») (rules .«date_format_options») body
+    else if eqb kind (code "G") then piecesWalk (isStrict rules) captures (pieces body) 0
+    else dateWalk (checksDates rules) (hasDateOptions rules) body
 
 -- an escape `\0` to `\9`, `\x` or `\u` could spell a byte that the check reads
 unfoldable pub isNumericEscape : ℕ → Bool
@@ -66,19 +65,19 @@ unspanned answer = record { skipped = false; spanned = false; answer = answer; s
 abbrev pub spannedAnswer : Answer → Span → LiteralAnswer
 spannedAnswer answer span = record { skipped = false; spanned = true; answer = answer; span = span }
 
--- literal_error: from the literal's start + 1 + offset, one character wide
+-- literal_error: from the literal's start + 1 + offset, one character wide, saturating in `u32`
 unfoldable pub spanAt : ℕ → List ℕ → ℕ → Span
-spanAt start body offset = shiftedBy (spanOf offset (offset + charAt body offset .width)) (min (start + 1) u32-max)
+spanAt start body offset = spanOf (start + 1 + offset) (start + 1 + offset + charAt body offset .width)
 
 unfoldable pub withSpan : ℕ → List ℕ → Answer → LiteralAnswer
 withSpan start body answer = if eqb (answer .number) 0 then unspanned answer else spannedAnswer answer (spanAt start body (answer .offset))
 
-unfoldable pub checkBody : ℕ → Rules → Captures → ℕ → List ℕ → LiteralAnswer
+unfoldable pub checkBody : ℕ → Rules → Option ℕ → ℕ → List ℕ → LiteralAnswer
 checkBody kind rules captures start body =
     let walked = withSpan start body (bodyWalk kind rules captures body) in
     if hasNumericEscape body then skippedAnswer else walked
 
-unfoldable pub checkShort : ℕ → Rules → Captures → ℕ → List ℕ → LiteralAnswer
+unfoldable pub checkShort : ℕ → Rules → Option ℕ → ℕ → List ℕ → LiteralAnswer
 checkShort kind rules captures start text =
     let body = checkBody kind rules captures start (part text 1 (length text - 1)) in
     if isShort text then body else skippedAnswer
@@ -88,11 +87,10 @@ afterText none checked = checked
 afterText (some place) checked = unspanned (refused 23 place)
 
 -- 30, 25, 23, then whether to skip
-unfoldable pub checkLiteral : ℕ → ℕ → Captures → ℕ → List ℕ → LiteralAnswer
+unfoldable pub checkLiteral : ℕ → ℕ → Option ℕ → ℕ → List ℕ → LiteralAnswer
 checkLiteral kind version captures start text =
-    let checked = afterText (illFormed text) (checkShort kind (rulesOf version) captures start text) in
-    let known = if isVersion version then checked else unspanned (refused 25 0) in
-    if isKind kind then known else unspanned (refused 30 0)
+    if not (isKind kind) then unspanned (refused 30 0)
+    else if not (isVersion version) then unspanned (refused 25 0) else afterText (illFormed text) (checkShort kind (rulesOf version) captures start text)
 
 -- the code's answer
 abbrev pub literalAnswerOf : LiteralChecked → LiteralAnswer

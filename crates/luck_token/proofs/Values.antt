@@ -14,8 +14,8 @@ use lib.Seq.{drop-cons, set-append-seam, sets}
 use lib.Dec.{leb, ltb}
 use borrow.Author.Tests.{lt-ltb, le-ltb, le-leb, lt-leb, leb-true, ltb-true}
 use Rattle.luck_token.specs.Bytes.{if_then_else_, part}
-use Rattle.luck_token.specs.Walk.{Step, walkFrom}
-use Rattle.luck_token.specs.Walk.Step.{stop, goes}
+use Rattle.luck_token.specs.Walk.{Turn, walkFrom}
+use Rattle.luck_token.specs.Walk.Turn.{stop, goes}
 use Rattle.luck_token.specs.Version.{isVersion, rulesOf}
 use Rattle.luck_token.specs.Utf8.{utf8Bytes, illFormed}
 use Rattle.luck_token.specs.Whitespace.{stripLineBreak}
@@ -66,7 +66,7 @@ NoLonger before none = Unit {0}
 NoLonger before (some v) = length before ≤ length v
 
 module _ (long : Bool) (rules : Rules) (body : List ℕ) where
-  abbrev pub item : ℕ → List ℕ → Step (List ℕ) (Option (List ℕ))
+  abbrev pub item : ℕ → List ℕ → Turn (List ℕ) (Option (List ℕ))
   item p before = taken before (pieceAt long rules body p)
 
   abbrev pub on : ℕ → List ℕ → Option (List ℕ)

@@ -5,10 +5,10 @@ use mathlib.Core.Path.{_≡_, refl, sym, ap, ap₂, subst, _∙_}
 use Prim.Native.Nat.{ℕ, zero, suc, _+_, _-_, _≤_, _<_}
 use native.Mathlib.Nat.{add-zero, sub-zero, suc-sub-suc, suc-add, add-suc, not-suc-le-zero, le-of-suc-le-suc}
 use native.Mathlib.Omega.{arith}
-use Rattle.luck_token.specs.Walk.{Step, walk, walkFrom}
-use Rattle.luck_token.specs.Walk.Step.{stop, goes}
+use Rattle.luck_token.specs.Walk.{Turn, walk, walkFrom}
+use Rattle.luck_token.specs.Walk.Turn.{stop, goes}
 
-module _ {S A : Type 0} (item : ℕ → S → Step S A) (ends : ℕ → S → A) where
+module _ {S A : Type 0} (item : ℕ → S → Turn S A) (ends : ℕ → S → A) where
   skip : (n k p : ℕ) (s : S) → k ≤ n → walk item ends n k p s ≡ walk item ends (n - k) 0 (p + k) s
   unfolding walk
   skip n zero p s h = rw (sub-zero n, add-zero p)
@@ -54,7 +54,7 @@ module _ {S A : Type 0} (item : ℕ → S → Step S A) (ends : ℕ → S → A)
     related (suc n) (suc k) p s = related n k (suc p) s
     related (suc n) zero p s = go (λ w s′. related n (w - 1) (suc p) s′) (item p s) refl
       where
-        go : ((w : ℕ) (s′ : S) → R s′ (walk item ends n (w - 1) (suc p) s′)) → (t : Step S A) → item p s ≡ t → R s (walk item ends (suc n) 0 p s)
+        go : ((w : ℕ) (s′ : S) → R s′ (walk item ends n (w - 1) (suc p) s′)) → (t : Turn S A) → item p s ≡ t → R s (walk item ends (suc n) 0 p s)
         go rest (stop a) e = subst (R s) (sym (one-stop n p s a e)) (stops p s a e)
         go rest (goes w s′) e = subst (R s) (sym (one-goes n p s w s′ e)) (passes p s w s′ _ e (rest w s′))
 

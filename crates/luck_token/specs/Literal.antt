@@ -9,7 +9,7 @@ use mathlib.Core.Option.{Option, none, some}
 use lib.ListN.{length, drop}
 use lib.Dec.{eqb, leb, ltb}
 use Rattle.luck_token.specs.Bytes.{if_then_else_, byteAt, part, isDigit, isXdigit, run, numeral}
-use Rattle.luck_token.specs.Walk.{Step, stop, goes, walkFrom}
+use Rattle.luck_token.specs.Walk.{Turn, stop, goes, walkFrom}
 use Rattle.luck_token.specs.Utf8.{isChar, utf8Bytes}
 use Rattle.luck_token.specs.Whitespace.{isLuaWhitespace, lineBreak, stripLineBreak}
 use Rattle.luck_token.specs.declared.version.Rules.{Rules}
@@ -161,7 +161,7 @@ pieceAt false rules body p = shortPiece rules body p
 -- ---- The value
 
 -- the bytes so far and those of one more piece
-unfoldable pub taken : List ℕ → Piece → Step (List ℕ) (Option (List ℕ))
+unfoldable pub taken : List ℕ → Piece → Turn (List ℕ) (Option (List ℕ))
 taken before malformed = stop none
 taken before (piece bytes width) = goes width (before ++ bytes)
 

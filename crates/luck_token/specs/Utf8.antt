@@ -7,7 +7,7 @@ use mathlib.Core.Option.{Option, none, some}
 use lib.ListN.{length}
 use lib.Dec.{eqb, leb, ltb}
 use Rattle.luck_token.specs.Bytes.{if_then_else_, byteAt, between}
-use Rattle.luck_token.specs.Walk.{Step, stop, goes, walkFrom}
+use Rattle.luck_token.specs.Walk.{Turn, stop, goes, walkFrom}
 use Rattle.luck_token.specs.declared.utf8.Char.{Char}
 use Rattle.luck_token.specs.declared.utf8.Utf8.{Utf8}
 use Rattle.luck_token.specs.declared.utf8.Utf8.the-variants.{Valid, IllFormed}
@@ -64,7 +64,7 @@ unfoldable pub sequence : List ℕ → ℕ → ℕ
 sequence text p = if ltb p (length text) then widthBy text p (tailsOf rfc3629 (byteAt text p)) else 0
 
 -- the place of the first ill-formed sequence, none where the whole text is well-formed
-unfoldable pub sequenceAt : List ℕ → ℕ → Unit {0} → Step (Unit {0}) (Option ℕ)
+unfoldable pub sequenceAt : List ℕ → ℕ → Unit {0} → Turn (Unit {0}) (Option ℕ)
 sequenceAt text p u = if eqb (sequence text p) 0 then stop (some p) else goes (sequence text p) tt
 
 unfoldable pub noneIllFormed : ℕ → Unit {0} → Option ℕ

@@ -5,11 +5,11 @@
 -- Assumes nothing.
 use Prim.Native.Nat.{ℕ, zero, suc, _-_}
 
-pub data Step (S A : Type 0) : Type 0 where
-  stop : A → Step S A
-  goes : ℕ → S → Step S A
+pub data Turn (S A : Type 0) : Type 0 where
+  stop : A → Turn S A
+  goes : ℕ → S → Turn S A
 
-module _ {S A : Type 0} (item : ℕ → S → Step S A) (ends : ℕ → S → A) where
+module _ {S A : Type 0} (item : ℕ → S → Turn S A) (ends : ℕ → S → A) where
   -- `left` bytes are left, of which `skip` belong to an item that was read already
   unfoldable pub walk : ℕ → ℕ → ℕ → S → A
   walk zero skip p s = ends p s

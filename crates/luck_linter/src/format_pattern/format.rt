@@ -3,8 +3,8 @@ ghost use mathlib.Core.Path.{_≡_};
 ghost use Prim.Native.Nat.{ℕ, _+_, _<_, _≤_};
 ghost use lib.ListN.{length};
 ghost use Rattle.luck_linter.specs.Answer.{walkedOf, answerOf};
-ghost use Rattle.luck_linter.specs.Format.{modifiersAt, getFormat, scanFormat, scanWidth, scanPrecision, isConversion, flagsRun, afterTwoDigits, checkFormat, conversionStep, percentStep, formatWalk, checkFormatString};
-ghost use Rattle.luck_linter.specs.Inner.{modifiersOf, EndsIn, stepOf, GoesIn};
+ghost use Rattle.luck_linter.specs.Format.{modifiersAt, getFormat, scanFormat, scanWidth, scanPrecision, isConversion, flagsRun, afterTwoDigits, goodModifiers, conversionTurn, percentTurn, formatWalk, checkFormat};
+ghost use Rattle.luck_linter.specs.Inner.{modifiersOf, EndsIn, turnOf, GoesIn};
 use crate::format_pattern;
 use crate::format_pattern::Checked;
 use crate::format_pattern::PatternError;
@@ -146,7 +146,7 @@ fn after_two_digits(text: &[u8], at: usize) -> usize
 // The place after the modifiers at `at` that checkformat accepts before this conversion. A width can't start with 0.
 fn check_format(text: &[u8], at: usize, conversion: u8) -> usize
     requires { ⌜ at ≤ length (now text) ⌝ }
-    ensures { λ r. ⌜ r ≡ checkFormat conversion (now (text .entry)) at ⌝ }
+    ensures { λ r. ⌜ r ≡ goodModifiers conversion (now (text .entry)) at ⌝ }
 {
     if conversion == b'q' {
         return at;
@@ -175,7 +175,7 @@ fn check_format(text: &[u8], at: usize, conversion: u8) -> usize
 // The specifier whose `%` stands at `at` and whose conversion is due at `end`.
 fn scan_format_conversion(text: &[u8], at: usize, end: usize, rules: Rules) -> Specifier
     requires { ⌜ (at < end) × (end ≤ length (now text)) ⌝ }
-    ensures { λ r. ⌜ ((count : ℕ) → stepOf count r ≡ conversionStep rules (now (text .entry)) at count end) × GoesIn r at (length (now (text .entry))) ⌝ }
+    ensures { λ r. ⌜ ((count : ℕ) → turnOf count r ≡ conversionTurn rules (now (text .entry)) at count end) × GoesIn r at (length (now (text .entry))) ⌝ }
 {
     if text.len() <= end {
         return Specifier::Fault(PatternError::TruncatedSpecifier { offset: at });
@@ -206,7 +206,7 @@ fn scan_format_conversion(text: &[u8], at: usize, end: usize, rules: Rules) -> S
 // The specifier whose `%` stands at `at`.
 fn scan_specifier(text: &[u8], at: usize, rules: Rules) -> Specifier
     requires { ⌜ at < length (now text) ⌝ }
-    ensures { λ r. ⌜ ((count : ℕ) → stepOf count r ≡ percentStep rules (now (text .entry)) at count) × GoesIn r at (length (now (text .entry))) ⌝ }
+    ensures { λ r. ⌜ ((count : ℕ) → turnOf count r ≡ percentTurn rules (now (text .entry)) at count) × GoesIn r at (length (now (text .entry))) ⌝ }
 {
     let next = at + 1;
     if text.len() <= next {
@@ -255,7 +255,7 @@ pub fn scan_format_string(text: &[u8], rules: Rules) -> Walked
 }
 
 pub fn validate_format(version: u32, text: &[u8]) -> Checked
-    ensures { λ r. ⌜ answerOf r ≡ checkFormatString version (now (text .entry)) ⌝ }
+    ensures { λ r. ⌜ answerOf r ≡ checkFormat version (now (text .entry)) ⌝ }
 {
     let read = format_pattern::read_text(version, text);
     match read {

@@ -4,8 +4,8 @@ ghost use Prim.Native.Nat.{ℕ, _+_, _-_, _<_, _≤_};
 ghost use Rattle.luck_token.specs.Utf8.{charAt};
 ghost use lib.ListN.{length};
 ghost use Rattle.luck_linter.specs.Answer.{walkedOf, answerOf};
-ghost use Rattle.luck_linter.specs.Pack.{limited, fixedString, plainOption, sizedOption, optionAt, state, isPowerOfTwo, isMisaligned, aligned as alignedOf, alignmentOf, alignToNext, option as read, optionStep, packStep, packWalk, checkPack};
-ghost use Rattle.luck_linter.specs.Inner.{sizeRead, SizeIn, plainRead, optionRead, OptionIn, alignmentRead, withValue, packStepOf, GoesBy, PackGoesIn};
+ghost use Rattle.luck_linter.specs.Pack.{limited, fixedString, plainOption, sizedOption, optionAt, state, isPowerOfTwo, isMisaligned, aligned as alignedOf, alignmentOf, alignToNext, option as read, optionTurn, packTurn, packWalk, checkPack};
+ghost use Rattle.luck_linter.specs.Inner.{sizeRead, SizeIn, plainRead, optionRead, OptionIn, alignmentRead, withValue, packTurnOf, GoesBy, PackGoesIn};
 use crate::format_pattern;
 use crate::format_pattern::Checked;
 use crate::format_pattern::PatternError;
@@ -205,8 +205,8 @@ fn is_misaligned(size: u32, alignment: u32) -> bool
     !is_power_of_two(alignment)
 }
 
-// A step of the walk: the width of what was read, whether it takes a value, and the maximum alignment after it; or a fault.
-pub enum Step {
+// A turn of the walk: the width of what was read, whether it takes a value, and the maximum alignment after it; or a fault.
+pub enum Turn {
     Goes {
         width: usize,
         has_value: bool,
@@ -216,13 +216,13 @@ pub enum Step {
 }
 
 // The option at `at`, of this width and size.
-fn aligned(at: usize, width: usize, size: u32, alignment: u32, has_value: bool) -> Step
-    ensures { λ r. ⌜ ((values : ℕ) → packStepOf values r ≡ alignedOf at width size (state values alignment) (withValue «has_value» values alignment)) × (GoesBy r width) ⌝ }
+fn aligned(at: usize, width: usize, size: u32, alignment: u32, has_value: bool) -> Turn
+    ensures { λ r. ⌜ ((values : ℕ) → packTurnOf values r ≡ alignedOf at width size (state values alignment) (withValue «has_value» values alignment)) × (GoesBy r width) ⌝ }
 {
     if is_misaligned(size, alignment) {
-        return Step::Fault(PatternError::BadPackAlignment { offset: at });
+        return Turn::Fault(PatternError::BadPackAlignment { offset: at });
     }
-    Step::Goes {
+    Turn::Goes {
         width,
         has_value,
         alignment,
@@ -251,9 +251,9 @@ fn alignment_of(option: PackOption) -> Alignment
 }
 
 // `X` at `at`, and the option that it aligns to, as getdetails takes it from getoption.
-fn align_to_next(text: &[u8], at: usize, alignment: u32) -> Step
+fn align_to_next(text: &[u8], at: usize, alignment: u32) -> Turn
     requires { ⌜ at < length (now text) ⌝ }
-    ensures { λ r. ⌜ ((values : ℕ) → packStepOf values r ≡ alignToNext (now (text .entry)) at (state values alignment) (optionAt (now (text .entry)) (at + 1))) × PackGoesIn r at (length (now (text .entry))) ⌝ }
+    ensures { λ r. ⌜ ((values : ℕ) → packTurnOf values r ≡ alignToNext (now (text .entry)) at (state values alignment) (optionAt (now (text .entry)) (at + 1))) × PackGoesIn r at (length (now (text .entry))) ⌝ }
 {
     let next = scan_pack_option(text, at + 1);
     match next {
@@ -263,39 +263,39 @@ fn align_to_next(text: &[u8], at: usize, alignment: u32) -> Step
                 Alignment::To(size) => aligned(at, 1 + width, size, alignment, false),
                 Alignment::Refused => {
                     let character = utf8::char_at(text, at + 1);
-                    Step::Fault(PatternError::InvalidPackOption {
+                    Turn::Fault(PatternError::InvalidPackOption {
                         offset: at + 1,
                         character: character.code,
                     })
                 }
             }
         }
-        Read::Fault(fault) => Step::Fault(fault),
+        Read::Fault(fault) => Turn::Fault(fault),
     }
 }
 
 // An option of variable length, whose size packsize can't know.
-fn variable_length(text: &[u8], at: usize) -> Step
-    ensures { λ r. ⌜ r ≡ Step.Fault (PatternError.VariableLengthPackOption at (charAt (now (text .entry)) at .code)) ⌝ }
+fn variable_length(text: &[u8], at: usize) -> Turn
+    ensures { λ r. ⌜ r ≡ Turn.Fault (PatternError.VariableLengthPackOption at (charAt (now (text .entry)) at .code)) ⌝ }
 {
     let character = utf8::char_at(text, at);
-    Step::Fault(PatternError::VariableLengthPackOption {
+    Turn::Fault(PatternError::VariableLengthPackOption {
         offset: at,
         character: character.code,
     })
 }
 
 // What an option of this width does.
-fn option_step(
+fn option_turn(
     text: &[u8],
     at: usize,
     option: PackOption,
     width: usize,
     alignment: u32,
     is_packsize: bool,
-) -> Step
+) -> Turn
     requires { ⌜ (at < length (now text)) × (0 < width) × (at + width ≤ length (now text)) ⌝ }
-    ensures { λ r. ⌜ ((values : ℕ) → packStepOf values r ≡ optionStep «is_packsize» (now (text .entry)) at (state values alignment) (read option width)) × PackGoesIn r at (length (now (text .entry))) ⌝ }
+    ensures { λ r. ⌜ ((values : ℕ) → packTurnOf values r ≡ optionTurn «is_packsize» (now (text .entry)) at (state values alignment) (read option width)) × PackGoesIn r at (length (now (text .entry))) ⌝ }
 {
     match option {
         PackOption::Sized(size) => aligned(at, width, size, alignment, true),
@@ -309,29 +309,29 @@ fn option_step(
             if is_packsize {
                 return variable_length(text, at);
             }
-            Step::Goes {
+            Turn::Goes {
                 width,
                 has_value: true,
                 alignment,
             }
         }
-        PackOption::FixedString => Step::Goes {
+        PackOption::FixedString => Turn::Goes {
             width,
             has_value: true,
             alignment,
         },
-        PackOption::Padding => Step::Goes {
+        PackOption::Padding => Turn::Goes {
             width,
             has_value: false,
             alignment,
         },
         PackOption::AlignToNext => align_to_next(text, at, alignment),
-        PackOption::SetMaxAlignment(largest) => Step::Goes {
+        PackOption::SetMaxAlignment(largest) => Turn::Goes {
             width,
             has_value: false,
             alignment: largest,
         },
-        PackOption::Control => Step::Goes {
+        PackOption::Control => Turn::Goes {
             width,
             has_value: false,
             alignment,
@@ -340,13 +340,13 @@ fn option_step(
 }
 
 // The option at `at` and what it does.
-fn scan_option(text: &[u8], at: usize, alignment: u32, is_packsize: bool) -> Step
+fn scan_option(text: &[u8], at: usize, alignment: u32, is_packsize: bool) -> Turn
     requires { ⌜ at < length (now text) ⌝ }
-    ensures { λ r. ⌜ ((values : ℕ) → packStepOf values r ≡ packStep «is_packsize» (now (text .entry)) at (state values alignment)) × PackGoesIn r at (length (now (text .entry))) ⌝ }
+    ensures { λ r. ⌜ ((values : ℕ) → packTurnOf values r ≡ packTurn «is_packsize» (now (text .entry)) at (state values alignment)) × PackGoesIn r at (length (now (text .entry))) ⌝ }
 {
     let read = scan_pack_option(text, at);
     match read {
-        Read::Option { option, width } => option_step(
+        Read::Option { option, width } => option_turn(
             text,
             at,
             option,
@@ -354,7 +354,7 @@ fn scan_option(text: &[u8], at: usize, alignment: u32, is_packsize: bool) -> Ste
             alignment,
             is_packsize,
         ),
-        Read::Fault(fault) => Step::Fault(fault),
+        Read::Fault(fault) => Turn::Fault(fault),
     }
 }
 
@@ -366,9 +366,9 @@ pub fn scan_pack_format(text: &[u8], is_packsize: bool) -> Walked
     let mut alignment: u32 = 1;
     let mut at = 0;
     while at < text.len() {
-        let step = scan_option(text, at, alignment, is_packsize);
-        match step {
-            Step::Goes {
+        let turn = scan_option(text, at, alignment, is_packsize);
+        match turn {
+            Turn::Goes {
                 width,
                 has_value,
                 alignment: largest,
@@ -379,7 +379,7 @@ pub fn scan_pack_format(text: &[u8], is_packsize: bool) -> Walked
                 alignment = largest;
                 at += width;
             }
-            Step::Fault(fault) => return Walked::Refused(fault),
+            Turn::Fault(fault) => return Walked::Refused(fault),
         }
     }
     Walked::Accepted(values)

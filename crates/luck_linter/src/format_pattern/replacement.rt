@@ -1,7 +1,7 @@
 // The check of a gsub replacement.
 ghost use mathlib.Core.Path.{_≡_};
 ghost use Rattle.luck_linter.specs.Answer.{walkedOf, answerOf};
-ghost use Rattle.luck_linter.specs.Replacement.{pieces, allowsDigit, piecesWalk, checkReplacement};
+ghost use Rattle.luck_linter.specs.Replacement.{countOf, pieces, allowsDigit, piecesWalk, checkReplacement};
 use crate::format_pattern;
 use crate::format_pattern::Checked;
 use crate::format_pattern::PatternError;
@@ -17,7 +17,7 @@ pub enum Captures {
 
 // `%0` is the whole match, and with no captures so is `%1`.
 fn allows_digit(captures: Captures, digit: usize) -> bool
-    ensures { λ r. ⌜ r ≡ allowsDigit captures digit ⌝ }
+    ensures { λ r. ⌜ r ≡ allowsDigit (countOf captures) digit ⌝ }
 {
     match captures {
         Captures::Known(count) => {
@@ -32,7 +32,7 @@ fn allows_digit(captures: Captures, digit: usize) -> bool
 
 // The walk over a text that is UTF-8.
 pub fn scan_replacement(text: &[u8], captures: Captures, is_strict: bool) -> Walked
-    ensures { λ r. ⌜ walkedOf r ≡ piecesWalk «is_strict» captures (pieces (now (text .entry))) 0 ⌝ }
+    ensures { λ r. ⌜ walkedOf r ≡ piecesWalk «is_strict» (countOf captures) (pieces (now (text .entry))) 0 ⌝ }
 {
     let mut at = 0;
     while at < text.len() {
@@ -68,7 +68,7 @@ pub fn scan_replacement(text: &[u8], captures: Captures, is_strict: bool) -> Wal
 }
 
 pub fn validate_gsub_replacement(version: u32, captures: Captures, text: &[u8]) -> Checked
-    ensures { λ r. ⌜ answerOf r ≡ checkReplacement version captures (now (text .entry)) ⌝ }
+    ensures { λ r. ⌜ answerOf r ≡ checkReplacement version (countOf captures) (now (text .entry)) ⌝ }
 {
     let read = format_pattern::read_text(version, text);
     match read {

@@ -4,6 +4,7 @@ ghost use mathlib.Core.Bool.{true};
 ghost use Prim.Native.Nat.{_+_, min};
 ghost use Rattle.luck_token.specs.Span.{u32-max};
 ghost use Rattle.luck_linter.specs.Answer.{refusal, walkedOf};
+ghost use Rattle.luck_linter.specs.Replacement.{countOf};
 ghost use Rattle.luck_linter.specs.StringLiteral.{isKind, bodyWalk, isNumericEscape, hasNumericEscape, spanAt, checkBody, checkShort, checkLiteral, literalAnswerOf};
 use crate::format_pattern;
 use crate::format_pattern::PatternError;
@@ -70,7 +71,7 @@ fn has_numeric_escape(body: &[u8]) -> bool
 
 // The check of a body that is UTF-8.
 fn scan_body(kind: u8, rules: Rules, captures: Captures, body: &[u8]) -> Walked
-    ensures { λ r. ⌜ walkedOf r ≡ bodyWalk kind rules captures (now (body .entry)) ⌝ }
+    ensures { λ r. ⌜ walkedOf r ≡ bodyWalk kind rules (countOf captures) (now (body .entry)) ⌝ }
 {
     match kind {
         b'F' => format::scan_format_string(body, rules),
@@ -115,7 +116,7 @@ fn span_at(start: u32, body: &[u8], offset: usize) -> Span
 }
 
 fn check_body(kind: u8, rules: Rules, captures: Captures, start: u32, body: &[u8]) -> LiteralChecked
-    ensures { λ r. ⌜ literalAnswerOf r ≡ checkBody kind rules captures start (now (body .entry)) ⌝ }
+    ensures { λ r. ⌜ literalAnswerOf r ≡ checkBody kind rules (countOf captures) start (now (body .entry)) ⌝ }
 {
     if has_numeric_escape(body) {
         return LiteralChecked::Skipped;
@@ -137,7 +138,7 @@ fn check_short(
     start: u32,
     text: &[u8],
 ) -> LiteralChecked
-    ensures { λ r. ⌜ literalAnswerOf r ≡ checkShort kind rules captures start (now (text .entry)) ⌝ }
+    ensures { λ r. ⌜ literalAnswerOf r ≡ checkShort kind rules (countOf captures) start (now (text .entry)) ⌝ }
 {
     let found = string::short_string_body(text);
     match found {
@@ -157,7 +158,7 @@ pub fn check_literal(
     start: u32,
     text: &[u8],
 ) -> LiteralChecked
-    ensures { λ r. ⌜ literalAnswerOf r ≡ checkLiteral kind version captures start (now (text .entry)) ⌝ }
+    ensures { λ r. ⌜ literalAnswerOf r ≡ checkLiteral kind version (countOf captures) start (now (text .entry)) ⌝ }
 {
     if scan::contains(b"FPKSGD", kind) {
         if version::is_version(version) {

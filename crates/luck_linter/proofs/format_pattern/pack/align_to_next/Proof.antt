@@ -3,11 +3,11 @@ use mathlib.Core.Path.{refl, sym, ap, _∙_}
 use Prim.Native.Nat.{_+_}
 use native.Mathlib.Omega.{arith}
 use lib.ListN.{length}
-use Rattle.luck_token.specs.Walk.Step.{stop}
+use Rattle.luck_token.specs.Walk.Turn.{stop}
 use Rattle.luck_token.specs.declared.utf8.Char.{Char}
 use Rattle.luck_linter.specs.Answer.{refusedWith, refusal}
 use Rattle.luck_linter.specs.Pack.{state}
-use Rattle.luck_linter.specs.Inner.{optionRead, alignmentRead, packStepOf}
+use Rattle.luck_linter.specs.Inner.{optionRead, alignmentRead, packTurnOf}
 use Rattle.luck_linter.proofs.Packs.{option-inside, align-to, align-refused, align-fault, goes-in}
 use borrow.Author.Needs.{needs}
 use Rattle.luck_linter.proofs.format_pattern.pack.align_to_next.Statement.{statement}
@@ -53,7 +53,7 @@ returns : tie.Need-returns
 returns c =
     let i = option-inside (c .before .before .before .before .before .before .before .before .scan-pack-option .result) (c .before .before .before .before .before .before .next .given .0 .0) (c .before .before .before .before .before .before .next .given .0 .1 .0) (c .before .before .before .before .before .before .before .before .before .before .args .at + 1) (length (c .before .before .before .before .before .before .before .before .before .before .args .text .now)) (c .before .before .before .before .before .before .next .given .1) (c .before .before .before .before .before .before .before .before .scan-pack-option .ensures .1) in (
       λ values.
-          align-to (c .before .before .before .before .before .before .before .before .before .before .args .text .now) (c .before .before .before .before .before .before .before .before .before .before .args .at) (state values (c .before .before .before .before .before .before .before .before .before .before .args .alignment)) (packStepOf values (c .aligned .result)) (c .before .before .before .before .before .before .next .given .0 .0) (c .before .before .before .before .before .before .next .given .0 .1 .0) (ap optionRead (sym (c .before .before .before .before .before .before .next .given .1)) ∙ c .before .before .before .before .before .before .before .before .scan-pack-option .ensures .0) (c .before .before .found .given .0 .0)
+          align-to (c .before .before .before .before .before .before .before .before .before .before .args .text .now) (c .before .before .before .before .before .before .before .before .before .before .args .at) (state values (c .before .before .before .before .before .before .before .before .before .before .args .alignment)) (packTurnOf values (c .aligned .result)) (c .before .before .before .before .before .before .next .given .0 .0) (c .before .before .before .before .before .before .next .given .0 .1 .0) (ap optionRead (sym (c .before .before .before .before .before .before .next .given .1)) ∙ c .before .before .before .before .before .before .before .before .scan-pack-option .ensures .0) (c .before .before .found .given .0 .0)
           (ap alignmentRead (sym (c .before .before .found .given .1)) ∙ c .before .before .before .before .alignment-of .ensures) (c .aligned .ensures .0 values),
       goes-in (c .aligned .result) (1 + c .before .before .before .before .before .before .next .given .0 .1 .0) (c .before .before .before .before .before .before .before .before .before .before .args .at) (length (c .before .before .before .before .before .before .before .before .before .before .args .text .now)) (c .aligned .ensures .1) (omega arith) (omega (arith, i .1)),
     )

@@ -2,7 +2,7 @@
 use mathlib.Core.Path.{sym, ap, _∙_}
 use native.Mathlib.Omega.{arith}
 use lib.ListN.{length}
-use Rattle.luck_linter.specs.Pack.{state, optionStep, packStep}
+use Rattle.luck_linter.specs.Pack.{state, optionTurn, packTurn}
 use Rattle.luck_linter.specs.Inner.{optionRead}
 use Rattle.luck_linter.proofs.Packs.{option-inside}
 use borrow.Author.Needs.{needs}
@@ -15,19 +15,19 @@ scan-pack-option-requires c κs = search needs
 enum-known-read : tie.Need-enum-known-read
 enum-known-read c = search needs
 
-option-step-requires : tie.Need-option-step-requires
-option-step-requires c κs = let i = option-inside (c .before .before .before .scan-pack-option .result) (c .before .read .given .0 .0) (c .before .read .given .0 .1 .0) (c .before .before .before .before .before .args .at) (length (c .before .before .before .before .before .args .text .now)) (c .before .read .given .1) (c .before .before .before .scan-pack-option .ensures .1) in (omega arith, i .0, i .1)
+option-turn-requires : tie.Need-option-turn-requires
+option-turn-requires c κs = let i = option-inside (c .before .before .before .scan-pack-option .result) (c .before .read .given .0 .0) (c .before .read .given .0 .1 .0) (c .before .before .before .before .before .args .at) (length (c .before .before .before .before .before .args .text .now)) (c .before .read .given .1) (c .before .before .before .scan-pack-option .ensures .1) in (omega arith, i .0, i .1)
 
 enum-known-read-2 : tie.Need-enum-known-read-2
 enum-known-read-2 c = search needs
 
 returns : tie.Need-returns
-unfolding packStep
-returns c = (λ values. c .option-step .ensures .0 values ∙ ap (optionStep (c .before .before .before .before .before .before .args .is-packsize) (c .before .before .before .before .before .before .args .text .now) (c .before .before .before .before .before .before .args .at) (state values (c .before .before .before .before .before .before .args .alignment))) (ap optionRead (sym (c .before .before .read .given .1)) ∙ c .before .before .before .before .scan-pack-option .ensures .0), c .option-step .ensures .1)
+unfolding packTurn
+returns c = (λ values. c .option-turn .ensures .0 values ∙ ap (optionTurn (c .before .before .before .before .before .before .args .is-packsize) (c .before .before .before .before .before .before .args .text .now) (c .before .before .before .before .before .before .args .at) (state values (c .before .before .before .before .before .before .args .alignment))) (ap optionRead (sym (c .before .before .read .given .1)) ∙ c .before .before .before .before .scan-pack-option .ensures .0), c .option-turn .ensures .1)
 
 returns-2 : tie.Need-returns-2
-unfolding packStep optionStep
-returns-2 c = (λ values. ap (optionStep (c .before .before .before .before .before .args .is-packsize) (c .before .before .before .before .before .args .text .now) (c .before .before .before .before .before .args .at) (state values (c .before .before .before .before .before .args .alignment))) (ap optionRead (sym (c .before .read2 .given .1)) ∙ c .before .before .before .scan-pack-option .ensures .0), tt)
+unfolding packTurn optionTurn
+returns-2 c = (λ values. ap (optionTurn (c .before .before .before .before .before .args .is-packsize) (c .before .before .before .before .before .args .text .now) (c .before .before .before .before .before .args .at) (state values (c .before .before .before .before .before .args .alignment))) (ap optionRead (sym (c .before .read2 .given .1)) ∙ c .before .before .before .scan-pack-option .ensures .0), tt)
 
 pub scan-option-spec : {M : Type 1} → statement M
 scan-option-spec =
@@ -35,7 +35,7 @@ scan-option-spec =
     (tie.spec
     scan-pack-option-requires
     enum-known-read
-    option-step-requires
+    option-turn-requires
     enum-known-read-2
     returns
     returns-2)

@@ -22,33 +22,33 @@ loop-holds c = (omega arith, omega arith, start (c .before .args .is-packsize) (
 scan-option-requires : tie.Need-scan-option-requires Inv-loop μ-loop
 scan-option-requires c κs = search needs
 
-enum-known-step : tie.Need-enum-known-step Inv-loop μ-loop
-enum-known-step c = search needs
+enum-known-turn : tie.Need-enum-known-turn Inv-loop μ-loop
+enum-known-turn c = search needs
 
 add-values : tie.Need-add-values Inv-loop μ-loop
 add-values c = omega arith
 
 add-at : tie.Need-add-at Inv-loop μ-loop
-add-at c = let i = step-inside (c .before .before .before .before .before .before .before .before .args .is-packsize) (c .before .before .before .before .before .before .before .before .args .text .now) (c .before .before .before .before .before .before .loop .at) (c .before .before .before .before .before .before .loop .values) (c .before .before .before .before .before .before .loop .alignment) _ (c .before .before .before .before .before .before .loop .inv .2) (c .before .before .before .before .scan-option .result) (c .before .before .before .before .scan-option .ensures .0 (c .before .before .before .before .before .before .loop .values)) (c .before .before .before .before .scan-option .ensures .1) (c .before .before .step .given .0 .0) (c .before .before .step .given .0 .1 .0) (c .before .before .step .given .0 .1 .1 .0) (c .before .before .step .given .1) in omega arith
+add-at c = let i = step-inside (c .before .before .before .before .before .before .before .before .args .is-packsize) (c .before .before .before .before .before .before .before .before .args .text .now) (c .before .before .before .before .before .before .loop .at) (c .before .before .before .before .before .before .loop .values) (c .before .before .before .before .before .before .loop .alignment) _ (c .before .before .before .before .before .before .loop .inv .2) (c .before .before .before .before .scan-option .result) (c .before .before .before .before .scan-option .ensures .0 (c .before .before .before .before .before .before .loop .values)) (c .before .before .before .before .scan-option .ensures .1) (c .before .before .turn .given .0 .0) (c .before .before .turn .given .0 .1 .0) (c .before .before .turn .given .0 .1 .1 .0) (c .before .before .turn .given .1) in omega arith
 
 loop-less : tie.Need-loop-less Inv-loop μ-loop
-loop-less c = let i = step-inside (c .before .before .before .before .before .before .before .before .args .is-packsize) (c .before .before .before .before .before .before .before .before .args .text .now) (c .before .before .before .before .before .before .loop .at) (c .before .before .before .before .before .before .loop .values) (c .before .before .before .before .before .before .loop .alignment) _ (c .before .before .before .before .before .before .loop .inv .2) (c .before .before .before .before .scan-option .result) (c .before .before .before .before .scan-option .ensures .0 (c .before .before .before .before .before .before .loop .values)) (c .before .before .before .before .scan-option .ensures .1) (c .before .before .step .given .0 .0) (c .before .before .step .given .0 .1 .0) (c .before .before .step .given .0 .1 .1 .0) (c .before .before .step .given .1) in omega arith
+loop-less c = let i = step-inside (c .before .before .before .before .before .before .before .before .args .is-packsize) (c .before .before .before .before .before .before .before .before .args .text .now) (c .before .before .before .before .before .before .loop .at) (c .before .before .before .before .before .before .loop .values) (c .before .before .before .before .before .before .loop .alignment) _ (c .before .before .before .before .before .before .loop .inv .2) (c .before .before .before .before .scan-option .result) (c .before .before .before .before .scan-option .ensures .0 (c .before .before .before .before .before .before .loop .values)) (c .before .before .before .before .scan-option .ensures .1) (c .before .before .turn .given .0 .0) (c .before .before .turn .given .0 .1 .0) (c .before .before .turn .given .0 .1 .1 .0) (c .before .before .turn .given .1) in omega arith
 
 loop-again : tie.Need-loop-again Inv-loop μ-loop
 loop-again c =
-    let i = step-inside (c .before .before .before .before .before .before .before .before .args .is-packsize) (c .before .before .before .before .before .before .before .before .args .text .now) (c .before .before .before .before .before .before .loop .at) (c .before .before .before .before .before .before .loop .values) (c .before .before .before .before .before .before .loop .alignment) _ (c .before .before .before .before .before .before .loop .inv .2) (c .before .before .before .before .scan-option .result) (c .before .before .before .before .scan-option .ensures .0 (c .before .before .before .before .before .before .loop .values)) (c .before .before .before .before .scan-option .ensures .1) (c .before .before .step .given .0 .0) (c .before .before .step .given .0 .1 .0) (c .before .before .step .given .0 .1 .1 .0) (c .before .before .step .given .1) in
-    let g = c .before .before .step .given .0 in
+    let i = step-inside (c .before .before .before .before .before .before .before .before .args .is-packsize) (c .before .before .before .before .before .before .before .before .args .text .now) (c .before .before .before .before .before .before .loop .at) (c .before .before .before .before .before .before .loop .values) (c .before .before .before .before .before .before .loop .alignment) _ (c .before .before .before .before .before .before .loop .inv .2) (c .before .before .before .before .scan-option .result) (c .before .before .before .before .scan-option .ensures .0 (c .before .before .before .before .before .before .loop .values)) (c .before .before .before .before .scan-option .ensures .1) (c .before .before .turn .given .0 .0) (c .before .before .turn .given .0 .1 .0) (c .before .before .turn .given .0 .1 .1 .0) (c .before .before .turn .given .1) in
+    let g = c .before .before .turn .given .0 in
     let after = counted (g .1 .0) (c .before .before .before .before .before .before .loop .values) (g .1 .1 .0) (c .if1 .values) (⊎-elim (λ w. inl (w .0 .taken, w .1)) (λ w. inr (w .0 .left, w .1)) (c .if1 .came)) in (
       omega arith,
       ⊎-elim (λ w. omega arith) (λ w. omega arith) (c .if1 .came),
-      ap (on (c .before .before .before .before .before .before .before .before .args .is-packsize) (c .before .before .before .before .before .before .before .before .args .text .now) (c .before .before .before .before .before .before .loop .at + g .0)) (sym after) ∙ turn (c .before .before .before .before .before .before .before .before .args .is-packsize) (c .before .before .before .before .before .before .before .before .args .text .now) (c .before .before .before .before .before .before .loop .at) (c .before .before .before .before .before .before .loop .values) (c .before .before .before .before .before .before .loop .alignment) _ (c .before .before .before .before .before .before .loop .inv .2) (c .before .before .before .before .scan-option .result) (c .before .before .before .before .scan-option .ensures .0 (c .before .before .before .before .before .before .loop .values)) (c .before .before .before .before .scan-option .ensures .1) (c .before .before .step .given .0 .0) (c .before .before .step .given .0 .1 .0) (c .before .before .step .given .0 .1 .1 .0) (c .before .before .step .given .1),
+      ap (on (c .before .before .before .before .before .before .before .before .args .is-packsize) (c .before .before .before .before .before .before .before .before .args .text .now) (c .before .before .before .before .before .before .loop .at + g .0)) (sym after) ∙ turn (c .before .before .before .before .before .before .before .before .args .is-packsize) (c .before .before .before .before .before .before .before .before .args .text .now) (c .before .before .before .before .before .before .loop .at) (c .before .before .before .before .before .before .loop .values) (c .before .before .before .before .before .before .loop .alignment) _ (c .before .before .before .before .before .before .loop .inv .2) (c .before .before .before .before .scan-option .result) (c .before .before .before .before .scan-option .ensures .0 (c .before .before .before .before .before .before .loop .values)) (c .before .before .before .before .scan-option .ensures .1) (c .before .before .turn .given .0 .0) (c .before .before .turn .given .0 .1 .0) (c .before .before .turn .given .0 .1 .1 .0) (c .before .before .turn .given .1),
     )
 
-enum-known-step-2 : tie.Need-enum-known-step-2 Inv-loop μ-loop
-enum-known-step-2 c = search needs
+enum-known-turn-2 : tie.Need-enum-known-turn-2 Inv-loop μ-loop
+enum-known-turn-2 c = search needs
 
 returns : tie.Need-returns Inv-loop μ-loop
-returns c = stopped (c .before .before .before .before .before .before .before .args .is-packsize) (c .before .before .before .before .before .before .before .args .text .now) (c .before .before .before .before .before .loop .at) (c .before .before .before .before .before .loop .values) (c .before .before .before .before .before .loop .alignment) _ (c .before .before .before .before .before .loop .inv .2) (c .before .before .before .scan-option .result) (c .before .before .before .scan-option .ensures .0 (c .before .before .before .before .before .loop .values)) (c .before .before .before .scan-option .ensures .1) (c .before .step2 .given .0 .0) (c .before .step2 .given .1) (c .before .before .before .before .loop-test .taken)
+returns c = stopped (c .before .before .before .before .before .before .before .args .is-packsize) (c .before .before .before .before .before .before .before .args .text .now) (c .before .before .before .before .before .loop .at) (c .before .before .before .before .before .loop .values) (c .before .before .before .before .before .loop .alignment) _ (c .before .before .before .before .before .loop .inv .2) (c .before .before .before .scan-option .result) (c .before .before .before .scan-option .ensures .0 (c .before .before .before .before .before .loop .values)) (c .before .before .before .scan-option .ensures .1) (c .before .turn2 .given .0 .0) (c .before .turn2 .given .1) (c .before .before .before .before .loop-test .taken)
 
 returns-2 : tie.Need-returns-2 Inv-loop μ-loop
 returns-2 c = done (c .before .before .before .args .is-packsize) (c .before .before .before .args .text .now) (c .before .loop .at) (c .before .loop .values) (c .before .loop .alignment) _ (c .before .loop .inv .2) (c .loop-test .left)
@@ -61,11 +61,11 @@ scan-pack-format-spec =
     μ-loop
     loop-holds
     scan-option-requires
-    enum-known-step
+    enum-known-turn
     add-values
     add-at
     loop-less
     loop-again
-    enum-known-step-2
+    enum-known-turn-2
     returns
     returns-2)

@@ -2,7 +2,7 @@
 use mathlib.Core.Path.{ap}
 use Rattle.luck_token.specs.declared.utf8.Char.{Char}
 use Rattle.luck_linter.specs.declared.format_pattern.PatternError.the-variants.{VariableLengthPackOption}
-use Rattle.luck_linter.specs.declared.format_pattern.pack.Step.the-variants.{Fault}
+use Rattle.luck_linter.specs.declared.format_pattern.pack.Turn.the-variants.{Fault}
 use borrow.Author.Needs.{needs}
 use Rattle.luck_linter.proofs.format_pattern.pack.variable_length.Statement.{statement}
 use Rattle.luck_linter.proofs.format_pattern.pack.variable_length.Tie as tie

@@ -2,7 +2,7 @@
 use mathlib.Core.Path.{_≡_, refl, sym, ap, subst, _∙_}
 use Rattle.luck_linter.specs.Answer.{textAnswer}
 use Rattle.luck_token.specs.Version.{rulesOf}
-use Rattle.luck_linter.specs.Replacement.{pieces, piecesWalk, checkReplacement}
+use Rattle.luck_linter.specs.Replacement.{countOf, pieces, piecesWalk, checkReplacement}
 use borrow.Author.Needs.{needs}
 use Rattle.luck_linter.proofs.format_pattern.replacement.validate_gsub_replacement.Statement.{statement}
 use Rattle.luck_linter.proofs.format_pattern.replacement.validate_gsub_replacement.Tie as tie
@@ -30,15 +30,15 @@ enum-told-2 c = search needs
 
 returns : tie.Need-returns
 unfolding checkReplacement
-returns c = c .as-checked .ensures ∙ c .before .scan-replacement .ensures ∙ ap (λ r. piecesWalk (r .«strict_gsub_replacement») (c .before .before .before .before .before .before .before .args .captures) (pieces (c .before .before .before .before .before .before .before .args .text .now)) 0) (c .before .before .rules-of .ensures) ∙ ap (λ t. textAnswer t (piecesWalk (rulesOf (c .before .before .before .before .before .before .before .args .version) .«strict_gsub_replacement») (c .before .before .before .before .before .before .before .args .captures) (pieces (c .before .before .before .before .before .before .before .args .text .now)) 0)) (sym (c .before .before .before .enum-told .given .1)) ∙ c .before .before .before .before .before .read-text .ensures (piecesWalk (rulesOf (c .before .before .before .before .before .before .before .args .version) .«strict_gsub_replacement») (c .before .before .before .before .before .before .before .args .captures) (pieces (c .before .before .before .before .before .before .before .args .text .now)) 0)
+returns c = c .as-checked .ensures ∙ c .before .scan-replacement .ensures ∙ ap (λ r. piecesWalk (r .«strict_gsub_replacement») (countOf (c .before .before .before .before .before .before .before .args .captures)) (pieces (c .before .before .before .before .before .before .before .args .text .now)) 0) (c .before .before .rules-of .ensures) ∙ ap (λ t. textAnswer t (piecesWalk (rulesOf (c .before .before .before .before .before .before .before .args .version) .«strict_gsub_replacement») (countOf (c .before .before .before .before .before .before .before .args .captures)) (pieces (c .before .before .before .before .before .before .before .args .text .now)) 0)) (sym (c .before .before .before .enum-told .given .1)) ∙ c .before .before .before .before .before .read-text .ensures (piecesWalk (rulesOf (c .before .before .before .before .before .before .before .args .version) .«strict_gsub_replacement») (countOf (c .before .before .before .before .before .before .before .args .captures)) (pieces (c .before .before .before .before .before .before .before .args .text .now)) 0)
 
 returns-2 : tie.Need-returns-2
 unfolding checkReplacement
-returns-2 c = ap (λ t. textAnswer t (piecesWalk (rulesOf (c .before .before .before .before .before .args .version) .«strict_gsub_replacement») (c .before .before .before .before .before .args .captures) (pieces (c .before .before .before .before .before .args .text .now)) 0)) (sym (c .before .read .given .1)) ∙ c .before .before .before .read-text .ensures (piecesWalk (rulesOf (c .before .before .before .before .before .args .version) .«strict_gsub_replacement») (c .before .before .before .before .before .args .captures) (pieces (c .before .before .before .before .before .args .text .now)) 0)
+returns-2 c = ap (λ t. textAnswer t (piecesWalk (rulesOf (c .before .before .before .before .before .args .version) .«strict_gsub_replacement») (countOf (c .before .before .before .before .before .args .captures)) (pieces (c .before .before .before .before .before .args .text .now)) 0)) (sym (c .before .read .given .1)) ∙ c .before .before .before .read-text .ensures (piecesWalk (rulesOf (c .before .before .before .before .before .args .version) .«strict_gsub_replacement») (countOf (c .before .before .before .before .before .args .captures)) (pieces (c .before .before .before .before .before .args .text .now)) 0)
 
 returns-3 : tie.Need-returns-3
 unfolding checkReplacement
-returns-3 c = ap (λ t. textAnswer t (piecesWalk (rulesOf (c .before .before .before .before .args .version) .«strict_gsub_replacement») (c .before .before .before .before .args .captures) (pieces (c .before .before .before .before .args .text .now)) 0)) (sym (c .enum-told2 .given .1)) ∙ c .before .before .read-text .ensures (piecesWalk (rulesOf (c .before .before .before .before .args .version) .«strict_gsub_replacement») (c .before .before .before .before .args .captures) (pieces (c .before .before .before .before .args .text .now)) 0)
+returns-3 c = ap (λ t. textAnswer t (piecesWalk (rulesOf (c .before .before .before .before .args .version) .«strict_gsub_replacement») (countOf (c .before .before .before .before .args .captures)) (pieces (c .before .before .before .before .args .text .now)) 0)) (sym (c .enum-told2 .given .1)) ∙ c .before .before .read-text .ensures (piecesWalk (rulesOf (c .before .before .before .before .args .version) .«strict_gsub_replacement») (countOf (c .before .before .before .before .args .captures)) (pieces (c .before .before .before .before .args .text .now)) 0)
 
 pub validate-gsub-replacement-spec : {M : Type 1} → statement M
 validate-gsub-replacement-spec =

@@ -8,6 +8,7 @@ use Rattle.luck_token.specs.Literal.{placesOf}
 use Rattle.luck_token.proofs.Literals.{both-quotes}
 use Rattle.luck_linter.specs.StringLiteral.{checkBody}
 use Rattle.luck_linter.proofs.StringLiterals as laws
+use Rattle.luck_linter.specs.Replacement.{countOf}
 use borrow.Author.Needs.{needs}
 use Rattle.luck_linter.proofs.rules.format_string.check_short.Statement.{statement}
 use Rattle.luck_linter.proofs.rules.format_string.check_short.Tie as tie
@@ -36,10 +37,10 @@ enum-told c = search needs
 returns : tie.Need-returns
 returns c =
     let s = laws.short-places (c .before .before .before .before .before .before .before .args .text .now) (c .before .before .before .found .given .0 .0) (c .before .before .before .found .given .0 .1 .0) (sym (ap placesOf (c .before .before .before .found .given .1)) ∙ c .before .before .before .before .before .short-string-body .ensures) in
-    c .check-body .ensures ∙ ap₂ (λ (a b : ℕ). checkBody (c .before .before .before .before .before .before .before .args .kind) (c .before .before .before .before .before .before .before .args .rules) (c .before .before .before .before .before .before .before .args .captures) (c .before .before .before .before .before .before .before .args .start) (part (c .before .before .before .before .before .before .before .args .text .now) a b)) (s .1) (s .2) ∙ laws.short (c .before .before .before .before .before .before .before .args .kind) (c .before .before .before .before .before .before .before .args .rules) (c .before .before .before .before .before .before .before .args .captures) (c .before .before .before .before .before .before .before .args .start) (c .before .before .before .before .before .before .before .args .text .now) (s .0)
+    c .check-body .ensures ∙ ap₂ (λ (a b : ℕ). checkBody (c .before .before .before .before .before .before .before .args .kind) (c .before .before .before .before .before .before .before .args .rules) (countOf (c .before .before .before .before .before .before .before .args .captures)) (c .before .before .before .before .before .before .before .args .start) (part (c .before .before .before .before .before .before .before .args .text .now) a b)) (s .1) (s .2) ∙ laws.short (c .before .before .before .before .before .before .before .args .kind) (c .before .before .before .before .before .before .before .args .rules) (countOf (c .before .before .before .before .before .before .before .args .captures)) (c .before .before .before .before .before .before .before .args .start) (c .before .before .before .before .before .before .before .args .text .now) (s .0)
 
 returns-2 : tie.Need-returns-2
-returns-2 c = laws.no-short (c .before .before .before .before .args .kind) (c .before .before .before .before .args .rules) (c .before .before .before .before .args .captures) (c .before .before .before .before .args .start) (c .before .before .before .before .args .text .now) (laws.no-places (c .before .before .before .before .args .text .now) (sym (ap placesOf (c .enum-told .given .1)) ∙ c .before .before .short-string-body .ensures))
+returns-2 c = laws.no-short (c .before .before .before .before .args .kind) (c .before .before .before .before .args .rules) (countOf (c .before .before .before .before .args .captures)) (c .before .before .before .before .args .start) (c .before .before .before .before .args .text .now) (laws.no-places (c .before .before .before .before .args .text .now) (sym (ap placesOf (c .enum-told .given .1)) ∙ c .before .before .short-string-body .ensures))
 
 pub check-short-spec : {M : Type 1} → statement M
 check-short-spec =
