@@ -2,4 +2,10 @@
 
 extern crate alloc;
 
+// luck's modules look for each other at the crate's root.
+pub use span::*;
+pub use string::*;
+pub use version::*;
+pub use whitespace::*;
+
 include!(concat!(env!("OUT_DIR"), "/root.rs"));
