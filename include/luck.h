@@ -1,0 +1,169 @@
+/*
+ * luck.h: checks of Lua string literals, for Lua 5.1 to 5.5 and Luau.
+ *
+ * Link libluck.a, which `rt staticlib luck` writes to target/staticlib. It needs no other library. C99 and C++.
+ *
+ * For every function:
+ *
+ * - `version` is 1 to 5 for Lua 5.1 to 5.5 and 6 for Luau. Another number is refused (25).
+ * - A text is a pointer and a count of bytes, any bytes, zero bytes among them; no text ends in a zero byte of its own. With
+ *   a count of 0 the pointer is not read and may be null. With any other count it points to so many readable bytes.
+ * - A `bool` is false or true: what C and C++ do by themselves, and what another language has to see to.
+ * - The functions keep no state, allocate nothing, and write nothing but the output that decoding is lent. They may run in
+ *   any number of threads at once, also on the same text.
+ *
+ * The refusals, by `number`, with their names behind LUCK_. 0 is none: accepted, decoded, or skipped.
+ *
+ *    format
+ *    1  TRUNCATED_SPECIFIER   the text ends behind a `%` or its modifiers (patterns too: behind `%`, or inside `%b`); at the `%`
+ *    2  UNKNOWN_SPECIFIER     no conversion of this version; carries the character
+ *    3  BAD_FLAG              the sixth flag of a specifier; carries it (versions 1, 2, 3 and 6)
+ *    4  BAD_WIDTH             a width of more than two digits; at its first (versions 1, 2, 3 and 6)
+ *    5  BAD_PRECISION         a precision of more than two digits; at its first (versions 1, 2, 3 and 6)
+ *    6  BAD_MODIFIER          a modifier that the conversion does not take; carries it, and the conversion (versions 4 and 5)
+ *    7  LONG_SPECIFIER        21 or more modifiers; at the first (versions 4 and 5)
+ *    pattern
+ *    8  UNTERMINATED_SET      a set without its `]`; at its `[`
+ *    9  EMPTY_SET             a `[]` or `[^]` that ends the text; at its `[`
+ *   10  BAD_ESCAPE            a `%f` without a set behind it; at its `%`; carries the `f`
+ *   11  UNMATCHED_CAPTURE     a `)` without an open capture; or a `(` that is never closed, then at the text's end
+ *   12  TOO_MANY_CAPTURES     the 33rd capture
+ *   13  BAD_BACK_REFERENCE    `%0`, or `%1` to `%9` of a capture that was not seen or is still open; at the digit
+ *    pack and packsize
+ *   14  INVALID_PACK_OPTION   no option, or one that `X` can't align to; carries the character
+ *   15  TRUNCATED_PACK_SIZE   a `c` without a size, or an `X` at the text's end; at the place behind it
+ *   16  PACK_SIZE_LIMITS      a size that is not 1 to 16; at its first digit
+ *   17  BAD_PACK_ALIGNMENT    an alignment that is no power of 2; at the option
+ *   18  VARIABLE_LENGTH       an `s` or `z` in a packsize format; carries it
+ *    replacement and date
+ *   19  LONE_PERCENT          the text ends in a single `%`
+ *   20  BAD_REPLACEMENT       a replacement's `%` before something other than a digit or `%`; at that
+ *   21  CAPTURE_INDEX         a replacement's digit above the larger of the known count of captures and 1; at the digit
+ *   22  BAD_DATE_SPECIFIER    a date's `%` before something other than a conversion of this version; at that
+ *    any text
+ *   23  NOT_UTF8              not UTF-8 (RFC 3629); at the first byte of the first ill-formed sequence
+ *   24  UNDECODABLE           no whole literal, or an escape that this version does not have (decoding only); without a place
+ *   25  UNKNOWN_VERSION       `version` is not 1 to 6; without a place
+ *   26  OUTPUT_TOO_SHORT      the value is longer than the output (decoding only); without a place
+ *   30  UNKNOWN_KIND          `kind` is none of the six letters (luck_check_literal only); without a place
+ *
+ * 25 is tested first (by luck_check_literal: 30, then 25), then 23, then the text from its front: the first fault is the answer.
+ * Decoding tests 25, 23, 24, 26.
+ */
+#ifndef LUCK_H
+#define LUCK_H
+
+#include <stdbool.h>
+#include <stddef.h>
+#include <stdint.h>
+
+#ifdef __cplusplus
+extern "C" {
+#endif
+
+enum {
+    LUCK_ACCEPTED = 0,
+    LUCK_TRUNCATED_SPECIFIER = 1,
+    LUCK_UNKNOWN_SPECIFIER = 2,
+    LUCK_BAD_FLAG = 3,
+    LUCK_BAD_WIDTH = 4,
+    LUCK_BAD_PRECISION = 5,
+    LUCK_BAD_MODIFIER = 6,
+    LUCK_LONG_SPECIFIER = 7,
+    LUCK_UNTERMINATED_SET = 8,
+    LUCK_EMPTY_SET = 9,
+    LUCK_BAD_ESCAPE = 10,
+    LUCK_UNMATCHED_CAPTURE = 11,
+    LUCK_TOO_MANY_CAPTURES = 12,
+    LUCK_BAD_BACK_REFERENCE = 13,
+    LUCK_INVALID_PACK_OPTION = 14,
+    LUCK_TRUNCATED_PACK_SIZE = 15,
+    LUCK_PACK_SIZE_LIMITS = 16,
+    LUCK_BAD_PACK_ALIGNMENT = 17,
+    LUCK_VARIABLE_LENGTH = 18,
+    LUCK_LONE_PERCENT = 19,
+    LUCK_BAD_REPLACEMENT = 20,
+    LUCK_CAPTURE_INDEX = 21,
+    LUCK_BAD_DATE_SPECIFIER = 22,
+    LUCK_NOT_UTF8 = 23,
+    LUCK_UNDECODABLE = 24,
+    LUCK_UNKNOWN_VERSION = 25,
+    LUCK_OUTPUT_TOO_SHORT = 26,
+    LUCK_UNKNOWN_KIND = 30
+};
+
+/* What a check of a body answers. */
+typedef struct {
+    uint32_t number; /* 0: accepted; else the refusal */
+    uint32_t first;  /* the character that the refusal carries, as a code point; 0 for none. A zero byte looks like none. */
+    uint32_t second; /* the second one: the conversion of BAD_MODIFIER, else 0 */
+    size_t offset;   /* the byte of the body that is at fault, at most its length; 0 where accepted or without a place */
+    size_t count;    /* accepted: the count that the function speaks of; else 0 */
+} luck_answer;
+
+/* A body is a literal's text between its quotes, its escapes as they are written. */
+
+/* A format of string.format. `count`: the arguments that its specifiers take. */
+luck_answer luck_check_format(uint32_t version, const uint8_t *body, size_t len);
+
+/* A pattern of string.find, match, gmatch and gsub. `count`: its captures, `()` included. */
+luck_answer luck_check_pattern(uint32_t version, const uint8_t *body, size_t len);
+
+/* A format of string.pack and unpack. `count`: its values. A version that has no string.pack is checked in the same way. */
+luck_answer luck_check_pack(uint32_t version, const uint8_t *body, size_t len);
+
+/* A format of string.packsize, which has no option of variable length. `count`: its values. */
+luck_answer luck_check_packsize(uint32_t version, const uint8_t *body, size_t len);
+
+/* A format of os.date. `count` is 0. */
+luck_answer luck_check_date(uint32_t version, const uint8_t *body, size_t len);
+
+/*
+ * A replacement of string.gsub. `captures` is the count of the pattern's captures, any number, where `known` is true; where it
+ * is false, `captures` is not looked at and no digit is refused. `count` is 0.
+ */
+luck_answer luck_check_replacement(uint32_t version, bool known, size_t captures, const uint8_t *body, size_t len);
+
+/* What the check of a literal answers. */
+typedef struct {
+    uint32_t number; /* 0: accepted or skipped; else the refusal */
+    uint32_t first;  /* as in luck_answer */
+    uint32_t second; /* as in luck_answer */
+    bool skipped;    /* not checked; all else is 0 and false */
+    bool spanned;    /* `start` and `end` hold the span of a fault in the body; refusals 23, 25 and 30 have none */
+    uint32_t start;  /* the source's offset of the character at fault; 4,294,967,295 where it does not fit */
+    uint32_t end;    /* the offset behind that character, or one behind `start` where the fault is at the body's end; likewise */
+    size_t offset;   /* the fault's place in the body, as in luck_answer; for 23 in the text, its quote included */
+    size_t count;    /* as in luck_answer, by the kind */
+} luck_literal;
+
+/*
+ * A literal as it stands in a source, with its quotes; `start` is the offset of its first byte there. `kind` is 'F' (format),
+ * 'P' (pattern), 'K' (pack), 'S' (packsize), 'G' (replacement, with `known` and `captures` as above) or 'D' (date); for the
+ * others `known` and `captures` are not looked at.
+ *
+ * It skips a text that is not in two equal quotes, and one with an escape `\0` to `\9`, `\x` or `\u`, which could spell a
+ * byte that the check reads. Other escapes are read as they are written.
+ */
+luck_literal luck_check_literal(uint8_t kind, uint32_t version, bool known, size_t captures, uint32_t start, const uint8_t *text, size_t len);
+
+/* What decoding answers. */
+typedef struct {
+    uint32_t number; /* 0: decoded; else the refusal */
+    size_t offset;   /* for 23 its place in the text; else 0 */
+    size_t written;  /* decoded: the value's length; else 0 */
+} luck_decoded;
+
+/*
+ * The bytes that a literal stands for: short in two equal quotes, or in long brackets. They are written to the front of
+ * `output`, which has room for `room` bytes, and no byte behind them is touched; a refusal leaves the whole output untouched.
+ * A value is never longer than its literal, so a room of `len` bytes is always enough. With a room of 0, `output` may be null.
+ * `text` and `output` must not overlap.
+ */
+luck_decoded luck_decode_string(uint32_t version, const uint8_t *text, size_t len, uint8_t *output, size_t room);
+
+#ifdef __cplusplus
+}
+#endif
+
+#endif
