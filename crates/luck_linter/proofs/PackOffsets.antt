@@ -7,7 +7,7 @@ use mathlib.Core.Bool.{Bool}
 use mathlib.Core.List.{List}
 use mathlib.Core.Option.{Option, none, some}
 use lib.ListN.{length}
-use borrow.Author.Tests.{ltb-true}
+use borrow.Author.Tests.{leb-false}
 use Rattle.luck_token.specs.Bytes.{byteAt}
 use Rattle.luck_token.specs.Walk.{Turn}
 use Rattle.luck_token.specs.Walk.Turn.{stop, goes}
@@ -15,28 +15,40 @@ use Rattle.luck_token.proofs.Cases.{by-test}
 use Rattle.luck_linter.specs.Answer.{Answer}
 use Rattle.luck_linter.proofs.Offsets.{Stops, walk-every}
 use Rattle.luck_linter.specs.Pack.{
+  PackOption,
   Read,
   option,
   fault,
-  limited,
+  getnumlimit,
   fixedString,
-  plainOption,
-  sizedOption,
-  optionBy,
-  optionAt,
+  numberedOption,
+  getoption,
+  KOption,
+  Kint,
+  Kuint,
+  Kfloat,
+  Knumber,
+  Kdouble,
+  Kchar,
+  Kstring,
+  Kzstr,
+  Kpadding,
+  Kpaddalign,
+  Knop,
+  kindOf,
   State,
   aligned,
   variable,
-  alignmentOf,
   alignBy,
+  alignmentOf,
   alignToNext,
+  kindTurn,
   optionTurn,
   packTurn,
   packEnd,
+  luckSize,
   packWalk,
 }
-use Rattle.luck_linter.specs.declared.format_pattern.pack.PackOption.{PackOption}
-use Rattle.luck_linter.specs.declared.format_pattern.pack.PackOption.the-variants.{Sized, Counted, ZeroTerminated, FixedString, Padding, AlignToNext, SetMaxAlignment, Control}
 
 module _ (packsize : Bool) (text : List ℕ) where
   abbrev Placed : Answer → Type 0
@@ -46,31 +58,25 @@ module _ (packsize : Bool) (text : List ℕ) where
   Reads (option o width) = Unit {0}
   Reads (fault a) = Placed a
 
-  limited-placed : (make : ℕ → PackOption) (default p : ℕ) → p ≤ length text → Reads (limited make default text p)
-  unfolding limited
-  limited-placed make default p h = by-test Reads _ _ _ (λ _. tt) (λ _. by-test Reads _ _ _ (λ _. tt) (λ _. h))
+  limited-placed : (letter p : ℕ) → p ≤ length text → Reads (getnumlimit letter text p)
+  unfolding getnumlimit
+  limited-placed letter p h = by-test Reads _ _ _ (λ _. tt) (λ _. by-test Reads _ _ _ (λ _. tt) (λ _. h))
 
   fixed-placed : (p : ℕ) → p ≤ length text → Reads (fixedString text p)
   unfolding fixedString
   fixed-placed p h = by-test Reads _ _ _ (λ _. h) (λ _. tt)
 
-  sized-placed : (p : ℕ) → p < length text → Reads (sizedOption text p)
-  unfolding sizedOption
-  sized-placed p h =
+  numbered-placed : (p : ℕ) → p < length text → Reads (numberedOption text p)
+  unfolding numberedOption
+  numbered-placed p h =
       let next : p + 1 ≤ length text = omega arith in
-      by-test Reads _ _ _ (λ _. limited-placed Sized 4 (p + 1) next)
-      (λ _. by-test Reads _ _ _ (λ _. limited-placed Counted 4 (p + 1) next)
-      (λ _. by-test Reads _ _ _ (λ _. limited-placed SetMaxAlignment 8 (p + 1) next)
-      (λ _. by-test Reads _ _ _ (λ _. fixed-placed (p + 1) next) (λ _. omega arith))))
+      by-test Reads _ _ _ (λ _. limited-placed (byteAt text p) (p + 1) next) (λ _. by-test Reads _ _ _ (λ _. fixed-placed (p + 1) next) (λ _. omega arith))
 
-  by-placed : (p : ℕ) (plain : Option PackOption) → p < length text → Reads (optionBy text p plain)
-  unfolding optionBy
-  by-placed p (some o) h = tt
-  by-placed p none h = sized-placed p h
-
-  option-placed : (p : ℕ) → p ≤ length text → Reads (optionAt text p)
-  unfolding optionAt
-  option-placed p h = by-test Reads _ _ _ (λ e. by-placed p (plainOption (byteAt text p)) (ltb-true p (length text) e)) (λ _. h)
+  option-placed : (p : ℕ) → p ≤ length text → Reads (getoption text p)
+  unfolding getoption
+  option-placed p h =
+      by-test Reads _ _ _ (λ _. h)
+      (λ e. by-test Reads _ _ _ (λ _. tt) (λ _. numbered-placed p (leb-false (length text) p e)))
 
   abbrev Steps : Turn State Answer → Type 0
   Steps t = Stops Placed t
@@ -92,26 +98,33 @@ module _ (packsize : Bool) (text : List ℕ) where
     align-placed width (some size) = aligned-placed (1 + width) size s
     align-placed width none = omega arith
 
-    next-placed : (next : Read) → Reads next → Steps (alignToNext text p s next)
+    next-placed : (next : Read) → Reads next → Steps (alignToNext luckSize text p s next)
     unfolding alignToNext
-    next-placed (option o width) r = align-placed width (alignmentOf o)
+    next-placed (option o width) r = align-placed width (alignmentOf luckSize (kindOf (o .letter)) o)
     next-placed (fault a) r = r
 
-    step-placed : (read : Read) → Reads read → Steps (optionTurn packsize text p s read)
+    kind-placed : (width : ℕ) (o : PackOption) (k : KOption) → Steps (kindTurn luckSize packsize text p s width o k)
+    unfolding kindTurn
+    kind-placed width o Kint = aligned-placed width (luckSize o) _
+    kind-placed width o Kuint = aligned-placed width (luckSize o) _
+    kind-placed width o Kfloat = aligned-placed width (luckSize o) _
+    kind-placed width o Knumber = aligned-placed width (luckSize o) _
+    kind-placed width o Kdouble = aligned-placed width (luckSize o) _
+    kind-placed width o Kchar = tt
+    kind-placed width o Kstring = variable-placed _ (aligned-placed width (luckSize o) _)
+    kind-placed width o Kzstr = variable-placed _ tt
+    kind-placed width o Kpadding = tt
+    kind-placed width o Kpaddalign = next-placed (getoption text (p + 1)) (option-placed (p + 1) (omega arith))
+    kind-placed width o Knop = tt
+
+    step-placed : (read : Read) → Reads read → Steps (optionTurn luckSize packsize text p s read)
     unfolding optionTurn
-    step-placed (option (Sized size) width) r = aligned-placed width size _
-    step-placed (option (Counted size) width) r = variable-placed _ (aligned-placed width size _)
-    step-placed (option ZeroTerminated width) r = variable-placed _ tt
-    step-placed (option FixedString width) r = tt
-    step-placed (option Padding width) r = tt
-    step-placed (option AlignToNext width) r = next-placed (optionAt text (p + 1)) (option-placed (p + 1) (omega arith))
-    step-placed (option (SetMaxAlignment n) width) r = tt
-    step-placed (option Control width) r = tt
+    step-placed (option o width) r = kind-placed width o (kindOf (o .letter))
     step-placed (fault a) r = r
 
-    item-placed : Steps (packTurn packsize text p s)
+    item-placed : Steps (packTurn luckSize packsize text p s)
     unfolding packTurn
-    item-placed = step-placed (optionAt text p) (option-placed p here)
+    item-placed = step-placed (getoption text p) (option-placed p here)
 
   end-placed : (p : ℕ) (s : State) → Placed (packEnd p s)
   unfolding packEnd
@@ -119,4 +132,4 @@ module _ (packsize : Bool) (text : List ℕ) where
 
   pub pack-offset : packWalk packsize text .offset ≤ length text
   unfolding packWalk
-  pack-offset = walk-every (packTurn packsize text) packEnd (length text) Placed (λ p s h. item-placed p h s) end-placed 0 _
+  pack-offset = walk-every (packTurn luckSize packsize text) packEnd (length text) Placed (λ p s h. item-placed p h s) end-placed 0 _

@@ -59,19 +59,23 @@ use Rattle.luck_linter.specs.Format.{
   checkFormat,
 }
 use Rattle.luck_linter.specs.Pack.{
-  limited,
+  getnumlimit,
   fixedString,
-  plainOption,
-  sizedOption,
-  optionBy,
-  optionAt,
+  numberedOption,
+  getoption,
+  kindOf,
+  numberOr,
+  luckSizeof,
+  luckSize,
+  maxalign,
   isPowerOfTwo,
   isMisaligned,
   aligned,
   variable,
-  alignmentOf,
   alignBy,
+  alignmentOf,
   alignToNext,
+  kindTurn,
   optionTurn,
   packTurn,
   packEnd,
@@ -111,5 +115,5 @@ starred =
     ∷ []
 
 pub starred-hold : All starred
-unfolding if_then_else_ among isDigit run digitValue numeralFrom numeral walk walkFrom isVersion versions has rulesOf rfc3629 tailsOf follow widthBy sequence sequenceAt noneIllFormed illFormed codePoint charAt afterVersion afterUtf8 checkText closeLatest isClosed allClosed headOf escapeOf escapeAt memberAt memberBy memberTurn membersEnd firstMember setEnd isEmptySet setAs setRead escapeAs escapeRead onward afterClose headTurn patternTurn patternEnd patternWalk checkPattern escaped pieces allowsDigit piecesWalk checkReplacement isFlag isModifier getFormat scanPrecision scanWidth scanFormat modifiersAt isConversion flagsFor flagsRun takesPrecision afterTwoDigits goodModifiers conversionTurn specifierTurn percentTurn formatTurn formatEnd formatWalk checkFormat limited fixedString plainOption sizedOption optionBy optionAt isPowerOfTwo isMisaligned aligned variable alignmentOf alignBy alignToNext optionTurn packTurn packEnd packWalk checkPack
+unfolding if_then_else_ among isDigit run digitValue numeralFrom numeral walk walkFrom isVersion versions has rulesOf rfc3629 tailsOf follow widthBy sequence sequenceAt noneIllFormed illFormed codePoint charAt afterVersion afterUtf8 checkText closeLatest isClosed allClosed headOf escapeOf escapeAt memberAt memberBy memberTurn membersEnd firstMember setEnd isEmptySet setAs setRead escapeAs escapeRead onward afterClose headTurn patternTurn patternEnd patternWalk checkPattern escaped pieces allowsDigit piecesWalk checkReplacement isFlag isModifier getFormat scanPrecision scanWidth scanFormat modifiersAt isConversion flagsFor flagsRun takesPrecision afterTwoDigits goodModifiers conversionTurn specifierTurn percentTurn formatTurn formatEnd formatWalk checkFormat getnumlimit fixedString numberedOption getoption kindOf numberOr luckSizeof luckSize maxalign isPowerOfTwo isMisaligned aligned variable alignBy alignmentOf alignToNext kindTurn optionTurn packTurn packEnd packWalk checkPack
 starred-hold = (refl, (refl, (refl, (refl, (refl, (refl, (refl, (refl, (refl, (refl, (refl, (refl, tt))))))))))))

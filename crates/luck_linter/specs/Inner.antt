@@ -1,10 +1,13 @@
 -- What the inner functions of the checks promise each other. No public contract rests on these.
 -- Assumes nothing.
 use Prim.Native.Nat.{ℕ, _+_, _^_, _<_, _≤_}
+use Prim.Native.Char.{code}
 use mathlib.Core.Path.{_≡_}
 use mathlib.Core.Bool.{Bool, true, false}
 use mathlib.Core.List.{List}
 use mathlib.Core.Option.{Option, none, some}
+use lib.Dec.{eqb}
+use Rattle.luck_token.specs.Bytes.{if_then_else_, among}
 use Rattle.luck_token.specs.Walk.{Turn, stop, goes}
 use Rattle.luck_linter.specs.Answer.{Answer, refusal}
 use Rattle.luck_linter.specs.Captures.{flagsOf}
@@ -20,6 +23,7 @@ use Rattle.luck_linter.specs.declared.format_pattern.format.Modifiers.th
 use Rattle.luck_linter.specs.declared.format_pattern.format.Specifier.{Specifier}
 use Rattle.luck_linter.specs.declared.format_pattern.format.Specifier.the-variants as specifier
 use Rattle.luck_linter.specs.declared.format_pattern.pack.PackOption.{PackOption}
+use Rattle.luck_linter.specs.declared.format_pattern.pack.PackOption.the-variants as option
 use Rattle.luck_linter.specs.declared.format_pattern.pack.Size.{Size}
 use Rattle.luck_linter.specs.declared.format_pattern.pack.Size.the-variants as size
 use Rattle.luck_linter.specs.declared.format_pattern.pack.Plain.{Plain}
@@ -74,22 +78,78 @@ GoesIn (specifier.Fault e) p len = Unit {0}
 
 -- ---- Pack formats
 
-abbrev pub sizeRead : (ℕ → PackOption) → Size → pack.Read
-sizeRead make (size.Of n width) = pack.option (make n) width
-sizeRead make (size.Fault e) = pack.fault (refusal e)
+-- what the code keeps of an option: its size, or the maximum alignment that it sets
+unfoldable pub keptAs : pack.KOption → pack.PackOption → PackOption
+keptAs pack.Kint o = option.Sized (pack.luckSize o)
+keptAs pack.Kuint o = option.Sized (pack.luckSize o)
+keptAs pack.Kfloat o = option.Sized (pack.luckSize o)
+keptAs pack.Knumber o = option.Sized (pack.luckSize o)
+keptAs pack.Kdouble o = option.Sized (pack.luckSize o)
+keptAs pack.Kchar o = option.FixedString
+keptAs pack.Kstring o = option.Counted (pack.luckSize o)
+keptAs pack.Kzstr o = option.ZeroTerminated
+keptAs pack.Kpadding o = option.Padding
+keptAs pack.Kpaddalign o = option.AlignToNext
+keptAs pack.Knop o = if eqb (o .letter) (code "!") then option.SetMaxAlignment (pack.numberOr 8 (o .number)) else option.Control
+
+unfoldable pub kept : pack.PackOption → PackOption
+kept o = keptAs (pack.kindOf (o .letter)) o
+
+-- what the code keeps of a reading
+pub data Kept : Type 0 where
+  keeps : PackOption → ℕ → Kept
+  faults : Answer → Kept
+
+unfoldable pub keptRead : pack.Read → Kept
+keptRead (pack.option o width) = keeps (kept o) width
+keptRead (pack.fault answer) = faults answer
+
+-- what it does with that
+unfoldable pub keptAlignment : PackOption → Option ℕ
+keptAlignment (option.Sized n) = some n
+keptAlignment (option.Counted n) = some n
+keptAlignment option.ZeroTerminated = none
+keptAlignment option.FixedString = none
+keptAlignment option.Padding = some 1
+keptAlignment option.AlignToNext = none
+keptAlignment (option.SetMaxAlignment n) = none
+keptAlignment option.Control = none
+
+unfoldable pub keptTurn : Bool → List ℕ → ℕ → pack.State → Kept → Turn pack.State Answer
+keptTurn packsize text p s (keeps (option.Sized n) width) = pack.aligned p width n s (pack.oneMore s)
+keptTurn packsize text p s (keeps (option.Counted n) width) = pack.variable packsize text p (pack.aligned p width n s (pack.oneMore s))
+keptTurn packsize text p s (keeps option.ZeroTerminated width) = pack.variable packsize text p (goes width (pack.oneMore s))
+keptTurn packsize text p s (keeps option.FixedString width) = goes width (pack.oneMore s)
+keptTurn packsize text p s (keeps option.Padding width) = goes width s
+keptTurn packsize text p s (keeps option.AlignToNext width) = pack.alignToNext pack.luckSize text p s (pack.getoption text (p + 1))
+keptTurn packsize text p s (keeps (option.SetMaxAlignment n) width) = goes width (pack.state (s .values) n)
+keptTurn packsize text p s (keeps option.Control width) = goes width s
+keptTurn packsize text p s (faults answer) = stop answer
+
+-- a size for an option that is made from it: the options of a letter with each number, the default standing for none
+abbrev pub Makes : (ℕ → PackOption) → ℕ → ℕ → Type 0
+Makes make default letter = (number : Option ℕ) → make (pack.numberOr default number) ≡ kept (pack.packOption letter number)
+
+abbrev pub sizeRead : (ℕ → PackOption) → Size → Kept
+sizeRead make (size.Of n width) = keeps (make n) width
+sizeRead make (size.Fault e) = faults (refusal e)
 
 -- the digits at p and the byte before them lie in the text
 abbrev pub SizeIn : Size → ℕ → ℕ → Type 0
 SizeIn (size.Of n width) p len = (0 < width) × (p + width ≤ len + 1)
 SizeIn (size.Fault e) p len = Unit {0}
 
+-- a letter without a number
+unfoldable pub keptPlain : ℕ → Option PackOption
+keptPlain letter = if among letter pack.bareLetters then some (kept (pack.packOption letter none)) else none
+
 abbrev pub plainRead : Plain → Option PackOption
 plainRead (plain.Of o) = some o
 plainRead plain.Other = none
 
-abbrev pub optionRead : PackRead → pack.Read
-optionRead (packread.Option o width) = pack.option o width
-optionRead (packread.Fault e) = pack.fault (refusal e)
+abbrev pub optionRead : PackRead → Kept
+optionRead (packread.Option o width) = keeps o width
+optionRead (packread.Fault e) = faults (refusal e)
 
 abbrev pub OptionIn : PackRead → ℕ → ℕ → Type 0
 OptionIn (packread.Option o width) p len = (0 < width) × (p + width ≤ len)

@@ -4,8 +4,8 @@ ghost use Prim.Native.Nat.{ℕ, _+_, _-_, _<_, _≤_};
 ghost use Rattle.luck_token.specs.Utf8.{charAt};
 ghost use lib.ListN.{length};
 ghost use Rattle.luck_linter.specs.Answer.{walkedOf, answerOf};
-ghost use Rattle.luck_linter.specs.Pack.{limited, fixedString, plainOption, sizedOption, optionAt, state, isPowerOfTwo, isMisaligned, aligned as alignedOf, alignmentOf, alignToNext, option as read, optionTurn, packTurn, packWalk, checkPack};
-ghost use Rattle.luck_linter.specs.Inner.{sizeRead, SizeIn, plainRead, optionRead, OptionIn, alignmentRead, withValue, packTurnOf, GoesBy, PackGoesIn};
+ghost use Rattle.luck_linter.specs.Pack.{getnumlimit, fixedString, numberedOption, getoption, luckSize, state, isPowerOfTwo, isMisaligned, aligned as alignedOf, alignToNext, packTurn, packWalk, checkPack};
+ghost use Rattle.luck_linter.specs.Inner.{keptRead, keptPlain, keeps, keptAlignment, keptTurn, Makes, sizeRead, SizeIn, plainRead, optionRead, OptionIn, alignmentRead, withValue, packTurnOf, GoesBy, PackGoesIn};
 use crate::format_pattern;
 use crate::format_pattern::Checked;
 use crate::format_pattern::PatternError;
@@ -49,7 +49,7 @@ pub enum Size {
 // getnumlimit: a size from 1 to 16 whose digits are due at `at`, or the default where there are none.
 fn scan_limited_size(text: &[u8], at: usize, default: u32) -> Size
     requires { ⌜ at ≤ length (now text) ⌝ }
-    ensures { λ r. ⌜ ((option : ℕ → PackOption) → sizeRead option r ≡ limited option default (now (text .entry)) at) × SizeIn r at (length (now (text .entry))) ⌝ }
+    ensures { λ r. ⌜ ((letter : ℕ) (make : ℕ → PackOption) → Makes make default letter → sizeRead make r ≡ keptRead (getnumlimit letter (now (text .entry)) at)) × SizeIn r at (length (now (text .entry))) ⌝ }
 {
     let digits = scan::run(text, at, Class::Digit);
     if digits == 0 {
@@ -74,7 +74,7 @@ fn scan_limited_size(text: &[u8], at: usize, default: u32) -> Size
 // `c` needs a size, however large, whose digits are due at `at`.
 fn scan_fixed_string(text: &[u8], at: usize) -> Read
     requires { ⌜ (0 < at) × (at ≤ length (now text)) ⌝ }
-    ensures { λ r. ⌜ (optionRead r ≡ fixedString (now (text .entry)) at) × OptionIn r (at - 1) (length (now (text .entry))) ⌝ }
+    ensures { λ r. ⌜ (optionRead r ≡ keptRead (fixedString (now (text .entry)) at)) × OptionIn r (at - 1) (length (now (text .entry))) ⌝ }
 {
     let digits = scan::run(text, at, Class::Digit);
     if digits == 0 {
@@ -93,7 +93,7 @@ pub enum Plain {
 }
 
 fn plain_option(byte: u8) -> Plain
-    ensures { λ r. ⌜ plainRead r ≡ plainOption byte ⌝ }
+    ensures { λ r. ⌜ plainRead r ≡ keptPlain byte ⌝ }
 {
     if scan::contains(b"bB", byte) {
         return Plain::Of(PackOption::Sized(1));
@@ -125,7 +125,7 @@ fn plain_option(byte: u8) -> Plain
 // An option whose size is due after its byte, at `at`.
 fn scan_sized_option(text: &[u8], at: usize) -> Read
     requires { ⌜ at < length (now text) ⌝ }
-    ensures { λ r. ⌜ (optionRead r ≡ sizedOption (now (text .entry)) at) × OptionIn r at (length (now (text .entry))) ⌝ }
+    ensures { λ r. ⌜ (optionRead r ≡ keptRead (numberedOption (now (text .entry)) at)) × OptionIn r at (length (now (text .entry))) ⌝ }
 {
     let byte = text[at];
     if scan::contains(b"iI", byte) {
@@ -167,7 +167,7 @@ fn scan_sized_option(text: &[u8], at: usize) -> Read
 
 // One option, as getoption reads it.
 fn scan_pack_option(text: &[u8], at: usize) -> Read
-    ensures { λ r. ⌜ (optionRead r ≡ optionAt (now (text .entry)) at) × OptionIn r at (length (now (text .entry))) ⌝ }
+    ensures { λ r. ⌜ (optionRead r ≡ keptRead (getoption (now (text .entry)) at)) × OptionIn r at (length (now (text .entry))) ⌝ }
 {
     if text.len() <= at {
         return Read::Fault(PatternError::TruncatedPackSize { offset: at });
@@ -236,7 +236,7 @@ pub enum Alignment {
 }
 
 fn alignment_of(option: PackOption) -> Alignment
-    ensures { λ r. ⌜ alignmentRead r ≡ alignmentOf option ⌝ }
+    ensures { λ r. ⌜ alignmentRead r ≡ keptAlignment option ⌝ }
 {
     match option {
         PackOption::Sized(size) => Alignment::To(size),
@@ -253,7 +253,7 @@ fn alignment_of(option: PackOption) -> Alignment
 // `X` at `at`, and the option that it aligns to, as getdetails takes it from getoption.
 fn align_to_next(text: &[u8], at: usize, alignment: u32) -> Turn
     requires { ⌜ at < length (now text) ⌝ }
-    ensures { λ r. ⌜ ((values : ℕ) → packTurnOf values r ≡ alignToNext (now (text .entry)) at (state values alignment) (optionAt (now (text .entry)) (at + 1))) × PackGoesIn r at (length (now (text .entry))) ⌝ }
+    ensures { λ r. ⌜ ((values : ℕ) → packTurnOf values r ≡ alignToNext luckSize (now (text .entry)) at (state values alignment) (getoption (now (text .entry)) (at + 1))) × PackGoesIn r at (length (now (text .entry))) ⌝ }
 {
     let next = scan_pack_option(text, at + 1);
     match next {
@@ -295,7 +295,7 @@ fn option_turn(
     is_packsize: bool,
 ) -> Turn
     requires { ⌜ (at < length (now text)) × (0 < width) × (at + width ≤ length (now text)) ⌝ }
-    ensures { λ r. ⌜ ((values : ℕ) → packTurnOf values r ≡ optionTurn «is_packsize» (now (text .entry)) at (state values alignment) (read option width)) × PackGoesIn r at (length (now (text .entry))) ⌝ }
+    ensures { λ r. ⌜ ((values : ℕ) → packTurnOf values r ≡ keptTurn «is_packsize» (now (text .entry)) at (state values alignment) (keeps option width)) × PackGoesIn r at (length (now (text .entry))) ⌝ }
 {
     match option {
         PackOption::Sized(size) => aligned(at, width, size, alignment, true),
@@ -342,7 +342,7 @@ fn option_turn(
 // The option at `at` and what it does.
 fn scan_option(text: &[u8], at: usize, alignment: u32, is_packsize: bool) -> Turn
     requires { ⌜ at < length (now text) ⌝ }
-    ensures { λ r. ⌜ ((values : ℕ) → packTurnOf values r ≡ packTurn «is_packsize» (now (text .entry)) at (state values alignment)) × PackGoesIn r at (length (now (text .entry))) ⌝ }
+    ensures { λ r. ⌜ ((values : ℕ) → packTurnOf values r ≡ packTurn luckSize «is_packsize» (now (text .entry)) at (state values alignment)) × PackGoesIn r at (length (now (text .entry))) ⌝ }
 {
     let read = scan_pack_option(text, at);
     match read {

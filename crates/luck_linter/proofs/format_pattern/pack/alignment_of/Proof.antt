@@ -1,6 +1,6 @@
 -- `luck_linter::format_pattern::pack::alignment_of` meets its contract. Assumes nothing.
 use mathlib.Core.Path.{sym, ap}
-use Rattle.luck_linter.specs.Pack.{alignmentOf}
+use Rattle.luck_linter.specs.Inner.{keptAlignment}
 use borrow.Author.Needs.{needs}
 use Rattle.luck_linter.proofs.format_pattern.pack.alignment_of.Statement.{statement}
 use Rattle.luck_linter.proofs.format_pattern.pack.alignment_of.Tie as tie
@@ -30,36 +30,36 @@ enum-told-6 : tie.Need-enum-told-6
 enum-told-6 c = search needs
 
 returns : tie.Need-returns
-unfolding alignmentOf
-returns c = ap alignmentOf (sym (c .before .option .given .1))
+unfolding keptAlignment
+returns c = ap keptAlignment (sym (c .before .option .given .1))
 
 returns-2 : tie.Need-returns-2
-unfolding alignmentOf
-returns-2 c = ap alignmentOf (sym (c .before .option2 .given .1))
+unfolding keptAlignment
+returns-2 c = ap keptAlignment (sym (c .before .option2 .given .1))
 
 returns-3 : tie.Need-returns-3
-unfolding alignmentOf
-returns-3 c = ap alignmentOf (sym (c .enum-told .given .1))
+unfolding keptAlignment
+returns-3 c = ap keptAlignment (sym (c .enum-told .given .1))
 
 returns-4 : tie.Need-returns-4
-unfolding alignmentOf
-returns-4 c = ap alignmentOf (sym (c .enum-told2 .given .1))
+unfolding keptAlignment
+returns-4 c = ap keptAlignment (sym (c .enum-told2 .given .1))
 
 returns-5 : tie.Need-returns-5
-unfolding alignmentOf
-returns-5 c = ap alignmentOf (sym (c .enum-told3 .given .1))
+unfolding keptAlignment
+returns-5 c = ap keptAlignment (sym (c .enum-told3 .given .1))
 
 returns-6 : tie.Need-returns-6
-unfolding alignmentOf
-returns-6 c = ap alignmentOf (sym (c .enum-told4 .given .1))
+unfolding keptAlignment
+returns-6 c = ap keptAlignment (sym (c .enum-told4 .given .1))
 
 returns-7 : tie.Need-returns-7
-unfolding alignmentOf
-returns-7 c = ap alignmentOf (sym (c .enum-told5 .given .1))
+unfolding keptAlignment
+returns-7 c = ap keptAlignment (sym (c .enum-told5 .given .1))
 
 returns-8 : tie.Need-returns-8
-unfolding alignmentOf
-returns-8 c = ap alignmentOf (sym (c .enum-told6 .given .1))
+unfolding keptAlignment
+returns-8 c = ap keptAlignment (sym (c .enum-told6 .given .1))
 
 pub alignment-of-spec : {M : Type 1} → statement M
 alignment-of-spec =

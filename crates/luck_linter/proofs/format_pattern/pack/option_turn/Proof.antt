@@ -2,7 +2,8 @@
 use mathlib.Core.Path.{sym, ap, _∙_}
 use native.Mathlib.Omega.{arith}
 use lib.ListN.{length}
-use Rattle.luck_linter.specs.Pack.{option, state, optionTurn}
+use Rattle.luck_linter.specs.Pack.{state}
+use Rattle.luck_linter.specs.Inner.{keeps, keptTurn}
 use Rattle.luck_linter.specs.declared.format_pattern.pack.PackOption.{PackOption}
 use Rattle.luck_linter.proofs.Packs.{goes-in, refuses, allows, stays}
 use borrow.Author.Needs.{needs}
@@ -22,8 +23,8 @@ variable-length-requires : tie.Need-variable-length-requires
 variable-length-requires c κs = search needs
 
 returns : tie.Need-returns
-unfolding optionTurn
-returns c = (λ values. refuses (c .before .before .before .before .before .before .args .is-packsize) (c .before .before .before .before .before .before .args .text .now) (c .before .before .before .before .before .before .args .at) (c .variable-length .result) (c .variable-length .ensures) (c .before .if1 .taken) values _ ∙ ap (λ (o : PackOption). optionTurn (c .before .before .before .before .before .before .args .is-packsize) (c .before .before .before .before .before .before .args .text .now) (c .before .before .before .before .before .before .args .at) (state values (c .before .before .before .before .before .before .args .alignment)) (option o (c .before .before .before .before .before .before .args .width))) (sym (c .before .before .before .option2 .given .1)), stays (c .variable-length .result) _ (c .before .before .before .before .before .before .args .at) (length (c .before .before .before .before .before .before .args .text .now)) (c .variable-length .ensures))
+unfolding keptTurn
+returns c = (λ values. refuses (c .before .before .before .before .before .before .args .is-packsize) (c .before .before .before .before .before .before .args .text .now) (c .before .before .before .before .before .before .args .at) (c .variable-length .result) (c .variable-length .ensures) (c .before .if1 .taken) values _ ∙ ap (λ (o : PackOption). keptTurn (c .before .before .before .before .before .before .args .is-packsize) (c .before .before .before .before .before .before .args .text .now) (c .before .before .before .before .before .before .args .at) (state values (c .before .before .before .before .before .before .args .alignment)) (keeps o (c .before .before .before .before .before .before .args .width))) (sym (c .before .before .before .option2 .given .1)), stays (c .variable-length .result) _ (c .before .before .before .before .before .before .args .at) (length (c .before .before .before .before .before .before .args .text .now)) (c .variable-length .ensures))
 
 aligned-requires-2 : tie.Need-aligned-requires-2
 aligned-requires-2 c κs = search needs
@@ -35,8 +36,8 @@ variable-length-requires-2 : tie.Need-variable-length-requires-2
 variable-length-requires-2 c κs = search needs
 
 returns-2 : tie.Need-returns-2
-unfolding optionTurn
-returns-2 c = (λ values. refuses (c .before .before .before .before .before .args .is-packsize) (c .before .before .before .before .before .args .text .now) (c .before .before .before .before .before .args .at) (c .variable-length2 .result) (c .variable-length2 .ensures) (c .before .if2 .taken) values _ ∙ ap (λ (o : PackOption). optionTurn (c .before .before .before .before .before .args .is-packsize) (c .before .before .before .before .before .args .text .now) (c .before .before .before .before .before .args .at) (state values (c .before .before .before .before .before .args .alignment)) (option o (c .before .before .before .before .before .args .width))) (sym (c .before .before .enum-told .given .1)), stays (c .variable-length2 .result) _ (c .before .before .before .before .before .args .at) (length (c .before .before .before .before .before .args .text .now)) (c .variable-length2 .ensures))
+unfolding keptTurn
+returns-2 c = (λ values. refuses (c .before .before .before .before .before .args .is-packsize) (c .before .before .before .before .before .args .text .now) (c .before .before .before .before .before .args .at) (c .variable-length2 .result) (c .variable-length2 .ensures) (c .before .if2 .taken) values _ ∙ ap (λ (o : PackOption). keptTurn (c .before .before .before .before .before .args .is-packsize) (c .before .before .before .before .before .args .text .now) (c .before .before .before .before .before .args .at) (state values (c .before .before .before .before .before .args .alignment)) (keeps o (c .before .before .before .before .before .args .width))) (sym (c .before .before .enum-told .given .1)), stays (c .variable-length2 .result) _ (c .before .before .before .before .before .args .at) (length (c .before .before .before .before .before .args .text .now)) (c .variable-length2 .ensures))
 
 enum-told-2 : tie.Need-enum-told-2
 enum-told-2 c = search needs
@@ -57,36 +58,36 @@ enum-told-5 : tie.Need-enum-told-5
 enum-told-5 c = search needs
 
 returns-3 : tie.Need-returns-3
-unfolding optionTurn
-returns-3 c = (λ values. c .aligned .ensures .0 values ∙ ap (λ (o : PackOption). optionTurn (c .before .before .before .before .before .args .is-packsize) (c .before .before .before .before .before .args .text .now) (c .before .before .before .before .before .args .at) (state values (c .before .before .before .before .before .args .alignment)) (option o (c .before .before .before .before .before .args .width))) (sym (c .before .before .option .given .1)), goes-in (c .aligned .result) (c .before .before .before .before .before .args .width) (c .before .before .before .before .before .args .at) (length (c .before .before .before .before .before .args .text .now)) (c .aligned .ensures .1) (omega arith) (omega arith))
+unfolding keptTurn
+returns-3 c = (λ values. c .aligned .ensures .0 values ∙ ap (λ (o : PackOption). keptTurn (c .before .before .before .before .before .args .is-packsize) (c .before .before .before .before .before .args .text .now) (c .before .before .before .before .before .args .at) (state values (c .before .before .before .before .before .args .alignment)) (keeps o (c .before .before .before .before .before .args .width))) (sym (c .before .before .option .given .1)), goes-in (c .aligned .result) (c .before .before .before .before .before .args .width) (c .before .before .before .before .before .args .at) (length (c .before .before .before .before .before .args .text .now)) (c .aligned .ensures .1) (omega arith) (omega arith))
 
 returns-4 : tie.Need-returns-4
-unfolding optionTurn
-returns-4 c = (λ values. c .aligned2 .ensures .0 values ∙ allows (c .before .before .before .before .before .before .args .is-packsize) (c .before .before .before .before .before .before .args .text .now) (c .before .before .before .before .before .before .args .at) (c .before .if1 .left) _ ∙ ap (λ (o : PackOption). optionTurn (c .before .before .before .before .before .before .args .is-packsize) (c .before .before .before .before .before .before .args .text .now) (c .before .before .before .before .before .before .args .at) (state values (c .before .before .before .before .before .before .args .alignment)) (option o (c .before .before .before .before .before .before .args .width))) (sym (c .before .before .before .option2 .given .1)), goes-in (c .aligned2 .result) (c .before .before .before .before .before .before .args .width) (c .before .before .before .before .before .before .args .at) (length (c .before .before .before .before .before .before .args .text .now)) (c .aligned2 .ensures .1) (omega arith) (omega arith))
+unfolding keptTurn
+returns-4 c = (λ values. c .aligned2 .ensures .0 values ∙ allows (c .before .before .before .before .before .before .args .is-packsize) (c .before .before .before .before .before .before .args .text .now) (c .before .before .before .before .before .before .args .at) (c .before .if1 .left) _ ∙ ap (λ (o : PackOption). keptTurn (c .before .before .before .before .before .before .args .is-packsize) (c .before .before .before .before .before .before .args .text .now) (c .before .before .before .before .before .before .args .at) (state values (c .before .before .before .before .before .before .args .alignment)) (keeps o (c .before .before .before .before .before .before .args .width))) (sym (c .before .before .before .option2 .given .1)), goes-in (c .aligned2 .result) (c .before .before .before .before .before .before .args .width) (c .before .before .before .before .before .before .args .at) (length (c .before .before .before .before .before .before .args .text .now)) (c .aligned2 .ensures .1) (omega arith) (omega arith))
 
 returns-5 : tie.Need-returns-5
-unfolding optionTurn
-returns-5 c = (λ values. allows (c .before .before .before .before .args .is-packsize) (c .before .before .before .before .args .text .now) (c .before .before .before .before .args .at) (c .if2 .left) _ ∙ ap (λ (o : PackOption). optionTurn (c .before .before .before .before .args .is-packsize) (c .before .before .before .before .args .text .now) (c .before .before .before .before .args .at) (state values (c .before .before .before .before .args .alignment)) (option o (c .before .before .before .before .args .width))) (sym (c .before .enum-told .given .1)), (omega arith, omega arith))
+unfolding keptTurn
+returns-5 c = (λ values. allows (c .before .before .before .before .args .is-packsize) (c .before .before .before .before .args .text .now) (c .before .before .before .before .args .at) (c .if2 .left) _ ∙ ap (λ (o : PackOption). keptTurn (c .before .before .before .before .args .is-packsize) (c .before .before .before .before .args .text .now) (c .before .before .before .before .args .at) (state values (c .before .before .before .before .args .alignment)) (keeps o (c .before .before .before .before .args .width))) (sym (c .before .enum-told .given .1)), (omega arith, omega arith))
 
 returns-6 : tie.Need-returns-6
-unfolding optionTurn
-returns-6 c = (λ values. ap (λ (o : PackOption). optionTurn (c .before .before .before .args .is-packsize) (c .before .before .before .args .text .now) (c .before .before .before .args .at) (state values (c .before .before .before .args .alignment)) (option o (c .before .before .before .args .width))) (sym (c .enum-told2 .given .1)), (omega arith, omega arith))
+unfolding keptTurn
+returns-6 c = (λ values. ap (λ (o : PackOption). keptTurn (c .before .before .before .args .is-packsize) (c .before .before .before .args .text .now) (c .before .before .before .args .at) (state values (c .before .before .before .args .alignment)) (keeps o (c .before .before .before .args .width))) (sym (c .enum-told2 .given .1)), (omega arith, omega arith))
 
 returns-7 : tie.Need-returns-7
-unfolding optionTurn
-returns-7 c = (λ values. ap (λ (o : PackOption). optionTurn (c .before .before .before .args .is-packsize) (c .before .before .before .args .text .now) (c .before .before .before .args .at) (state values (c .before .before .before .args .alignment)) (option o (c .before .before .before .args .width))) (sym (c .enum-told3 .given .1)), (omega arith, omega arith))
+unfolding keptTurn
+returns-7 c = (λ values. ap (λ (o : PackOption). keptTurn (c .before .before .before .args .is-packsize) (c .before .before .before .args .text .now) (c .before .before .before .args .at) (state values (c .before .before .before .args .alignment)) (keeps o (c .before .before .before .args .width))) (sym (c .enum-told3 .given .1)), (omega arith, omega arith))
 
 returns-8 : tie.Need-returns-8
-unfolding optionTurn
-returns-8 c = (λ values. c .align-to-next .ensures .0 values ∙ ap (λ (o : PackOption). optionTurn (c .before .before .before .before .args .is-packsize) (c .before .before .before .before .args .text .now) (c .before .before .before .before .args .at) (state values (c .before .before .before .before .args .alignment)) (option o (c .before .before .before .before .args .width))) (sym (c .before .enum-told4 .given .1)), c .align-to-next .ensures .1)
+unfolding keptTurn
+returns-8 c = (λ values. c .align-to-next .ensures .0 values ∙ ap (λ (o : PackOption). keptTurn (c .before .before .before .before .args .is-packsize) (c .before .before .before .before .args .text .now) (c .before .before .before .before .args .at) (state values (c .before .before .before .before .args .alignment)) (keeps o (c .before .before .before .before .args .width))) (sym (c .before .enum-told4 .given .1)), c .align-to-next .ensures .1)
 
 returns-9 : tie.Need-returns-9
-unfolding optionTurn
-returns-9 c = (λ values. ap (λ (o : PackOption). optionTurn (c .before .before .before .before .args .is-packsize) (c .before .before .before .before .args .text .now) (c .before .before .before .before .args .at) (state values (c .before .before .before .before .args .alignment)) (option o (c .before .before .before .before .args .width))) (sym (c .before .option3 .given .1)), (omega arith, omega arith))
+unfolding keptTurn
+returns-9 c = (λ values. ap (λ (o : PackOption). keptTurn (c .before .before .before .before .args .is-packsize) (c .before .before .before .before .args .text .now) (c .before .before .before .before .args .at) (state values (c .before .before .before .before .args .alignment)) (keeps o (c .before .before .before .before .args .width))) (sym (c .before .option3 .given .1)), (omega arith, omega arith))
 
 returns-10 : tie.Need-returns-10
-unfolding optionTurn
-returns-10 c = (λ values. ap (λ (o : PackOption). optionTurn (c .before .before .before .args .is-packsize) (c .before .before .before .args .text .now) (c .before .before .before .args .at) (state values (c .before .before .before .args .alignment)) (option o (c .before .before .before .args .width))) (sym (c .enum-told5 .given .1)), (omega arith, omega arith))
+unfolding keptTurn
+returns-10 c = (λ values. ap (λ (o : PackOption). keptTurn (c .before .before .before .args .is-packsize) (c .before .before .before .args .text .now) (c .before .before .before .args .at) (state values (c .before .before .before .args .alignment)) (keeps o (c .before .before .before .args .width))) (sym (c .enum-told5 .given .1)), (omega arith, omega arith))
 
 pub option-turn-spec : {M : Type 1} → statement M
 option-turn-spec =

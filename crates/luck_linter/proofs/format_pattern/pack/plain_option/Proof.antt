@@ -1,9 +1,6 @@
 -- `luck_linter::format_pattern::pack::plain_option` meets its contract. Assumes nothing.
 use mathlib.Core.Path.{sym, _∙_}
-use Prim.Native.Char.{code}
-use borrow.Author.Tests.{eq-eqb, ne-eqb}
-use Rattle.luck_token.specs.Bytes.{if_then_else_}
-use Rattle.luck_linter.specs.Pack.{plainOption}
+use Rattle.luck_linter.proofs.Packs.{byte-sized, short-sized, int-sized, double-sized, zero-terminated, padding, aligning, control, no-plain}
 use borrow.Author.Needs.{needs}
 use Rattle.luck_linter.proofs.format_pattern.pack.plain_option.Statement.{statement}
 use Rattle.luck_linter.proofs.format_pattern.pack.plain_option.Tie as tie
@@ -15,8 +12,7 @@ contains-requires : tie.Need-contains-requires
 contains-requires c κs = search needs
 
 returns : tie.Need-returns
-unfolding plainOption if_then_else_
-returns c = rw (sym (c .before .contains .ensures) ∙ c .if1 .taken)
+returns c = byte-sized (c .before .before .before .args .byte) (sym (c .before .contains .ensures) ∙ c .if1 .taken)
 
 slice-aggregate-contains-2 : tie.Need-slice-aggregate-contains-2
 slice-aggregate-contains-2 c = search needs
@@ -25,8 +21,7 @@ contains-requires-2 : tie.Need-contains-requires-2
 contains-requires-2 c κs = search needs
 
 returns-2 : tie.Need-returns-2
-unfolding plainOption if_then_else_
-returns-2 c = rw (sym (c .before .before .before .before .contains .ensures) ∙ c .before .before .before .if1 .left, sym (c .before .contains2 .ensures) ∙ c .if2 .taken)
+returns-2 c = short-sized (c .before .before .before .before .before .before .args .byte) (sym (c .before .contains2 .ensures) ∙ c .if2 .taken)
 
 slice-aggregate-contains-3 : tie.Need-slice-aggregate-contains-3
 slice-aggregate-contains-3 c = search needs
@@ -35,8 +30,7 @@ contains-requires-3 : tie.Need-contains-requires-3
 contains-requires-3 c κs = search needs
 
 returns-3 : tie.Need-returns-3
-unfolding plainOption if_then_else_
-returns-3 c = rw (sym (c .before .before .before .before .before .before .before .contains .ensures) ∙ c .before .before .before .before .before .before .if1 .left, sym (c .before .before .before .before .contains2 .ensures) ∙ c .before .before .before .if2 .left, sym (c .before .contains3 .ensures) ∙ c .if3 .taken)
+returns-3 c = int-sized (c .before .before .before .before .before .before .before .before .before .args .byte) (sym (c .before .contains3 .ensures) ∙ c .if3 .taken)
 
 slice-aggregate-contains-4 : tie.Need-slice-aggregate-contains-4
 slice-aggregate-contains-4 c = search needs
@@ -45,20 +39,16 @@ contains-requires-4 : tie.Need-contains-requires-4
 contains-requires-4 c κs = search needs
 
 returns-4 : tie.Need-returns-4
-unfolding plainOption if_then_else_
-returns-4 c = rw (sym (c .before .before .before .before .before .before .before .before .before .before .contains .ensures) ∙ c .before .before .before .before .before .before .before .before .before .if1 .left, sym (c .before .before .before .before .before .before .before .contains2 .ensures) ∙ c .before .before .before .before .before .before .if2 .left, sym (c .before .before .before .before .contains3 .ensures) ∙ c .before .before .before .if3 .left, sym (c .before .contains4 .ensures) ∙ c .if4 .taken)
+returns-4 c = double-sized (c .before .before .before .before .before .before .before .before .before .before .before .before .args .byte) (sym (c .before .contains4 .ensures) ∙ c .if4 .taken)
 
 returns-5 : tie.Need-returns-5
-unfolding plainOption if_then_else_
-returns-5 c = rw (sym (c .before .before .before .before .before .before .before .before .before .before .before .contains .ensures) ∙ c .before .before .before .before .before .before .before .before .before .before .if1 .left, sym (c .before .before .before .before .before .before .before .before .contains2 .ensures) ∙ c .before .before .before .before .before .before .before .if2 .left, sym (c .before .before .before .before .before .contains3 .ensures) ∙ c .before .before .before .before .if3 .left, sym (c .before .before .contains4 .ensures) ∙ c .before .if4 .left, eq-eqb (c .before .before .before .before .before .before .before .before .before .before .before .before .before .args .byte) (code "z") (c .if5 .taken))
+returns-5 c = zero-terminated (c .before .before .before .before .before .before .before .before .before .before .before .before .before .args .byte) (c .if5 .taken)
 
 returns-6 : tie.Need-returns-6
-unfolding plainOption if_then_else_
-returns-6 c = rw (sym (c .before .before .before .before .before .before .before .before .before .before .before .before .contains .ensures) ∙ c .before .before .before .before .before .before .before .before .before .before .before .if1 .left, sym (c .before .before .before .before .before .before .before .before .before .contains2 .ensures) ∙ c .before .before .before .before .before .before .before .before .if2 .left, sym (c .before .before .before .before .before .before .contains3 .ensures) ∙ c .before .before .before .before .before .if3 .left, sym (c .before .before .before .contains4 .ensures) ∙ c .before .before .if4 .left, ne-eqb (c .before .before .before .before .before .before .before .before .before .before .before .before .before .before .args .byte) (code "z") (c .before .if5 .left), eq-eqb (c .before .before .before .before .before .before .before .before .before .before .before .before .before .before .args .byte) (code "x") (c .if6 .taken))
+returns-6 c = padding (c .before .before .before .before .before .before .before .before .before .before .before .before .before .before .args .byte) (c .if6 .taken)
 
 returns-7 : tie.Need-returns-7
-unfolding plainOption if_then_else_
-returns-7 c = rw (sym (c .before .before .before .before .before .before .before .before .before .before .before .before .before .contains .ensures) ∙ c .before .before .before .before .before .before .before .before .before .before .before .before .if1 .left, sym (c .before .before .before .before .before .before .before .before .before .before .contains2 .ensures) ∙ c .before .before .before .before .before .before .before .before .before .if2 .left, sym (c .before .before .before .before .before .before .before .contains3 .ensures) ∙ c .before .before .before .before .before .before .if3 .left, sym (c .before .before .before .before .contains4 .ensures) ∙ c .before .before .before .if4 .left, ne-eqb (c .before .before .before .before .before .before .before .before .before .before .before .before .before .before .before .args .byte) (code "z") (c .before .before .if5 .left), ne-eqb (c .before .before .before .before .before .before .before .before .before .before .before .before .before .before .before .args .byte) (code "x") (c .before .if6 .left), eq-eqb (c .before .before .before .before .before .before .before .before .before .before .before .before .before .before .before .args .byte) (code "X") (c .if7 .taken))
+returns-7 c = aligning (c .before .before .before .before .before .before .before .before .before .before .before .before .before .before .before .args .byte) (c .if7 .taken)
 
 slice-aggregate-contains-5 : tie.Need-slice-aggregate-contains-5
 slice-aggregate-contains-5 c = search needs
@@ -67,12 +57,10 @@ contains-requires-5 : tie.Need-contains-requires-5
 contains-requires-5 c κs = search needs
 
 returns-8 : tie.Need-returns-8
-unfolding plainOption if_then_else_
-returns-8 c = rw (sym (c .before .before .before .before .before .before .before .before .before .before .before .before .before .before .before .before .contains .ensures) ∙ c .before .before .before .before .before .before .before .before .before .before .before .before .before .before .before .if1 .left, sym (c .before .before .before .before .before .before .before .before .before .before .before .before .before .contains2 .ensures) ∙ c .before .before .before .before .before .before .before .before .before .before .before .before .if2 .left, sym (c .before .before .before .before .before .before .before .before .before .before .contains3 .ensures) ∙ c .before .before .before .before .before .before .before .before .before .if3 .left, sym (c .before .before .before .before .before .before .before .contains4 .ensures) ∙ c .before .before .before .before .before .before .if4 .left, ne-eqb (c .before .before .before .before .before .before .before .before .before .before .before .before .before .before .before .before .before .before .args .byte) (code "z") (c .before .before .before .before .before .if5 .left), ne-eqb (c .before .before .before .before .before .before .before .before .before .before .before .before .before .before .before .before .before .before .args .byte) (code "x") (c .before .before .before .before .if6 .left), ne-eqb (c .before .before .before .before .before .before .before .before .before .before .before .before .before .before .before .before .before .before .args .byte) (code "X") (c .before .before .before .if7 .left), sym (c .before .contains5 .ensures) ∙ c .if8 .taken)
+returns-8 c = control (c .before .before .before .before .before .before .before .before .before .before .before .before .before .before .before .before .before .before .args .byte) (sym (c .before .contains5 .ensures) ∙ c .if8 .taken)
 
 returns-9 : tie.Need-returns-9
-unfolding plainOption if_then_else_
-returns-9 c = rw (sym (c .before .before .before .before .before .before .before .before .before .before .before .before .before .before .before .before .contains .ensures) ∙ c .before .before .before .before .before .before .before .before .before .before .before .before .before .before .before .if1 .left, sym (c .before .before .before .before .before .before .before .before .before .before .before .before .before .contains2 .ensures) ∙ c .before .before .before .before .before .before .before .before .before .before .before .before .if2 .left, sym (c .before .before .before .before .before .before .before .before .before .before .contains3 .ensures) ∙ c .before .before .before .before .before .before .before .before .before .if3 .left, sym (c .before .before .before .before .before .before .before .contains4 .ensures) ∙ c .before .before .before .before .before .before .if4 .left, ne-eqb (c .before .before .before .before .before .before .before .before .before .before .before .before .before .before .before .before .before .before .args .byte) (code "z") (c .before .before .before .before .before .if5 .left), ne-eqb (c .before .before .before .before .before .before .before .before .before .before .before .before .before .before .before .before .before .before .args .byte) (code "x") (c .before .before .before .before .if6 .left), ne-eqb (c .before .before .before .before .before .before .before .before .before .before .before .before .before .before .before .before .before .before .args .byte) (code "X") (c .before .before .before .if7 .left), sym (c .before .contains5 .ensures) ∙ c .if8 .left)
+returns-9 c = no-plain (c .before .before .before .before .before .before .before .before .before .before .before .before .before .before .before .before .before .before .args .byte) (sym (c .before .before .before .before .before .before .before .before .before .before .before .before .before .before .before .before .contains .ensures) ∙ c .before .before .before .before .before .before .before .before .before .before .before .before .before .before .before .if1 .left) (sym (c .before .before .before .before .before .before .before .before .before .before .before .before .before .contains2 .ensures) ∙ c .before .before .before .before .before .before .before .before .before .before .before .before .if2 .left) (sym (c .before .before .before .before .before .before .before .before .before .before .contains3 .ensures) ∙ c .before .before .before .before .before .before .before .before .before .if3 .left) (sym (c .before .before .before .before .before .before .before .contains4 .ensures) ∙ c .before .before .before .before .before .before .if4 .left) (c .before .before .before .before .before .if5 .left) (c .before .before .before .before .if6 .left) (c .before .before .before .if7 .left) (sym (c .before .contains5 .ensures) ∙ c .if8 .left)
 
 pub plain-option-spec : {M : Type 1} → statement M
 plain-option-spec =

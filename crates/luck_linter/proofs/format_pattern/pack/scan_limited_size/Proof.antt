@@ -11,7 +11,7 @@ run-requires : tie.Need-run-requires
 run-requires c κs = search needs
 
 returns : tie.Need-returns
-returns c = (λ make. default-size make (c .before .before .before .args .default) (c .before .before .before .args .text .now) (c .before .before .before .args .at) (c .before .run .result) (c .before .run .ensures) (c .if1 .taken), (omega arith, omega arith))
+returns c = (λ letter make makes. default-size letter make (c .before .before .before .args .default) makes (c .before .before .before .args .text .now) (c .before .before .before .args .at) (c .before .run .result) (c .before .run .ensures) (c .if1 .taken), (omega arith, omega arith))
 
 add-numeral : tie.Need-add-numeral
 add-numeral c = omega (arith, c .before .run .ensures, run-inside isDigit (c .before .before .before .args .text .now) (c .before .before .before .args .at) (omega arith))
@@ -20,16 +20,16 @@ numeral-requires : tie.Need-numeral-requires
 numeral-requires c κs = search needs
 
 returns-2 : tie.Need-returns-2
-returns-2 c = (λ make. size-too-small make (c .before .before .before .before .before .args .default) (c .before .before .before .before .before .args .text .now) (c .before .before .before .before .before .args .at) (c .before .before .before .run .result) (c .before .before .before .run .ensures) (c .before .before .if1 .left) (c .before .numeral .result) (c .before .numeral .ensures) (omega arith), tt)
+returns-2 c = (λ letter make makes. size-too-small letter make (c .before .before .before .before .before .args .default) makes (c .before .before .before .before .before .args .text .now) (c .before .before .before .before .before .args .at) (c .before .before .before .run .result) (c .before .before .before .run .ensures) (c .before .before .if1 .left) (c .before .numeral .result) (c .before .numeral .ensures) (omega arith), tt)
 
 returns-3 : tie.Need-returns-3
-returns-3 c = (λ make. size-too-large make (c .before .before .before .before .before .before .args .default) (c .before .before .before .before .before .before .args .text .now) (c .before .before .before .before .before .before .args .at) (c .before .before .before .before .run .result) (c .before .before .before .before .run .ensures) (c .before .before .before .if1 .left) (c .before .before .numeral .result) (c .before .before .numeral .ensures) (omega arith), tt)
+returns-3 c = (λ letter make makes. size-too-large letter make (c .before .before .before .before .before .before .args .default) makes (c .before .before .before .before .before .before .args .text .now) (c .before .before .before .before .before .before .args .at) (c .before .before .before .before .run .result) (c .before .before .before .before .run .ensures) (c .before .before .before .if1 .left) (c .before .before .numeral .result) (c .before .before .numeral .ensures) (omega arith), tt)
 
 add-t8 : tie.Need-add-t8
 add-t8 c = omega (arith, c .before .before .before .before .run .ensures, run-inside isDigit (c .before .before .before .before .before .before .args .text .now) (c .before .before .before .before .before .before .args .at) (omega arith))
 
 returns-4 : tie.Need-returns-4
-returns-4 c = (λ make. size-within make (c .before .before .before .before .before .before .args .default) (c .before .before .before .before .before .before .args .text .now) (c .before .before .before .before .before .before .args .at) (c .before .before .before .before .run .result) (c .before .before .before .before .run .ensures) (c .before .before .before .if1 .left) (c .before .before .numeral .result) (c .before .before .numeral .ensures) (omega arith) (omega arith), (omega arith, omega (arith, c .before .before .before .before .run .ensures, run-inside isDigit (c .before .before .before .before .before .before .args .text .now) (c .before .before .before .before .before .before .args .at) (omega arith))))
+returns-4 c = (λ letter make makes. size-within letter make (c .before .before .before .before .before .before .args .default) makes (c .before .before .before .before .before .before .args .text .now) (c .before .before .before .before .before .before .args .at) (c .before .before .before .before .run .result) (c .before .before .before .before .run .ensures) (c .before .before .before .if1 .left) (c .before .before .numeral .result) (c .before .before .numeral .ensures) (omega arith) (omega arith), (omega arith, omega (arith, c .before .before .before .before .run .ensures, run-inside isDigit (c .before .before .before .before .before .before .args .text .now) (c .before .before .before .before .before .before .args .at) (omega arith))))
 
 pub scan-limited-size-spec : {M : Type 1} → statement M
 scan-limited-size-spec =

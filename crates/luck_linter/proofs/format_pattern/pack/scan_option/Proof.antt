@@ -2,9 +2,9 @@
 use mathlib.Core.Path.{sym, ap, _∙_}
 use native.Mathlib.Omega.{arith}
 use lib.ListN.{length}
-use Rattle.luck_linter.specs.Pack.{state, optionTurn, packTurn}
-use Rattle.luck_linter.specs.Inner.{optionRead}
-use Rattle.luck_linter.proofs.Packs.{option-inside}
+use Rattle.luck_linter.specs.Pack.{state, getoption, packTurn}
+use Rattle.luck_linter.specs.Inner.{optionRead, keptTurn}
+use Rattle.luck_linter.proofs.Packs.{option-inside, kept-turn}
 use borrow.Author.Needs.{needs}
 use Rattle.luck_linter.proofs.format_pattern.pack.scan_option.Statement.{statement}
 use Rattle.luck_linter.proofs.format_pattern.pack.scan_option.Tie as tie
@@ -23,11 +23,11 @@ enum-known-read-2 c = search needs
 
 returns : tie.Need-returns
 unfolding packTurn
-returns c = (λ values. c .option-turn .ensures .0 values ∙ ap (optionTurn (c .before .before .before .before .before .before .args .is-packsize) (c .before .before .before .before .before .before .args .text .now) (c .before .before .before .before .before .before .args .at) (state values (c .before .before .before .before .before .before .args .alignment))) (ap optionRead (sym (c .before .before .read .given .1)) ∙ c .before .before .before .before .scan-pack-option .ensures .0), c .option-turn .ensures .1)
+returns c = (λ values. c .option-turn .ensures .0 values ∙ ap (keptTurn (c .before .before .before .before .before .before .args .is-packsize) (c .before .before .before .before .before .before .args .text .now) (c .before .before .before .before .before .before .args .at) (state values (c .before .before .before .before .before .before .args .alignment))) (ap optionRead (sym (c .before .before .read .given .1)) ∙ c .before .before .before .before .scan-pack-option .ensures .0) ∙ kept-turn (c .before .before .before .before .before .before .args .is-packsize) (c .before .before .before .before .before .before .args .text .now) (c .before .before .before .before .before .before .args .at) (state values (c .before .before .before .before .before .before .args .alignment)) (getoption (c .before .before .before .before .before .before .args .text .now) (c .before .before .before .before .before .before .args .at)), c .option-turn .ensures .1)
 
 returns-2 : tie.Need-returns-2
-unfolding packTurn optionTurn
-returns-2 c = (λ values. ap (optionTurn (c .before .before .before .before .before .args .is-packsize) (c .before .before .before .before .before .args .text .now) (c .before .before .before .before .before .args .at) (state values (c .before .before .before .before .before .args .alignment))) (ap optionRead (sym (c .before .read2 .given .1)) ∙ c .before .before .before .scan-pack-option .ensures .0), tt)
+unfolding packTurn keptTurn
+returns-2 c = (λ values. ap (keptTurn (c .before .before .before .before .before .args .is-packsize) (c .before .before .before .before .before .args .text .now) (c .before .before .before .before .before .args .at) (state values (c .before .before .before .before .before .args .alignment))) (ap optionRead (sym (c .before .read2 .given .1)) ∙ c .before .before .before .scan-pack-option .ensures .0) ∙ kept-turn (c .before .before .before .before .before .args .is-packsize) (c .before .before .before .before .before .args .text .now) (c .before .before .before .before .before .args .at) (state values (c .before .before .before .before .before .args .alignment)) (getoption (c .before .before .before .before .before .args .text .now) (c .before .before .before .before .before .args .at)), tt)
 
 pub scan-option-spec : {M : Type 1} → statement M
 scan-option-spec =
