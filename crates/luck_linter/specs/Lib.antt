@@ -1,10 +1,10 @@
 pub mod Answer
 pub mod Captures
 pub mod Pattern
+pub mod Items
 pub mod Replacement
 pub mod Format
 pub mod Pack
 pub mod Date
 pub mod StringLiteral
-pub mod Examples
 pub mod Inner

@@ -1,0 +1,94 @@
+-- What is promised of the trial of gsub: demand 3. `gsub` and `outputAfter` are in specs/Gsub.antt, the checks in luck_linter's specs.
+-- Assumes nothing.
+use Prim.Native.Nat.{ℕ, _≤_}
+use native.Mathlib.Omega.{arith}
+use mathlib.Core.Path.{_≡_, refl, sym, ap, _∙_}
+use mathlib.Core.Bool.{Bool, true, false}
+use mathlib.Core.List.{List, []}
+use mathlib.Core.Option.{some}
+use lib.ListN.{length}
+use lib.Dec.{eqb}
+use borrow.Author.Tests.{eq-eqb}
+use Rattle.luck_token.specs.Bytes.{if_then_else_}
+use Rattle.luck_token.specs.Version.{isVersion, rulesOf}
+use Rattle.luck_linter.specs.Answer.{accepted}
+use Rattle.luck_linter.specs.Pattern.{checkPattern}
+use Rattle.luck_linter.specs.Items.{items}
+use Rattle.luck_linter.specs.Replacement.{isStrict, pieces, piecesWalk, checkReplacement}
+use Rattle.luck_trial.specs.Class.{matchClass}
+use Rattle.luck_trial.specs.Gsub.{Answer, outputAfter, strGsub, writerOf, gsub}
+use Rattle.luck_trial.proofs.Runs.{gsub-fine}
+use Rattle.luck_trial.proofs.Sound.{AllClosed, flagsOf, NotRaised, match-sound}
+use Rattle.luck_trial.proofs.Accepted.{well-formed, anchored-well-formed}
+use Rattle.luck_trial.proofs.Writings.{walk-accepted, strict-accepted, pieces-quiet, writers-alike}
+use Rattle.luck_trial.proofs.Endings.{Ending, endings}
+
+-- what the proofs below share: an accepted pattern, and a replacement whose walk is accepted, strict unless the trial's version is 1
+quiet : (v version n k : ℕ) (strict : Bool) (pat rep sub : List ℕ) (budget room : ℕ) → checkPattern v pat ≡ accepted n
+    → piecesWalk strict (some n) (pieces rep) 0 ≡ accepted k → (strict ≡ false → eqb version 1 ≡ true) → gsub version pat rep sub budget room .number ≡ 29 → ⊥
+unfolding writerOf
+quiet v version n k strict pat rep sub budget room ok walk old =
+    (gsub-fine (λ u. Unit {0}) NotRaised (λ cs. AllClosed n (flagsOf cs)) version pat rep sub budget room tt
+    (λ u h e. omega arith) (λ e. omega arith) (λ u h e. omega arith)
+    (λ s e cs all u h out. pieces-quiet sub room s e cs n all strict (eqb version 1) old k (pieces rep) 0 walk out)
+    (λ s u h. match-sound matchClass sub budget n (items pat 0) [] (well-formed v pat n ok) s 1 u tt .holds)
+    (λ t s u h. match-sound matchClass sub budget n (items pat 1) [] (anchored-well-formed v pat n ok t) s 1 u tt .holds))
+    .ending
+
+-- ---- A pattern accepted under some version v with its count n, and a replacement accepted for that count under a version w other than 5.1
+
+module _ (v w n k : ℕ) (pat rep : List ℕ)
+    (pattern-accepted : checkPattern v pat ≡ accepted n)
+    (replacement-accepted : checkReplacement w (some n) rep ≡ accepted k)
+    (not-51 : w ≡ 1 → ⊥) where
+  -- the trials under any two of the six versions give the same answer, whole,
+  pub same-answer : (sub output : List ℕ) (budget a b : ℕ) → isVersion a ≡ true → isVersion b ≡ true
+      → gsub a pat rep sub budget (length output) ≡ gsub b pat rep sub budget (length output)
+  unfolding gsub if_then_else_
+  same-answer sub output budget a b i j =
+      let alike = writers-alike (some n) k rep sub (length output) a b (strict-accepted w (some n) rep k replacement-accepted not-51) in
+      rw (i, j) (ap (λ write. strGsub matchClass sub budget (length output) write pat) alike)
+
+  -- and leave the same bytes in the whole output,
+  pub same-output : (sub output : List ℕ) (budget a b : ℕ) → isVersion a ≡ true → isVersion b ≡ true
+      → outputAfter output (gsub a pat rep sub budget (length output)) ≡ outputAfter output (gsub b pat rep sub budget (length output))
+  same-output sub output budget a b i j = ap (outputAfter output) (same-answer sub output budget a b i j)
+
+  -- and none raises
+  pub none-raises : (sub output : List ℕ) (budget version : ℕ) → gsub version pat rep sub budget (length output) .number ≡ 29 → ⊥
+  none-raises sub output budget version =
+      quiet v version n k true pat rep sub budget (length output) pattern-accepted
+      (strict-accepted w (some n) rep k replacement-accepted not-51) (λ e. absurd-flag e)
+    where
+      absurd-flag : true ≡ false → eqb version 1 ≡ true
+      absurd-flag e = let z : _≡_ {A = ℕ} 0 1 = cc in absurd (omega arith)
+
+-- ---- With a replacement accepted under 5.1, the trial under 5.1 never raises
+
+pub never-raises-51 : (v n k : ℕ) (pat rep sub output : List ℕ) (budget : ℕ)
+    → checkPattern v pat ≡ accepted n
+    → checkReplacement 1 (some n) rep ≡ accepted k
+    → gsub 1 pat rep sub budget (length output) .number ≡ 29
+    → ⊥
+never-raises-51 v n k pat rep sub output budget ok rok =
+    quiet v 1 n k (isStrict (rulesOf 1)) pat rep sub budget (length output) ok (walk-accepted 1 (some n) rep k rok) (λ e. refl)
+
+-- ---- Every trial, whatever it is given and however it ends
+
+module _ (version : ℕ) (pat rep sub : List ℕ) (budget room : ℕ) where
+  -- reports no more steps than its budget,
+  pub steps-within : gsub version pat rep sub budget room .steps ≤ budget
+  steps-within = endings version pat rep sub budget room .steps
+
+  -- all of it where a step was due with none left,
+  pub spent-exactly : gsub version pat rep sub budget room .number ≡ 27 → gsub version pat rep sub budget room .steps ≡ budget
+  spent-exactly = endings version pat rep sub budget room .ending .spent
+
+  -- a kind from 1 to 10 with 29,
+  pub kind-of-raised : gsub version pat rep sub budget room .number ≡ 29
+      → (1 ≤ gsub version pat rep sub budget room .kind) × (gsub version pat rep sub budget room .kind ≤ 10)
+  kind-of-raised = endings version pat rep sub budget room .ending .kinded
+
+  -- and kind 0 with any other number
+  pub kind-of-others : (gsub version pat rep sub budget room .number ≡ 29 → ⊥) → gsub version pat rep sub budget room .kind ≡ 0
+  kind-of-others = endings version pat rep sub budget room .ending .kindless

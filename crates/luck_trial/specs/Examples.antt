@@ -1,0 +1,88 @@
+-- The starred cases of document 01, as a list, and one lemma for all of it, by computation; and beside it the other cases of its text.
+-- Assumes nothing.
+use Prim.Native.Nat.{ℕ, zero, suc}
+use Prim.Native.Char.{code}
+use mathlib.Core.Path.{_≡_, refl}
+use mathlib.Core.Bool.{false}
+use mathlib.Core.List.{List, [], _∷_, _++_}
+use mathlib.Core.Option.{Option, some}
+use Rattle.luck_token.specs.Bytes.{ascii, if_then_else_, among, isDigit, isXdigit, run, digitValue, numeralFrom, numeral}
+use Rattle.luck_token.specs.Walk.{walk, walkFrom}
+use Rattle.luck_token.specs.Version.{isVersion, versions, has, rulesOf}
+use Rattle.luck_token.specs.Utf8.{rfc3629, tailsOf, follow, widthBy, sequence, sequenceAt, noneIllFormed, illFormed, codePoint, charAt, isChar, utf8Bytes}
+use Rattle.luck_linter.specs.Answer.{Answer, accepted, refused, refusedWith, refusedBoth, afterVersion, afterUtf8, checkText}
+use Rattle.luck_linter.specs.Captures.{closeLatest, isClosed, allClosed}
+use Rattle.luck_linter.specs.Pattern.{headOf, escapeOf, escapeAt, memberAt, memberBy, memberTurn, membersEnd, firstMember, setEnd, isEmptySet, setAs, setRead, escapeAs, escapeRead, onward, afterClose, headTurn, patternTurn, patternEnd, patternWalk, checkPattern}
+use Rattle.luck_linter.specs.Items.{elementsFrom, elementsOf, setOf, repeatOf, repeatWidth, repeated, readSingle, readSet, readFrontier, readEscape, readByte, readHead, readItem, thenItems, itemsFrom, items}
+use Rattle.luck_linter.specs.Replacement.{escaped, pieces, allowsDigit, piecesWalk, checkReplacement}
+use Rattle.luck_linter.specs.Format.{isFlag, isModifier, getFormat, scanPrecision, scanWidth, scanFormat, modifiersAt, isConversion, flagsFor, flagsRun, takesPrecision, afterTwoDigits, goodModifiers, conversionTurn, specifierTurn, percentTurn, formatTurn, formatEnd, formatWalk, checkFormat}
+use Rattle.luck_linter.specs.Pack.{getnumlimit, fixedString, numberedOption, getoption, kindOf, numberOr, luckSizeof, luckSize, maxalign, isPowerOfTwo, isMisaligned, aligned, variable, alignBy, alignmentOf, alignToNext, kindTurn, optionTurn, packTurn, packEnd, packWalk, checkPack}
+use Rattle.luck_trial.specs.Class.{isLower, isUpper, isAlpha, isAlnum, isCntrl, isGraph, isPunct, isSpace, toLower, classTest, classBy, matchClass, isElement, isAnyOf, inSet, fits}
+use Rattle.luck_trial.specs.Match.{toCloseBy, captureToClose, due, newLevel, orElse, startCapture, endCapture, sameBytes, matchCapture, balanceEnd, goesOnAt, matchBalance, byteBefore, passedOver, longestFirst, maxExpand, fitsAt, reach, minExpand, expand, doItem, match}
+use Rattle.luck_trial.specs.Replace.{andThen, append, decimalFrom, decimal, addCapture, addDigit, addPiece, addPieces}
+use Rattle.luck_trial.specs.Gsub.{Answer as Trial, answer, andWrote, endsAgain, copyByte, copyRest, round, anchoredRound, roundsFrom, rounds, strGsub, writerOf, gsub}
+
+-- a case: what is given, and the answer wanted. A trial: version, subject, pattern, replacement, budget, room
+pub data Case : Type 0 where
+  format pattern pack : ℕ → List ℕ → Answer → Case
+  replacement : ℕ → Option ℕ → List ℕ → Answer → Case
+  trial : ℕ → List ℕ → List ℕ → List ℕ → ℕ → ℕ → Trial → Case
+
+abbrev pub Holds : Case → Type 0
+Holds (format version text wanted) = checkFormat version text ≡ wanted
+Holds (pattern version text wanted) = checkPattern version text ≡ wanted
+Holds (pack version text wanted) = checkPack version false text ≡ wanted
+Holds (replacement version count text wanted) = checkReplacement version count text ≡ wanted
+Holds (trial version sub pat rep budget room wanted) = gsub version pat rep sub budget room ≡ wanted
+
+abbrev pub All : List Case → Type 0
+All [] = Unit {0}
+All (c ∷ cs) = Holds c × All cs
+
+abbrev pub starred : List Case
+starred =
+    format 1 (ascii "a%") (refused 1 1)
+    ∷ format 1 (ascii "%------d") (refusedWith 3 6 (code "-"))
+    ∷ format 4 (ascii "%#d") (refusedBoth 6 1 (code "#") (code "d"))
+    ∷ pattern 1 (ascii "[]a") (refused 8 0)
+    ∷ pattern 1 (ascii "[^]") (refused 9 0)
+    ∷ pattern 1 (ascii "(a") (refused 11 2)
+    ∷ pattern 1 (ascii "(a%1)") (refused 13 3)
+    ∷ pattern 1 (ascii "[]]") (accepted 0)
+    ∷ pattern 1 (ascii "()%1") (accepted 1)
+    ∷ pack 1 (ascii "!8i3") (refused 17 2)
+    ∷ replacement 2 (some 1) (ascii "%2") (refused 21 1)
+    ∷ replacement 2 (some 0) (ascii "%1") (accepted 0)
+    ∷ trial 4 (ascii "a") (ascii "a") (ascii "x") 2 10 (answer 27 0 (ascii "x") 1 2)
+    ∷ trial 4 (ascii "a") (ascii "a") (ascii "x") 1000 10 (answer 0 0 (ascii "x") 1 3)
+    ∷ trial 4 (ascii "abc") (ascii "%w*") (ascii "x") 1000 10 (answer 0 0 (ascii "x") 1 7)
+    ∷ []
+
+abbrev times : ℕ → List ℕ → List ℕ
+times zero text = []
+times (suc n) text = text ++ times n text
+
+-- not starred: 7 and 8 steps; the rows of 26, 28 and 29; and the places of document 01 that were open (an attempt after the last match, the step before
+-- the raise, the level before the step)
+abbrev pub unstarred : List Case
+unstarred =
+    trial 4 (ascii "aaa") (ascii "a*") (ascii "x") 1000 10 (answer 0 0 (ascii "x") 1 7)
+    ∷ trial 4 (ascii "aab") (ascii "a-b") (ascii "x") 1000 10 (answer 0 0 (ascii "x") 1 8)
+    ∷ trial 4 (ascii "a") (ascii "a") (ascii "xx") 1000 1 (answer 26 0 (ascii "x") 1 2)
+    ∷ trial 4 (times 200 (ascii "a")) (times 200 (ascii "a?")) (ascii "x") 200 10 (answer 28 0 [] 0 200)
+    ∷ trial 4 (times 200 (ascii "a")) (times 200 (ascii "a?")) (ascii "x") 199 10 (answer 27 0 [] 0 199)
+    ∷ trial 4 (ascii "a") (ascii ")") (ascii "x") 1 10 (answer 29 5 [] 0 1)
+    ∷ trial 4 (ascii "a") (ascii ")") (ascii "x") 0 10 (answer 27 0 [] 0 0)
+    ∷ trial 4 [] [] (ascii "x") 1000 10 (answer 0 0 (ascii "x") 1 2)
+    ∷ trial 4 (ascii "ab") [] (ascii "x") 1000 10 (answer 0 0 (ascii "xaxbx") 3 6)
+    ∷ trial 4 (ascii "a]-") (ascii "[!-%%]") (ascii "x") 1000 10 (answer 0 0 (ascii "ax-") 1 5)
+    ∷ trial 7 (ascii "a") (ascii "a") (ascii "x") 1000 10 (answer 25 0 [] 0 0)
+    ∷ []
+
+pub starred-hold : All starred
+unfolding if_then_else_ among isDigit isXdigit run digitValue numeralFrom numeral walk walkFrom isVersion versions has rulesOf rfc3629 tailsOf follow widthBy sequence sequenceAt noneIllFormed illFormed codePoint charAt isChar utf8Bytes afterVersion afterUtf8 checkText closeLatest isClosed allClosed headOf escapeOf escapeAt memberAt memberBy memberTurn membersEnd firstMember setEnd isEmptySet setAs setRead escapeAs escapeRead onward afterClose headTurn patternTurn patternEnd patternWalk checkPattern elementsFrom elementsOf setOf repeatOf repeatWidth repeated readSingle readSet readFrontier readEscape readByte readHead readItem thenItems itemsFrom items escaped pieces allowsDigit piecesWalk checkReplacement isFlag isModifier getFormat scanPrecision scanWidth scanFormat modifiersAt isConversion flagsFor flagsRun takesPrecision afterTwoDigits goodModifiers conversionTurn specifierTurn percentTurn formatTurn formatEnd formatWalk checkFormat getnumlimit fixedString numberedOption getoption kindOf numberOr luckSizeof luckSize maxalign isPowerOfTwo isMisaligned aligned variable alignBy alignmentOf alignToNext kindTurn optionTurn packTurn packEnd packWalk checkPack isLower isUpper isAlpha isAlnum isCntrl isGraph isPunct isSpace toLower classTest classBy matchClass isElement isAnyOf inSet fits toCloseBy captureToClose due newLevel orElse startCapture endCapture sameBytes matchCapture balanceEnd goesOnAt matchBalance byteBefore passedOver longestFirst maxExpand fitsAt reach minExpand expand doItem match andThen append decimalFrom decimal addCapture addDigit addPiece addPieces andWrote endsAgain copyByte copyRest round anchoredRound roundsFrom rounds strGsub writerOf gsub
+starred-hold = (refl, (refl, (refl, (refl, (refl, (refl, (refl, (refl, (refl, (refl, (refl, (refl, (refl, (refl, (refl, tt)))))))))))))))
+
+pub unstarred-hold : All unstarred
+unfolding if_then_else_ among isDigit isXdigit run digitValue numeralFrom numeral walk walkFrom isVersion versions has rulesOf rfc3629 tailsOf follow widthBy sequence sequenceAt noneIllFormed illFormed codePoint charAt isChar utf8Bytes afterVersion afterUtf8 checkText closeLatest isClosed allClosed headOf escapeOf escapeAt memberAt memberBy memberTurn membersEnd firstMember setEnd isEmptySet setAs setRead escapeAs escapeRead onward afterClose headTurn patternTurn patternEnd patternWalk checkPattern elementsFrom elementsOf setOf repeatOf repeatWidth repeated readSingle readSet readFrontier readEscape readByte readHead readItem thenItems itemsFrom items escaped pieces allowsDigit piecesWalk checkReplacement isFlag isModifier getFormat scanPrecision scanWidth scanFormat modifiersAt isConversion flagsFor flagsRun takesPrecision afterTwoDigits goodModifiers conversionTurn specifierTurn percentTurn formatTurn formatEnd formatWalk checkFormat getnumlimit fixedString numberedOption getoption kindOf numberOr luckSizeof luckSize maxalign isPowerOfTwo isMisaligned aligned variable alignBy alignmentOf alignToNext kindTurn optionTurn packTurn packEnd packWalk checkPack isLower isUpper isAlpha isAlnum isCntrl isGraph isPunct isSpace toLower classTest classBy matchClass isElement isAnyOf inSet fits toCloseBy captureToClose due newLevel orElse startCapture endCapture sameBytes matchCapture balanceEnd goesOnAt matchBalance byteBefore passedOver longestFirst maxExpand fitsAt reach minExpand expand doItem match andThen append decimalFrom decimal addCapture addDigit addPiece addPieces andWrote endsAgain copyByte copyRest round anchoredRound roundsFrom rounds strGsub writerOf gsub
+unstarred-hold = (refl, (refl, (refl, (refl, (refl, (refl, (refl, (refl, (refl, (refl, (refl, tt)))))))))))

@@ -1,0 +1,5 @@
+pub mod Class
+pub mod Match
+pub mod Replace
+pub mod Gsub
+pub mod Examples
