@@ -6,16 +6,16 @@ use mathlib.Core.Path.{_≡_, refl, sym, ap, subst, _∙_}
 use mathlib.Core.Bool.{Bool, true, false, _&&_, _||_, true≢false}
 use mathlib.Core.List.{List}
 use lib.ListN.{length, drop, List·getD-eq-default}
-use lib.Dec.{eqb, ltb}
-use borrow.Author.Tests.{lt-ltb, le-ltb, le-leb, lt-leb, eq-eqb, ne-eqb, ltb-true, leb-true, eqb-true, leb-false}
+use lib.Dec.{eqb}
+use borrow.Author.Tests.{lt-ltb, le-ltb, le-leb, lt-leb, eq-eqb, ne-eqb}
 use Rattle.luck_token.specs.Bytes.{if_then_else_, byteAt, ascii, among, isDigit, run}
 use Rattle.luck_token.specs.Utf8.{charAt}
 use Rattle.luck_token.specs.Version.{rulesOf}
 use Rattle.luck_token.specs.Walk.{Turn, stop, goes, walkFrom}
 use Rattle.luck_token.specs.declared.version.Rules.{Rules}
-use Rattle.luck_token.proofs.Cases.{by-test, and-right, second-false, present}
+use Rattle.luck_token.proofs.Cases.{second-false}
 use Rattle.luck_token.proofs.Bytes.{run-inside}
-use Rattle.luck_token.proofs.Walk.{walk-end, walk-stop, walk-goes, walk-related}
+use Rattle.luck_token.proofs.Walk.{walk-end, walk-stop, walk-goes}
 use Rattle.luck_linter.specs.Answer.{Answer, accepted, refused, refusedWith, refusedBoth, checkText, textAnswer}
 use Rattle.luck_linter.specs.Format.{
   isFlag,
@@ -325,74 +325,3 @@ unfolding checkFormat
 checked version text shape e w =
     let walked = formatWalk (rulesOf version) text in
     subst (λ (x : Text). textAnswer x walked ≡ checkText version text walked) e (w walked)
-
--- ---- The offset of a fault lies in the text
-
-module _ (text : List ℕ) where
-  abbrev FaultIn : Modifiers → Type 0
-  FaultIn (end-at e) = Unit {0}
-  FaultIn (fault answer) = answer .offset ≤ length text
-
-  abbrev StopsIn : Turn ℕ Answer → Type 0
-  StopsIn (stop answer) = answer .offset ≤ length text
-  StopsIn (goes width count) = Unit {0}
-
-  there : (p x : ℕ) → 0 < x → eqb (byteAt text p) x ≡ true → p < length text
-  there p x h e = present text p (omega (arith, eqb-true (byteAt text p) x e))
-
-  module _ (p : ℕ) (h : p ≤ length text) where
-    get-format : FaultIn (getFormat text p)
-    unfolding getFormat
-    get-format = by-test FaultIn _ _ _ (λ _. h) (λ _. tt)
-
-    scan-precision : p < length text → FaultIn (scanPrecision text p)
-    unfolding scanPrecision
-    scan-precision l = by-test FaultIn _ _ _ (λ _. omega arith) (λ _. tt)
-
-  scan-width : (p : ℕ) → p ≤ length text → FaultIn (scanWidth text p)
-  unfolding scanWidth
-  scan-width p h =
-      let dot = p + run isDigit (drop p text) in
-      by-test FaultIn _ _ _ (λ _. h) (λ _. by-test FaultIn _ _ _ (λ e. scan-precision dot (run-inside isDigit text p h) (there dot 46 (omega arith) e)) (λ _. tt))
-
-  scan-format : (p : ℕ) → p ≤ length text → FaultIn (scanFormat text p)
-  unfolding scanFormat
-  scan-format p h =
-      let count = run isFlag (drop p text) in
-      by-test FaultIn _ _ _ (λ e. omega (arith, leb-true 6 count e, run-inside isFlag text p h)) (λ _. scan-width (p + count) (run-inside isFlag text p h))
-
-  modifiers : (is : Bool) (p : ℕ) → p ≤ length text → FaultIn (modifiersAt is text p)
-  unfolding modifiersAt
-  modifiers true p h = get-format p h
-  modifiers false p h = scan-format p h
-
-  module _ (rules : Rules) (p count : ℕ) where
-    conversion : (e : ℕ) → p < length text → StopsIn (conversionTurn rules text p count e)
-    unfolding conversionTurn
-    conversion e h =
-        let good = goodModifiers (byteAt text e) text (p + 1) in
-        by-test StopsIn _ _ _ (λ _. omega arith)
-        (λ l. by-test StopsIn _ _ _ (λ _. omega (arith, leb-false (length text) e l))
-        (λ _. by-test StopsIn _ _ _ (λ b. omega (arith, leb-false (length text) e l, ltb-true good e (and-right (rules .«checked_format_modifiers») (ltb good e) b))) (λ _. tt)))
-
-    specifier-in : (m : Modifiers) → FaultIn m → p < length text → StopsIn (specifierTurn rules text p count m)
-    unfolding specifierTurn
-    specifier-in (end-at e) f h = conversion e h
-    specifier-in (fault answer) f h = f
-
-    percent : p < length text → StopsIn (percentTurn rules text p count)
-    unfolding percentTurn
-    percent h =
-        by-test StopsIn _ _ _ (λ _. omega arith)
-        (λ l. by-test StopsIn _ _ _ (λ _. tt)
-        (λ _. by-test StopsIn _ _ _ (λ _. tt) (λ _. specifier-in _ (modifiers (rules .«checked_format_modifiers») (p + 1) (omega (arith, leb-false (length text) (p + 1) l))) h)))
-
-    step : StopsIn (formatTurn rules text p count)
-    unfolding formatTurn
-    step = by-test StopsIn _ _ _ (λ e. percent (there p 37 (omega arith) e)) (λ _. tt)
-
-  pub offset-inside : (rules : Rules) → formatWalk rules text .offset ≤ length text
-  unfolding formatWalk formatEnd
-  offset-inside rules =
-      walk-related (formatTurn rules text) formatEnd (λ count answer. answer .offset ≤ length text)
-      (λ p count answer e. subst StopsIn e (step rules p count)) (λ p count width count′ answer e r. r) (λ p count. omega arith) (length text) 0 0

@@ -1,4 +1,5 @@
 pub mod Texts
+pub mod Among
 pub mod Flags
 pub mod Patterns
 pub mod Replacements
@@ -6,5 +7,11 @@ pub mod Formats
 pub mod Packs
 pub mod Dates
 pub mod StringLiterals
-pub mod Offsets
-pub mod PackOffsets
+pub mod Answers
+pub mod PatternAnswers
+pub mod ReplacementAnswers
+pub mod FormatAnswers
+pub mod PackAnswers
+pub mod DateAnswers
+pub mod LiteralAnswers
+pub mod Refusals

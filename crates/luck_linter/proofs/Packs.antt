@@ -5,12 +5,12 @@ use Prim.Native.Char.{code}
 use native.Mathlib.Omega.{arith}
 use mathlib.Core.Path.{_≡_, refl, sym, ap, ap₂, subst, _∙_}
 use mathlib.Core.Logic.{_⊎_, inl, inr}
-use mathlib.Core.Bool.{Bool, true, false, not, _||_, true≢false}
-use mathlib.Core.List.{List, [], _∷_, _++_}
+use mathlib.Core.Bool.{Bool, true, false, not}
+use mathlib.Core.List.{List}
 use mathlib.Core.Option.{Option, none, some}
 use lib.ListN.{length, drop}
 use lib.Dec.{eqb}
-use borrow.Author.Tests.{lt-ltb, le-ltb, le-leb, lt-leb, eq-eqb, ne-eqb, eqb-true}
+use borrow.Author.Tests.{lt-ltb, le-ltb, le-leb, lt-leb, eq-eqb, ne-eqb}
 use Rattle.luck_token.specs.Bytes.{if_then_else_, byteAt, part, ascii, among, isDigit, run, numeral}
 use Rattle.luck_token.specs.Utf8.{charAt}
 use Rattle.luck_token.specs.Scan.{most}
@@ -19,6 +19,7 @@ use Rattle.luck_token.specs.Walk.Turn.{stop, goes}
 use Rattle.luck_token.proofs.Cases.{by-test, if-true, if-false}
 use Rattle.luck_token.proofs.Bytes.{within, below, above}
 use Rattle.luck_token.proofs.Walk.{walk-end, walk-stop, walk-goes}
+use Rattle.luck_linter.proofs.Among.{every-among, none-among, not-among}
 use Rattle.luck_linter.specs.Answer.{Answer, accepted, refused, refusedWith, refusal}
 use Rattle.luck_linter.specs.Pack.{
   PackOption as Given,
@@ -51,7 +52,6 @@ use Rattle.luck_linter.specs.Pack.{
   maxalign,
   State,
   state,
-  oneMore,
   isPowerOfTwo,
   isMisaligned,
   aligned,
@@ -96,53 +96,24 @@ use Rattle.luck_linter.specs.declared.format_pattern.pack.Read.the-varia
 use Rattle.luck_linter.specs.declared.format_pattern.pack.Turn.{Turn as PackTurn}
 use Rattle.luck_linter.specs.declared.format_pattern.pack.Turn.the-variants as packturn
 
--- ---- Letters
-
-abbrev Every : (ℕ → Type 0) → List ℕ → Type 0
-Every P [] = Unit {0}
-Every P (x ∷ letters) = P x × Every P letters
-
--- what holds of each letter of a list holds of a byte that is one of them
-pub every-letter : (P : ℕ → Type 0) (letters : List ℕ) → Every P letters → (b : ℕ) → among b letters ≡ true → P b
-unfolding among
-every-letter P [] h b e = absurd (true≢false (sym e))
-every-letter P (x ∷ letters) h b e = go (every-letter P letters (h .1) b) (eqb b x) refl e
-  where
-    go : (among b letters ≡ true → P b) → (t : Bool) → eqb b x ≡ t → (t || among b letters) ≡ true → P b
-    go more true q f = subst P (sym (eqb-true b x q)) (h .0)
-    go more false q f = more f
-
-none-of : (b : ℕ) (xs ys : List ℕ) → among b xs ≡ false → among b ys ≡ false → among b (xs ++ ys) ≡ false
-unfolding among
-none-of b [] ys e f = f
-none-of b (x ∷ xs) ys e f = go (λ g. none-of b xs ys g f) (eqb b x) e
-  where
-    go : (among b xs ≡ false → among b (xs ++ ys) ≡ false) → (t : Bool) → (t || among b xs) ≡ false → (t || among b (xs ++ ys)) ≡ false
-    go more true g = g
-    go more false g = more g
-
-not-one : (b x : ℕ) → (b ≡ x → ⊥) → among b (x ∷ []) ≡ false
-unfolding among
-not-one b x n = rw (ne-eqb b x n)
-
 -- ---- An option without a number
 
 module _ (b : ℕ) where
   pub byte-sized : among b (ascii "bB") ≡ true → some (Sized 1) ≡ keptPlain b
   unfolding keptPlain kept keptAs kindOf luckSize luckSizeof numberOr among if_then_else_
-  byte-sized = every-letter (λ x. some (Sized 1) ≡ keptPlain x) (ascii "bB") (refl, (refl, tt)) b
+  byte-sized = every-among (λ x. some (Sized 1) ≡ keptPlain x) (ascii "bB") (refl, (refl, tt)) b
 
   pub short-sized : among b (ascii "hH") ≡ true → some (Sized 2) ≡ keptPlain b
   unfolding keptPlain kept keptAs kindOf luckSize luckSizeof numberOr among if_then_else_
-  short-sized = every-letter (λ x. some (Sized 2) ≡ keptPlain x) (ascii "hH") (refl, (refl, tt)) b
+  short-sized = every-among (λ x. some (Sized 2) ≡ keptPlain x) (ascii "hH") (refl, (refl, tt)) b
 
   pub int-sized : among b (ascii "lLjJTf") ≡ true → some (Sized 4) ≡ keptPlain b
   unfolding keptPlain kept keptAs kindOf luckSize luckSizeof numberOr among if_then_else_
-  int-sized = every-letter (λ x. some (Sized 4) ≡ keptPlain x) (ascii "lLjJTf") (refl, (refl, (refl, (refl, (refl, (refl, tt)))))) b
+  int-sized = every-among (λ x. some (Sized 4) ≡ keptPlain x) (ascii "lLjJTf") (refl, (refl, (refl, (refl, (refl, (refl, tt)))))) b
 
   pub double-sized : among b (ascii "dn") ≡ true → some (Sized 8) ≡ keptPlain b
   unfolding keptPlain kept keptAs kindOf luckSize luckSizeof numberOr among if_then_else_
-  double-sized = every-letter (λ x. some (Sized 8) ≡ keptPlain x) (ascii "dn") (refl, (refl, tt)) b
+  double-sized = every-among (λ x. some (Sized 8) ≡ keptPlain x) (ascii "dn") (refl, (refl, tt)) b
 
   pub zero-terminated : b ≡ code "z" → some ZeroTerminated ≡ keptPlain b
   unfolding keptPlain kept keptAs kindOf among if_then_else_
@@ -158,18 +129,18 @@ module _ (b : ℕ) where
 
   pub control : among b (ascii " <>=") ≡ true → some Control ≡ keptPlain b
   unfolding keptPlain kept keptAs kindOf among if_then_else_
-  control = every-letter (λ x. some Control ≡ keptPlain x) (ascii " <>=") (refl, (refl, (refl, (refl, tt)))) b
+  control = every-among (λ x. some Control ≡ keptPlain x) (ascii " <>=") (refl, (refl, (refl, (refl, tt)))) b
 
   pub no-plain : among b (ascii "bB") ≡ false → among b (ascii "hH") ≡ false → among b (ascii "lLjJTf") ≡ false → among b (ascii "dn") ≡ false
       → (b ≡ code "z" → ⊥) → (b ≡ code "x" → ⊥) → (b ≡ code "X" → ⊥) → among b (ascii " <>=") ≡ false → none ≡ keptPlain b
   unfolding keptPlain
   no-plain e1 e2 e4 e8 z x a c =
-      let tail = none-of b (ascii "z") (ascii "xX <>=") (not-one b (code "z") z)
-      (none-of b (ascii "x") (ascii "X <>=") (not-one b (code "x") x) (none-of b (ascii "X") (ascii " <>=") (not-one b (code "X") a) c)) in
+      let tail = none-among b (ascii "z") (ascii "xX <>=") (not-among b (code "z") z)
+      (none-among b (ascii "x") (ascii "X <>=") (not-among b (code "x") x) (none-among b (ascii "X") (ascii " <>=") (not-among b (code "X") a) c)) in
       let all : among b bareLetters ≡ false =
-      none-of b (ascii "bB") (ascii "hHlLjJTfdnzxX <>=") e1
-      (none-of b (ascii "hH") (ascii "lLjJTfdnzxX <>=") e2
-      (none-of b (ascii "lLjJTf") (ascii "dnzxX <>=") e4 (none-of b (ascii "dn") (ascii "zxX <>=") e8 tail))) in
+      none-among b (ascii "bB") (ascii "hHlLjJTfdnzxX <>=") e1
+      (none-among b (ascii "hH") (ascii "lLjJTfdnzxX <>=") e2
+      (none-among b (ascii "lLjJTf") (ascii "dnzxX <>=") e4 (none-among b (ascii "dn") (ascii "zxX <>=") e8 tail))) in
       sym (if-false _ _ _ all)
 
 -- ---- A number
@@ -228,7 +199,7 @@ back p = omega arith
 -- what is made of the number behind each letter
 pub makes-number : (b : ℕ) → among b (ascii "iI") ≡ true → Makes Sized 4 b
 unfolding kept keptAs kindOf luckSize luckSizeof among if_then_else_
-makes-number b = every-letter (Makes Sized 4) (ascii "iI") ((λ number. refl), ((λ number. refl), tt)) b
+makes-number b = every-among (Makes Sized 4) (ascii "iI") ((λ number. refl), ((λ number. refl), tt)) b
 
 pub makes-string : (b : ℕ) → b ≡ code "s" → Makes Counted 4 b
 unfolding kept keptAs kindOf luckSize luckSizeof among if_then_else_
@@ -245,7 +216,7 @@ module _ (text : List ℕ) (p : ℕ) where
 
   pub sized-number : among (byteAt text p) (ascii "iI") ≡ true → keptRead (getnumlimit (byteAt text p) text (p + 1)) ≡ keptRead (numberedOption text p)
   unfolding among
-  sized-number e = limited (every-letter (λ x. among x limitedLetters ≡ true) (ascii "iI") (refl, (refl, tt)) (byteAt text p) e)
+  sized-number e = limited (every-among (λ x. among x limitedLetters ≡ true) (ascii "iI") (refl, (refl, tt)) (byteAt text p) e)
 
   pub sized-string : byteAt text p ≡ code "s" → keptRead (getnumlimit (byteAt text p) text (p + 1)) ≡ keptRead (numberedOption text p)
   unfolding among
@@ -258,8 +229,8 @@ module _ (text : List ℕ) (p : ℕ) where
   module _ (no-number : among (byteAt text p) (ascii "iI") ≡ false) (no-string : byteAt text p ≡ code "s" → ⊥) (no-largest : byteAt text p ≡ code "!" → ⊥) where
     unlimited : among (byteAt text p) limitedLetters ≡ false
     unlimited =
-        none-of (byteAt text p) (ascii "iI") (ascii "s!") no-number
-        (none-of (byteAt text p) (ascii "s") (ascii "!") (not-one (byteAt text p) (code "s") no-string) (not-one (byteAt text p) (code "!") no-largest))
+        none-among (byteAt text p) (ascii "iI") (ascii "s!") no-number
+        (none-among (byteAt text p) (ascii "s") (ascii "!") (not-among (byteAt text p) (code "s") no-string) (not-among (byteAt text p) (code "!") no-largest))
 
     pub fixed-string : byteAt text p ≡ code "c" → keptRead (fixedString text (p + 1)) ≡ keptRead (numberedOption text p)
     unfolding numberedOption if_then_else_

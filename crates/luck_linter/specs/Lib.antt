@@ -7,4 +7,5 @@ pub mod Format
 pub mod Pack
 pub mod Date
 pub mod StringLiteral
+pub mod Checks
 pub mod Inner

@@ -1,19 +1,19 @@
--- The place of a pack format's refusal lies in the text or at its end.
+-- The answers of the check of a pack format.
 -- Assumes nothing.
-use Prim.Native.Nat.{ℕ, zero, suc, _+_, _-_, _≤_, _<_}
+use Prim.Native.Nat.{ℕ, _+_, _≤_, _<_}
 use native.Mathlib.Omega.{arith}
-use mathlib.Core.Path.{_≡_, refl}
+use mathlib.Core.Path.{refl}
 use mathlib.Core.Bool.{Bool}
 use mathlib.Core.List.{List}
 use mathlib.Core.Option.{Option, none, some}
 use lib.ListN.{length}
 use borrow.Author.Tests.{leb-false}
-use Rattle.luck_token.specs.Bytes.{byteAt}
+use Rattle.luck_token.specs.Bytes.{byteAt, among}
 use Rattle.luck_token.specs.Walk.{Turn}
-use Rattle.luck_token.specs.Walk.Turn.{stop, goes}
 use Rattle.luck_token.proofs.Cases.{by-test}
 use Rattle.luck_linter.specs.Answer.{Answer}
-use Rattle.luck_linter.proofs.Offsets.{Stops, walk-every}
+use Rattle.luck_linter.specs.Checks.{pack, answer, numbers}
+use Rattle.luck_linter.proofs.Answers.{Stops, walk-every, Fits, check-fits}
 use Rattle.luck_linter.specs.Pack.{
   PackOption,
   Read,
@@ -48,34 +48,35 @@ use Rattle.luck_linter.specs.Pack.{
   packEnd,
   luckSize,
   packWalk,
+  checkPack,
 }
 
 module _ (packsize : Bool) (text : List ℕ) where
   abbrev Placed : Answer → Type 0
-  Placed a = a .offset ≤ length text
+  Placed a = Fits (length text) (numbers (pack packsize)) a
 
   abbrev Reads : Read → Type 0
   Reads (option o width) = Unit {0}
   Reads (fault a) = Placed a
 
   limited-placed : (letter p : ℕ) → p ≤ length text → Reads (getnumlimit letter text p)
-  unfolding getnumlimit
-  limited-placed letter p h = by-test Reads _ _ _ (λ _. tt) (λ _. by-test Reads _ _ _ (λ _. tt) (λ _. h))
+  unfolding getnumlimit among
+  limited-placed letter p h = by-test Reads _ _ _ (λ _. tt) (λ _. by-test Reads _ _ _ (λ _. tt) (λ _. (h, refl)))
 
   fixed-placed : (p : ℕ) → p ≤ length text → Reads (fixedString text p)
-  unfolding fixedString
-  fixed-placed p h = by-test Reads _ _ _ (λ _. h) (λ _. tt)
+  unfolding fixedString among
+  fixed-placed p h = by-test Reads _ _ _ (λ _. (h, refl)) (λ _. tt)
 
   numbered-placed : (p : ℕ) → p < length text → Reads (numberedOption text p)
-  unfolding numberedOption
+  unfolding numberedOption among
   numbered-placed p h =
       let next : p + 1 ≤ length text = omega arith in
-      by-test Reads _ _ _ (λ _. limited-placed (byteAt text p) (p + 1) next) (λ _. by-test Reads _ _ _ (λ _. fixed-placed (p + 1) next) (λ _. omega arith))
+      by-test Reads _ _ _ (λ _. limited-placed (byteAt text p) (p + 1) next) (λ _. by-test Reads _ _ _ (λ _. fixed-placed (p + 1) next) (λ _. (omega arith, refl)))
 
   option-placed : (p : ℕ) → p ≤ length text → Reads (getoption text p)
-  unfolding getoption
+  unfolding getoption among
   option-placed p h =
-      by-test Reads _ _ _ (λ _. h)
+      by-test Reads _ _ _ (λ _. (h, refl))
       (λ e. by-test Reads _ _ _ (λ _. tt) (λ _. numbered-placed p (leb-false (length text) p e)))
 
   abbrev Steps : Turn State Answer → Type 0
@@ -86,17 +87,17 @@ module _ (packsize : Bool) (text : List ℕ) where
     here = omega arith
 
     aligned-placed : (width size : ℕ) (after : State) → Steps (aligned p width size s after)
-    unfolding aligned
-    aligned-placed width size after = by-test Steps _ _ _ (λ _. here) (λ _. tt)
+    unfolding aligned among
+    aligned-placed width size after = by-test Steps _ _ _ (λ _. (here, refl)) (λ _. tt)
 
     variable-placed : (t : Turn State Answer) → Steps t → Steps (variable packsize text p t)
-    unfolding variable
-    variable-placed t r = by-test Steps _ _ _ (λ _. here) (λ _. r)
+    unfolding variable among
+    variable-placed t r = by-test Steps _ _ _ (λ _. (here, refl)) (λ _. r)
 
     align-placed : (width : ℕ) (to : Option ℕ) → Steps (alignBy text p s width to)
-    unfolding alignBy
+    unfolding alignBy among
     align-placed width (some size) = aligned-placed (1 + width) size s
-    align-placed width none = omega arith
+    align-placed width none = (omega arith, refl)
 
     next-placed : (next : Read) → Reads next → Steps (alignToNext luckSize text p s next)
     unfolding alignToNext
@@ -127,9 +128,13 @@ module _ (packsize : Bool) (text : List ℕ) where
     item-placed = step-placed (getoption text p) (option-placed p here)
 
   end-placed : (p : ℕ) (s : State) → Placed (packEnd p s)
-  unfolding packEnd
-  end-placed p s = omega arith
+  unfolding packEnd among
+  end-placed p s = (omega arith, refl)
 
-  pub pack-offset : packWalk packsize text .offset ≤ length text
+  pub pack-fits : Fits (length text) (numbers (pack packsize)) (packWalk packsize text)
   unfolding packWalk
-  pack-offset = walk-every (packTurn luckSize packsize text) packEnd (length text) Placed (λ p s h. item-placed p h s) end-placed 0 _
+  pack-fits = walk-every (packTurn luckSize packsize text) packEnd (length text) Placed (λ p s h. item-placed p h s) end-placed 0 _
+
+  pub check-pack : (version : ℕ) → Fits (length text) (numbers (pack packsize)) (answer (pack packsize) version text)
+  unfolding checkPack among
+  check-pack version = check-fits text (numbers (pack packsize)) refl refl version (packWalk packsize text) pack-fits

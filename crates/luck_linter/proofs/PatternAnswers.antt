@@ -1,0 +1,154 @@
+-- The answers of the check of a pattern.
+-- Assumes nothing.
+use Prim.Native.Nat.{ℕ, _+_, _<_}
+use native.Mathlib.Omega.{arith}
+use mathlib.Core.Path.{_≡_, refl}
+use mathlib.Core.Bool.{Bool, true}
+use mathlib.Core.List.{List, []}
+use mathlib.Core.Option.{Option, none, some}
+use lib.Dec.{eqb, ltb}
+use lib.ListN.{length}
+use borrow.Author.Tests.{eqb-true}
+use Rattle.luck_token.specs.Bytes.{byteAt, among}
+use Rattle.luck_token.proofs.Cases.{by-test, present}
+use Rattle.luck_linter.specs.Answer.{Answer}
+use Rattle.luck_linter.specs.Checks.{pattern, answer, numbers}
+use Rattle.luck_linter.proofs.Answers.{Stops, walk-every, Fits, check-fits}
+use Rattle.luck_linter.specs.Captures.{closeLatest, isClosed, allClosed}
+use Rattle.luck_linter.specs.Pattern.{
+  Head,
+  at-open,
+  at-close,
+  at-percent,
+  at-set,
+  at-other,
+  headOf,
+  Escape,
+  esc-digit,
+  esc-balance,
+  esc-frontier,
+  esc-other,
+  esc-end,
+  escapeAt,
+  Member,
+  closing-bracket,
+  escaped-member,
+  cut-escape,
+  byte-member,
+  memberAt,
+  SetEnd,
+  closes-at,
+  cut-at,
+  unclosed,
+  memberBy,
+  memberTurn,
+  membersEnd,
+  firstMember,
+  setEnd,
+  isEmptySet,
+  Read,
+  past,
+  fault,
+  setAs,
+  setRead,
+  escapeAs,
+  escapeRead,
+  onward,
+  afterClose,
+  headTurn,
+  patternTurn,
+  patternEnd,
+  patternWalk,
+  checkPattern,
+}
+
+abbrev AnswerIn : ℕ → Answer → Type 0
+AnswerIn len answer = Fits len (numbers pattern) answer
+
+abbrev ReadIn : ℕ → Read → Type 0
+ReadIn len (past q) = Unit {0}
+ReadIn len (fault answer) = AnswerIn len answer
+
+abbrev EndIn : ℕ → SetEnd → Type 0
+EndIn len (closes-at p) = Unit {0}
+EndIn len (cut-at p) = p < len
+EndIn len unclosed = Unit {0}
+
+module _ (text : List ℕ) where
+  member-in : (p : ℕ) (m : Member) → p < length text → Stops (EndIn (length text)) (memberBy m p)
+  unfolding memberBy
+  member-in p closing-bracket h = tt
+  member-in p escaped-member h = tt
+  member-in p cut-escape h = h
+  member-in p byte-member h = tt
+
+  members-in : (p : ℕ) (first : Bool) → p < length text → Stops (EndIn (length text)) (memberTurn text p first)
+  unfolding memberTurn
+  members-in p first h = member-in p (memberAt text first p) h
+
+  no-member-in : (p : ℕ) (first : Bool) → EndIn (length text) (membersEnd p first)
+  unfolding membersEnd
+  no-member-in p first = tt
+
+  end-in : (p : ℕ) → EndIn (length text) (setEnd text p)
+  unfolding setEnd
+  end-in p = walk-every (memberTurn text) membersEnd (length text) (EndIn (length text)) members-in no-member-in (firstMember text p) _
+
+  set-as-in : (p : ℕ) (end : SetEnd) → p < length text → EndIn (length text) end → ReadIn (length text) (setAs text p end)
+  unfolding setAs among
+  set-as-in p (closes-at e) h i = tt
+  set-as-in p (cut-at e) h i = (omega arith, refl)
+  set-as-in p unclosed h i = (omega arith, by-test (λ (n : ℕ). among n (numbers pattern) ≡ true) (isEmptySet text p) 9 8 (λ _. refl) (λ _. refl))
+
+  set-in : (p : ℕ) → p < length text → ReadIn (length text) (setRead text p)
+  unfolding setRead
+  set-in p h = set-as-in p (setEnd text p) h (end-in p)
+
+  module _ (p : ℕ) (captures : List Bool) (inside : p < length text) where
+    escape-as-in : (e : Escape) → ReadIn (length text) (escapeAs text p captures e)
+    unfolding escapeAs among
+    escape-as-in (esc-digit d) = by-test (ReadIn (length text)) (isClosed captures d) _ _ (λ _. tt) (λ _. (omega arith, refl))
+    escape-as-in esc-balance = by-test (ReadIn (length text)) (ltb (p + 3) (length text)) _ _ (λ _. tt) (λ _. (omega arith, refl))
+    escape-as-in esc-frontier =
+        by-test (ReadIn (length text)) (eqb (byteAt text (p + 2)) 91) _ _
+        (λ e. set-in (p + 2) (present text (p + 2) (omega (arith, eqb-true (byteAt text (p + 2)) 91 e)))) (λ _. (omega arith, refl))
+    escape-as-in esc-other = tt
+    escape-as-in esc-end = (omega arith, refl)
+
+    escape-in : ReadIn (length text) (escapeRead text p captures)
+    unfolding escapeRead
+    escape-in = escape-as-in (escapeAt text (p + 1))
+
+    onward-in : (r : Read) → ReadIn (length text) r → Stops (AnswerIn (length text)) (onward p captures r)
+    unfolding onward
+    onward-in (past q) h = tt
+    onward-in (fault answer) h = h
+
+    close-in : (after : Option (List Bool)) → Stops (AnswerIn (length text)) (afterClose p after)
+    unfolding afterClose among
+    close-in none = (omega arith, refl)
+    close-in (some after) = tt
+
+    head-in : (h : Head) → Stops (AnswerIn (length text)) (headTurn text p captures h)
+    unfolding headTurn among
+    head-in at-open = by-test (Stops (AnswerIn (length text))) (ltb (length captures) 32) _ _ (λ _. tt) (λ _. (omega arith, refl))
+    head-in at-close = close-in (closeLatest captures)
+    head-in at-percent = onward-in (escapeRead text p captures) escape-in
+    head-in at-set = onward-in (setRead text p) (set-in p inside)
+    head-in at-other = tt
+
+    turn-in : Stops (AnswerIn (length text)) (patternTurn text p captures)
+    unfolding patternTurn
+    turn-in = head-in (headOf (byteAt text p))
+
+  last-in : (p : ℕ) (captures : List Bool) → AnswerIn (length text) (patternEnd text p captures)
+  unfolding patternEnd among
+  last-in p captures = by-test (AnswerIn (length text)) (allClosed captures) _ _ (λ _. (omega arith, refl)) (λ _. (omega arith, refl))
+
+  pub pattern-fits : Fits (length text) (numbers pattern) (patternWalk text)
+  unfolding patternWalk
+  pattern-fits = walk-every (patternTurn text) (patternEnd text) (length text) (AnswerIn (length text)) (λ p captures h. turn-in p captures h) last-in 0 []
+
+  pub check-pattern : (version : ℕ) → Fits (length text) (numbers pattern) (answer pattern version text)
+  unfolding checkPattern among
+  check-pattern version = check-fits text (numbers pattern) refl refl version (patternWalk text) pattern-fits

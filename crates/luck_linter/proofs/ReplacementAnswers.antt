@@ -1,0 +1,71 @@
+-- The answers of the check of a replacement.
+-- Assumes nothing.
+use Prim.Native.Nat.{ℕ, suc, _+_, _≤_}
+use native.Mathlib.Omega.{arith}
+use mathlib.Core.Path.{_≡_, refl}
+use mathlib.Core.Bool.{Bool}
+use mathlib.Core.List.{List, [], _∷_}
+use mathlib.Core.Option.{Option}
+use lib.ListN.{length}
+use Rattle.luck_token.specs.Bytes.{among}
+use Rattle.luck_token.specs.Version.{rulesOf}
+use Rattle.luck_token.proofs.Cases.{by-test}
+use Rattle.luck_linter.specs.Answer.{Answer, refused}
+use Rattle.luck_linter.specs.Checks.{replacement, answer, numbers}
+use Rattle.luck_linter.specs.Replacement.{Piece, literal, digit, percent, other, lone, isStrict, escaped, pieces, allowsDigit, piecesWalk, checkReplacement}
+use Rattle.luck_linter.proofs.Answers.{Fits, check-fits}
+
+-- ---- The pieces are as long as their text
+
+unfoldable width : Piece → ℕ
+width (literal b) = 1
+width (digit d) = 2
+width percent = 2
+width (other b) = 2
+width lone = 1
+
+unfoldable widths : List Piece → ℕ
+widths [] = 0
+widths (piece ∷ more) = width piece + widths more
+
+escaped-width : (b : ℕ) → width (escaped b) ≡ 2
+unfolding escaped width
+escaped-width b = by-test (λ piece. width piece ≡ 2) _ _ _ (λ _. refl) (λ _. by-test (λ piece. width piece ≡ 2) _ _ _ (λ _. refl) (λ _. refl))
+
+pieces-width : (text : List ℕ) → widths (pieces text) ≡ length text
+unfolding pieces widths width
+pieces-width [] = refl
+pieces-width (b ∷ []) = by-test (λ piece. widths (piece ∷ []) ≡ 1) _ _ _ (λ _. refl) (λ _. refl)
+pieces-width (b ∷ c ∷ more) =
+    let two = pieces-width more in
+    let one = pieces-width (c ∷ more) in
+    by-test (λ (all : List Piece). widths all ≡ suc (suc (length more))) _ _ _ (λ _. omega (arith, escaped-width c, two)) (λ _. omega (arith, one))
+
+-- ---- The walk
+
+module _ (strict : Bool) (captures : Option ℕ) (len : ℕ) where
+  abbrev AnswerIn : Answer → Type 0
+  AnswerIn answer = Fits len (numbers (replacement captures)) answer
+
+  walk-fits : (all : List Piece) (p : ℕ) → p + widths all ≤ len → AnswerIn (piecesWalk strict captures all p)
+  unfolding piecesWalk widths width among
+  walk-fits [] p h = (omega arith, refl)
+  walk-fits (literal b ∷ more) p h = walk-fits more (p + 1) (omega arith)
+  walk-fits (digit d ∷ more) p h =
+      let rest = walk-fits more (p + 2) (omega arith) in
+      by-test AnswerIn (allowsDigit captures d) (piecesWalk strict captures more (p + 2)) (refused 21 (p + 1)) (λ _. rest) (λ _. (omega arith, refl))
+  walk-fits (percent ∷ more) p h = walk-fits more (p + 2) (omega arith)
+  walk-fits (other b ∷ more) p h =
+      let rest = walk-fits more (p + 2) (omega arith) in
+      by-test AnswerIn strict (refused 20 (p + 1)) (piecesWalk strict captures more (p + 2)) (λ _. (omega arith, refl)) (λ _. rest)
+  walk-fits (lone ∷ more) p h =
+      let rest = walk-fits more (p + 1) (omega arith) in
+      by-test AnswerIn strict (refused 19 p) (piecesWalk strict captures more (p + 1)) (λ _. (omega arith, refl)) (λ _. rest)
+
+module _ (captures : Option ℕ) (text : List ℕ) where
+  pub replacement-fits : (strict : Bool) → Fits (length text) (numbers (replacement captures)) (piecesWalk strict captures (pieces text) 0)
+  replacement-fits strict = walk-fits strict captures (length text) (pieces text) 0 (omega (arith, pieces-width text))
+
+  pub check-replacement : (version : ℕ) → Fits (length text) (numbers (replacement captures)) (answer (replacement captures) version text)
+  unfolding checkReplacement among
+  check-replacement version = check-fits text (numbers (replacement captures)) refl refl version (piecesWalk (isStrict (rulesOf version)) captures (pieces text) 0) (replacement-fits (isStrict (rulesOf version)))
