@@ -5,6 +5,7 @@ pub mod Patterns
 pub mod Replacements
 pub mod Formats
 pub mod Packs
+pub mod PackOptions
 pub mod Dates
 pub mod StringLiterals
 pub mod Answers

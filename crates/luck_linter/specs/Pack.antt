@@ -2,7 +2,7 @@
 -- letter and its number, and judged by its kind and size. Sizes that the build decides are luck's: `n` is 8 and the others 4, so that `!5j` is
 -- accepted and `!5n` refused. `c` takes any number, where getnum of lstrlib.c stops at the largest int.
 -- Assumes nothing.
-use Prim.Native.Nat.{ℕ, _+_, min}
+use Prim.Native.Nat.{ℕ, zero, suc, _+_, _-_, min}
 use Prim.Native.Char.{code}
 use mathlib.Core.Bool.{Bool, not, _&&_}
 use mathlib.Core.List.{List, [], _∷_}
@@ -65,9 +65,30 @@ getoption text p =
     if leb (length text) p then fault (refused 15 p)
     else if among b bareLetters then option (packOption b none) 1 else numberedOption text p
 
+-- an option and its place
+pub record Placed : Type 0 where
+  pub place : ℕ
+  pub read : PackOption
+
+abbrev pub placed : ℕ → PackOption → Placed
+placed place read = record { place = place; read = read }
+
+-- the options from p on, at most this many; the first fault ends the list, as the end of the text does
+unfoldable pub optionsUpTo : ℕ → List ℕ → ℕ → List Placed
+optionsUpTo zero text p = []
+optionsUpTo (suc n) text p = elim (getoption text p) [ option o width ↦ placed p o ∷ optionsUpTo n text (p + width) | fault answer ↦ [] ]
+
+-- all of them, from p on; the option that an `X` reads stands behind it
+unfoldable pub optionsFrom : List ℕ → ℕ → List Placed
+optionsFrom text p = optionsUpTo (length text - p) text p
+
+unfoldable pub options : List ℕ → List Placed
+options text = optionsFrom text 0
+
 -- ---- Kind and size
 
--- KOption of lstrlib.c
+-- KOption of lstrlib.c: whole numbers, signed and not; a float, a number of Lua's, a double; strings of a fixed length, behind their length (`s`) and
+-- up to a zero byte; `x`; `X`; and what takes no value and no room (a space, an endianness, `!`)
 pub data KOption : Type 0 where
   Kint Kuint Kfloat Knumber Kdouble Kchar Kstring Kzstr Kpadding Kpaddalign Knop : KOption
 
@@ -129,7 +150,7 @@ isMisaligned size alignment = ltb 1 size && not (isPowerOfTwo (min size alignmen
 unfoldable pub aligned : ℕ → ℕ → ℕ → State → State → Turn State Answer
 aligned p width size before after = if isMisaligned size (before .alignment) then stop (refused 17 p) else goes width after
 
--- packsize takes no option of variable length
+-- packsize takes no option of variable length; luck tests this before the alignment, str_packsize after it
 unfoldable pub variable : Bool → List ℕ → ℕ → Turn State Answer → Turn State Answer
 variable packsize text p step = if packsize then stop (refusedWith 18 p (charAt text p .code)) else step
 
