@@ -1,5 +1,7 @@
 //! Asks the library and the reference the same and reports where they differ.
 
+mod checks;
+
 use std::str;
 
 use luck_token::LuaVersion;
@@ -16,11 +18,13 @@ const SPARE_ROOM: usize = 9;
 pub struct Comparison {
     report: Report,
     output: Output,
+    /// Counts the checks of literals.
+    turn: usize,
 }
 
 impl Comparison {
     pub fn new() -> Self {
-        Self { report: Report::default(), output: Output::new() }
+        Self { report: Report::default(), output: Output::new(), turn: 0 }
     }
 
     pub const fn report(&self) -> &Report {

@@ -5,7 +5,8 @@ use crate::random::Random;
 const SIMPLE_ESCAPES: [&str; 10] = ["\\a", "\\b", "\\f", "\\n", "\\r", "\\t", "\\v", "\\\\", "\\\"", "\\'"];
 const UNDEFINED_ESCAPES: [&str; 14] =
     ["\\q", "\\A", "\\X", "\\U", "\\Z", "\\ ", "\\%", "\\[", "\\\0", "\\\u{7F}", "\\é", "\\€", "\\😀", "\\{"];
-const CHARACTERS: [&str; 14] = [
+/// Characters at the ends of each width.
+pub const CHARACTERS: [&str; 14] = [
     "é",
     "ß",
     "\u{80}",
@@ -107,7 +108,7 @@ fn short_string(random: &mut Random, text: &mut Vec<u8>) {
 }
 
 /// Mostly few, and once in five hundred enough for some thousand bytes.
-fn piece_count(random: &mut Random) -> usize {
+pub fn piece_count(random: &mut Random) -> usize {
     if random.one_in(500) { 200 + random.below(1200) } else { random.below(14) }
 }
 
@@ -218,12 +219,17 @@ fn bracket(byte: u8, level: usize, text: &mut Vec<u8>) {
 
 /// Damages a text in one to three places.
 pub fn damage(random: &mut Random, text: &mut Vec<u8>) {
+    damage_with(random, &crate::exhaustive::HOSTILE, text);
+}
+
+/// The same, with these symbols to insert.
+pub fn damage_with(random: &mut Random, symbols: &[&[u8]], text: &mut Vec<u8>) {
     for _ in 0..=random.below(3) {
-        damage_once(random, text);
+        damage_once(random, symbols, text);
     }
 }
 
-fn damage_once(random: &mut Random, text: &mut Vec<u8>) {
+fn damage_once(random: &mut Random, symbols: &[&[u8]], text: &mut Vec<u8>) {
     let place = random.below(text.len() + 1);
     match random.below(8) {
         0 => flip(random, text),
@@ -231,7 +237,7 @@ fn damage_once(random: &mut Random, text: &mut Vec<u8>) {
         2 => drop(text.drain(..place.min(text.len() / 4 + 1).min(text.len()))),
         3 => remove(random, text, place),
         4 => text.insert(place, random.byte()),
-        5 => insert(text, place, random.pick(&crate::exhaustive::HOSTILE)),
+        5 => insert(text, place, random.pick(symbols)),
         6 => swap(random, text),
         _ => repeat(random, text, place),
     }
@@ -265,6 +271,6 @@ fn repeat(random: &mut Random, text: &mut Vec<u8>, place: usize) {
     insert(text, place, &copy);
 }
 
-fn push(text: &mut Vec<u8>, part: &str) {
+pub fn push(text: &mut Vec<u8>, part: &str) {
     text.extend_from_slice(part.as_bytes());
 }

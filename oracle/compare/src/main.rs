@@ -1,9 +1,14 @@
 //! Compares the proved library with luck's Rust in one process, and writes the stored answers.
 
+mod bodies;
+mod body_edges;
+mod check_reference;
+mod checks;
 mod comparison;
 mod edges;
 mod exhaustive;
 mod grammar;
+mod kind;
 mod known;
 mod library;
 mod output;
@@ -11,6 +16,7 @@ mod random;
 mod reference;
 mod report;
 mod store;
+mod symbols;
 
 use std::env;
 use std::path::Path;
@@ -21,11 +27,13 @@ use comparison::Comparison;
 use exhaustive::{Form, LONG, LONG_LEVEL_1, QUOTED, RAW};
 use random::Random;
 
-const USAGE: &str = "usage: compare short | compare long [SEED] [COUNT] | compare store DIR";
+const USAGE: &str = "usage: compare short | compare long [SEED] [COUNT] | compare checks [SEED] [COUNT] | compare store DIR";
 const DEFAULT_SEED: u64 = 20_240_501;
 
 /// How far a run goes.
 struct Extent {
+    /// Which length of each kind's alphabets.
+    is_long: bool,
     /// Symbols of the hostile alphabet, by form.
     hostile: [(Form, usize); 4],
     brackets: usize,
@@ -38,10 +46,13 @@ struct Extent {
     padded_code_points: usize,
     seed: u64,
     random_texts: u64,
+    /// For each kind, and for literals.
+    random_bodies: u64,
 }
 
 const fn short_extent() -> Extent {
     Extent {
+        is_long: false,
         hostile: [(RAW, 4), (QUOTED, 4), (LONG, 4), (LONG_LEVEL_1, 3)],
         brackets: 7,
         code_point_symbols: 5,
@@ -52,11 +63,13 @@ const fn short_extent() -> Extent {
         padded_code_points: 200_000,
         seed: DEFAULT_SEED,
         random_texts: 2_500_000,
+        random_bodies: 200_000,
     }
 }
 
 const fn long_extent(seed: u64, random_texts: u64) -> Extent {
     Extent {
+        is_long: true,
         hostile: [(RAW, 5), (QUOTED, 5), (LONG, 5), (LONG_LEVEL_1, 5)],
         brackets: 9,
         code_point_symbols: 7,
@@ -67,6 +80,7 @@ const fn long_extent(seed: u64, random_texts: u64) -> Extent {
         padded_code_points: 5_000_000,
         seed,
         random_texts,
+        random_bodies: random_texts,
     }
 }
 
@@ -74,11 +88,9 @@ fn main() -> ExitCode {
     let words: Vec<String> = env::args().skip(1).collect();
     let words: Vec<&str> = words.iter().map(String::as_str).collect();
     match *words.as_slice() {
-        ["short"] => compare(&short_extent()),
-        ["long", ref numbers @ ..] => match long_numbers(numbers) {
-            Some((seed, count)) => compare(&long_extent(seed, count)),
-            None => usage(),
-        },
+        ["short"] => compare(&short_extent(), Run::all),
+        ["long", ref numbers @ ..] => compare_long(numbers, Run::all),
+        ["checks", ref numbers @ ..] => compare_long(numbers, Run::checks),
         ["store", folder] => store(Path::new(folder)),
         _ => usage(),
     }
@@ -113,13 +125,19 @@ fn store(folder: &Path) -> ExitCode {
     }
 }
 
-fn compare(extent: &Extent) -> ExitCode {
+/// The parts of a run that are asked for.
+type Parts = fn(&mut Run, &Extent);
+
+fn compare_long(numbers: &[&str], parts: Parts) -> ExitCode {
+    match long_numbers(numbers) {
+        Some((seed, count)) => compare(&long_extent(seed, count), parts),
+        None => usage(),
+    }
+}
+
+fn compare(extent: &Extent, parts: Parts) -> ExitCode {
     let mut run = Run { comparison: Comparison::new(), random: Random::new(extent.seed) };
-    run.fixed(extent);
-    run.hostile(extent);
-    run.escapes(extent);
-    run.utf8(extent);
-    run.random_literals(extent);
+    parts(&mut run, extent);
     println!("{}", run.comparison.report());
     ExitCode::from(u8::from(run.comparison.report().differing() > 0))
 }
@@ -130,6 +148,15 @@ struct Run {
 }
 
 impl Run {
+    fn all(&mut self, extent: &Extent) {
+        self.fixed(extent);
+        self.hostile(extent);
+        self.escapes(extent);
+        self.utf8(extent);
+        self.random_literals(extent);
+        self.checks(extent);
+    }
+
     fn fixed(&mut self, extent: &Extent) {
         self.comparison.rules();
         self.comparison.whitespace();

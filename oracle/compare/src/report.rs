@@ -14,11 +14,33 @@ pub enum Check {
     LineBreak,
     ShortBody,
     Decode,
+    Format,
+    Pattern,
+    Pack,
+    Packsize,
+    Replacement,
+    Date,
+    Literal,
 }
 
 impl Check {
-    const ALL: [Self; 8] =
-        [Self::Rules, Self::Whitespace, Self::Span, Self::Utf8, Self::CharAt, Self::LineBreak, Self::ShortBody, Self::Decode];
+    const ALL: [Self; 15] = [
+        Self::Rules,
+        Self::Whitespace,
+        Self::Span,
+        Self::Utf8,
+        Self::CharAt,
+        Self::LineBreak,
+        Self::ShortBody,
+        Self::Decode,
+        Self::Format,
+        Self::Pattern,
+        Self::Pack,
+        Self::Packsize,
+        Self::Replacement,
+        Self::Date,
+        Self::Literal,
+    ];
 
     const fn name(self) -> &'static str {
         match self {
@@ -30,6 +52,13 @@ impl Check {
             Self::LineBreak => "strip_line_break",
             Self::ShortBody => "short_string_body",
             Self::Decode => "decode_string",
+            Self::Format => "check_format",
+            Self::Pattern => "check_pattern",
+            Self::Pack => "check_pack",
+            Self::Packsize => "check_packsize",
+            Self::Replacement => "check_replacement",
+            Self::Date => "check_date",
+            Self::Literal => "check_literal",
         }
     }
 }
