@@ -1,7 +1,7 @@
 // What luck_token has in common with luck's Rust, and the UTF-8 test, as C functions, so that the two can be compared in one process.
+// The decoding is a function of the library for hosts.
 ghost use mathlib.Core.Path.{_≡_};
 ghost use lib.ListN.{length};
-ghost use Rattle.luck_token.specs.Decode.{decodeString, answer, answerOf, outputOf};
 ghost use Rattle.luck_token.specs.Literal.{shortStringBody};
 ghost use Rattle.luck_token.specs.Span.{spanOf, shiftedBy};
 ghost use Rattle.luck_token.specs.Utf8.{illFormed, charAt};
@@ -17,44 +17,6 @@ use luck_token::utf8::Utf8;
 use luck_token::version;
 use luck_token::version::Rules;
 use luck_token::whitespace;
-
-// A refusal's number and offset, or 0, 0 and how many bytes of the output the value has.
-#[repr(C)]
-pub struct Decoded {
-    pub number: u32,
-    pub offset: usize,
-    pub written: usize,
-}
-
-#[no_mangle]
-pub extern "C" fn luck_token_decode_string(version: u32, text: &[u8], output: &mut [u8]) -> Decoded
-    ensures answer { λ r. ⌜ answer (r .number) (r .offset) (r .written) ≡ answerOf (decodeString version (now (text .entry)) (length (now (output .entry)))) ⌝ }
-    ensures output { λ r. ⌜ now (output .exit) ≡ outputOf (decodeString version (now (text .entry)) (length (now (output .entry)))) (now (output .entry)) ⌝ }
-{
-    let decoded = string::decode_string(version, text, output);
-    match decoded {
-        string::Decoded::Value(n) => Decoded {
-            number: 0,
-            offset: 0,
-            written: n,
-        },
-        string::Decoded::UnknownVersion => refusal(25, 0),
-        string::Decoded::NotUtf8(at) => refusal(23, at),
-        string::Decoded::Undecodable => refusal(24, 0),
-        string::Decoded::OutputTooShort => refusal(26, 0),
-    }
-}
-
-// A refused text has no value.
-fn refusal(number: u32, offset: usize) -> Decoded
-    ensures { λ r. ⌜ answer (r .number) (r .offset) (r .written) ≡ answer number offset 0 ⌝ }
-{
-    Decoded {
-        number,
-        offset,
-        written: 0,
-    }
-}
 
 #[no_mangle]
 pub extern "C" fn luck_token_rules(version: u32) -> Rules

@@ -92,7 +92,7 @@ unsafe extern "C" {
     fn luck_check_replacement(version: u32, known: u8, captures: usize, body: *const u8, len: usize) -> Answer;
     fn luck_check_literal(kind: u8, version: u32, known: u8, captures: usize, start: u32, text: *const u8, len: usize)
     -> Literal;
-    fn luck_token_decode_string(version: u32, text: *const u8, len: usize, output: *mut u8, room: usize) -> Decoded;
+    fn luck_decode_string(version: u32, text: *const u8, len: usize, output: *mut u8, room: usize) -> Decoded;
     safe fn luck_token_rules(version: u32) -> Row;
     fn luck_token_utf8(text: *const u8, len: usize) -> usize;
     fn luck_token_char_at(text: *const u8, len: usize, at: usize) -> Char;
@@ -106,7 +106,7 @@ unsafe extern "C" {
 // of its callers.
 
 pub fn decode_string(version: u32, text: &[u8], output: &mut [u8]) -> Decoded {
-    unsafe { luck_token_decode_string(version, text.as_ptr(), text.len(), output.as_mut_ptr(), output.len()) }
+    unsafe { luck_decode_string(version, text.as_ptr(), text.len(), output.as_mut_ptr(), output.len()) }
 }
 
 /// An unknown count of captures is passed as 0, which would refuse most digits if the library looked at it.

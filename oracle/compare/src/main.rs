@@ -27,7 +27,7 @@ use comparison::Comparison;
 use exhaustive::{Form, LONG, LONG_LEVEL_1, QUOTED, RAW};
 use random::Random;
 
-const USAGE: &str = "usage: compare short | compare long [SEED] [COUNT] | compare checks [SEED] [COUNT] | compare store DIR";
+const USAGE: &str = "usage: compare short | compare (long | literals | checks) [SEED] [COUNT] | compare store DIR";
 const DEFAULT_SEED: u64 = 20_240_501;
 
 /// How far a run goes.
@@ -90,6 +90,7 @@ fn main() -> ExitCode {
     match *words.as_slice() {
         ["short"] => compare(&short_extent(), Run::all),
         ["long", ref numbers @ ..] => compare_long(numbers, Run::all),
+        ["literals", ref numbers @ ..] => compare_long(numbers, Run::literals),
         ["checks", ref numbers @ ..] => compare_long(numbers, Run::checks),
         ["store", folder] => store(Path::new(folder)),
         _ => usage(),
@@ -149,12 +150,16 @@ struct Run {
 
 impl Run {
     fn all(&mut self, extent: &Extent) {
+        self.literals(extent);
+        self.checks(extent);
+    }
+
+    fn literals(&mut self, extent: &Extent) {
         self.fixed(extent);
         self.hostile(extent);
         self.escapes(extent);
         self.utf8(extent);
         self.random_literals(extent);
-        self.checks(extent);
     }
 
     fn fixed(&mut self, extent: &Extent) {
