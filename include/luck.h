@@ -6,11 +6,11 @@
  * For every function:
  *
  * - `version` is 1 to 5 for Lua 5.1 to 5.5 and 6 for Luau. Another number is refused (25).
- * - A text is a pointer and a count of bytes, any bytes, zero bytes among them; no text ends in a zero byte of its own. With
- *   a count of 0 the pointer is not read and may be null. With any other count it points to so many readable bytes.
+ * - A text is a pointer and a count of bytes: any bytes, and a zero byte does not end it. With a count of 0 the pointer is not
+ *   read and may be null; with any other count it points to so many readable bytes, at most PTRDIFF_MAX, as of any object in C.
  * - A `bool` is false or true: what C and C++ do by themselves, and what another language has to see to.
  * - The functions keep no state, allocate nothing, and write nothing but the output that decoding is lent. They may run in
- *   any number of threads at once, also on the same text.
+ *   any number of threads at once, also on the same text. None calls itself; each takes less than 1 KiB of stack, as measured.
  *
  * The refusals, by `number`, with their names behind LUCK_. 0 is none: accepted, decoded, or skipped.
  *
