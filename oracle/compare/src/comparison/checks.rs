@@ -11,7 +11,7 @@ use crate::report::{Case, Check};
 const CAPTURES: [Option<usize>; 8] = [None, Some(0), Some(1), Some(2), Some(3), Some(9), Some(32), Some(usize::MAX)];
 
 /// Places of a literal in its source: a span saturates at the largest one.
-const STARTS: [u32; 8] = [0, 1, 1000, u32::MAX / 2, u32::MAX - 3, u32::MAX - 2, u32::MAX - 1, u32::MAX];
+const STARTS: [u32; 9] = [0, 1, 1000, u32::MAX / 2, u32::MAX - 4, u32::MAX - 3, u32::MAX - 2, u32::MAX - 1, u32::MAX];
 
 /// The letters, and two bytes that are none.
 const KINDS: [u8; 8] = *b"FPKSGDf\0";
@@ -31,9 +31,11 @@ impl Comparison {
         }
     }
 
-    /// The check of a literal by every kind and in every version. Its start and the count of captures take turns.
+    /// The check of a literal by every kind and in every version. Its start and the count of captures take turns, which
+    /// begin one place later at each text: otherwise a kind would meet the same start in every text.
     pub fn literal(&mut self, text: &[u8]) {
         let mut expected = Text::new(text);
+        self.turn = self.turn.wrapping_add(1);
         for version in VERSIONS.chain(NO_VERSIONS) {
             for kind in KINDS {
                 self.turn = self.turn.wrapping_add(1);
