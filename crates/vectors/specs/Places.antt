@@ -1,8 +1,13 @@
--- Where things stand in a stored file: what its reader promises to those who use what it read.
+-- Where things stand in a stored file: what its readers promise to those who use what they read.
 -- Assumes nothing.
 use Prim.Native.Nat.{ℕ, _+_, _<_, _≤_}
 use Rattle.vectors.specs.declared.reader.Loaded.{Loaded}
 use Rattle.vectors.specs.declared.reader.Loaded.the-variants.{Length, Missing, Unreadable, TooLarge}
+use Rattle.vectors.specs.declared.tally.Turn.{Turn}
+use Rattle.vectors.specs.declared.tally.Turn.the-variants as turn
+use Rattle.vectors.specs.declared.question.Question.{Question}
+use Rattle.vectors.specs.declared.question.Asked.{Asked}
+use Rattle.vectors.specs.declared.question.Asked.the-variants as asked
 use Rattle.vectors.specs.declared.literals.Record.{Record}
 use Rattle.vectors.specs.declared.literals.Read.{Read}
 use Rattle.vectors.specs.declared.literals.Read.the-variants.{Whole, Bad}
@@ -13,6 +18,22 @@ Loads len (Length n) = n ≤ len
 Loads len Missing = Unit {0}
 Loads len Unreadable = Unit {0}
 Loads len TooLarge = Unit {0}
+
+-- the next record stands behind this one, and not behind the file
+abbrev pub Passes : ℕ → ℕ → Turn → Type 0
+Passes p len (turn.Record agrees next) = (p < next) × (next ≤ len)
+Passes p len turn.Bad = Unit {0}
+
+-- the question's text and an answer of this width lie in a file of this length
+pub record AnswerLies (width len : ℕ) (q : Question) : Type 0 where
+  pub text : q .text ≤ q .answer
+  pub answer : q .answer + width ≤ q .next
+  pub next : q .next ≤ len
+
+-- a question that was read lies in the file, and its record ends behind the place where it was read
+abbrev pub Asks : ℕ → ℕ → ℕ → Asked → Type 0
+Asks p width len (asked.Whole q) = AnswerLies width len q × (p < q .next)
+Asks p width len asked.Bad = Unit {0}
 
 -- the record's text and value lie in a file of this length, and the value in the output
 pub record Lies (len : ℕ) (r : Record) : Type 0 where

@@ -18,6 +18,15 @@ pub fn short_at(stored: &[u8], at: usize) -> usize
     high * 256 + low
 }
 
+// A number of four bytes, the low one first.
+pub fn word_at(stored: &[u8], at: usize) -> u32
+    requires { ⌜ at + 3 < length (now stored) ⌝ }
+{
+    let low = short_at(stored, at) as u32;
+    let high = short_at(stored, at + 2) as u32;
+    high * 65536 + low
+}
+
 pub fn fill(output: &mut [u8], to: usize, byte: u8)
     requires { ⌜ to ≤ length (now output) ⌝ }
 {

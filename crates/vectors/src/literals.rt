@@ -2,13 +2,9 @@
 // the answer's number in one byte, its offset and the value's length in two, and the value.
 ghost use Prim.Native.Nat.{_+_, _<_, _≤_};
 ghost use lib.ListN.{length};
-ghost use Rattle.vectors.specs.Places.{Lies, LiesBehind};
+ghost use Rattle.vectors.specs.Places.{Lies, LiesBehind, Passes};
 use crate::bytes;
-use crate::reader;
-use crate::reader::Loaded;
-use crate::report;
-use crate::tally;
-use crate::tally::Replay;
+use crate::tally::Turn;
 use luck_token::string;
 use luck_token::string::Decoded;
 
@@ -42,45 +38,21 @@ const UNTOUCHED: u8 = 0xF9;
 // How many bytes behind the output are watched.
 const BEHIND: usize = 16;
 
-pub fn replay_stored(file: &mut [u8], output: &mut [u8])
-    requires { ⌜ 65551 < length (now output) ⌝ }
+pub fn turn(file: &[u8], at: usize) -> Turn
+    requires { ⌜ at ≤ length (now file) ⌝ }
+    ensures { λ r. ⌜ Passes at (length (now (file .entry))) r ⌝ }
 {
-    run(b"literals", b"literals.bin", file, output);
-}
-
-// Two records that are right, and others that are wrong in one field each: the line shows that a difference is told.
-pub fn replay_wrong(file: &mut [u8], output: &mut [u8])
-    requires { ⌜ 65551 < length (now output) ⌝ }
-{
-    run(b"wrong literals", b"wrong.bin", file, output);
-}
-
-fn run(name: &[u8], path: &[u8], file: &mut [u8], output: &mut [u8])
-    requires { ⌜ 65551 < length (now output) ⌝ }
-{
-    let loaded = reader::load(path, file);
-    match loaded {
-        Loaded::Length(n) => report::replayed(name, replay(&file[0..n], output)),
-        _ => report::not_read(name, loaded),
-    }
-}
-
-fn replay(file: &[u8], output: &mut [u8]) -> Replay
-    requires { ⌜ 65551 < length (now output) ⌝ }
-{
-    let mut tally = tally::none();
-    let mut at = 0;
-    while at < file.len() {
-        let read = record_at(file, at);
-        match read {
-            Read::Bad => return Replay::BadFile,
-            Read::Whole(record) => {
-                tally = tally::count(tally, agrees(file, record, output));
-                at = record.next;
+    let read = record_at(file, at);
+    match read {
+        Read::Whole(record) => {
+            let mut output = [0u8; 65552];
+            Turn::Record {
+                agrees: agrees(file, record, &mut output),
+                next: record.next,
             }
         }
+        Read::Bad => Turn::Bad,
     }
-    Replay::Whole(tally)
 }
 
 fn record_at(file: &[u8], at: usize) -> Read

@@ -10,9 +10,15 @@ pub struct Tally {
     pub first: usize,
 }
 
+// A record that was replayed, and the place of the next one.
+pub enum Turn {
+    Record { agrees: bool, next: usize },
+    // cut off, or in contradiction to itself
+    Bad,
+}
+
 pub enum Replay {
     Whole(Tally),
-    // a record that is cut off or contradicts itself
     BadFile,
 }
 

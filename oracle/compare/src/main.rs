@@ -16,6 +16,9 @@ mod random;
 mod reference;
 mod report;
 mod store;
+mod store_checks;
+mod store_rows;
+mod store_texts;
 mod symbols;
 
 use std::env;

@@ -12,6 +12,8 @@ use crate::grammar;
 use crate::library::Decoded;
 use crate::random::Random;
 use crate::reference::{self, VERSIONS};
+use crate::store_checks;
+use crate::store_rows;
 
 const FILE: &str = "literals.bin";
 const WRONG_FILE: &str = "wrong.bin";
@@ -29,7 +31,9 @@ pub fn write(folder: &Path) -> io::Result<(usize, usize)> {
     fs::create_dir_all(folder)?;
     fs::write(folder.join(FILE), &records.bytes)?;
     fs::write(folder.join(WRONG_FILE), wrong_records().bytes)?;
-    Ok((records.count, records.bytes.len()))
+    let checks = store_checks::write(folder)?;
+    let rows = store_rows::write(folder)?;
+    Ok((records.count + checks.0 + rows.0, records.bytes.len() + checks.1 + rows.1))
 }
 
 #[derive(Default)]

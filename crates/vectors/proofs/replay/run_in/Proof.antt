@@ -1,11 +1,11 @@
--- `vectors::literals::run` is safe and ends. Assumes nothing.
+-- `vectors::replay::run_in` is safe and ends. Assumes nothing.
 use native.Mathlib.Omega.{arith}
 use mathlib.Core.Path.{subst}
 use lib.ListN.{length}
 use Rattle.vectors.specs.Places.{Loads}
 use borrow.Author.Needs.{needs}
-use Rattle.vectors.proofs.literals.run.Statement.{statement}
-use Rattle.vectors.proofs.literals.run.Tie as tie
+use Rattle.vectors.proofs.replay.run_in.Statement.{statement}
+use Rattle.vectors.proofs.replay.run_in.Tie as tie
 
 load-requires : tie.Need-load-requires
 load-requires c κs = search needs
@@ -21,8 +21,9 @@ part-replay-start c = search needs
 
 part-replay-end : tie.Need-part-replay-end
 part-replay-end c =
-    let h = subst (Loads (length (c .before .before .before .before .before .before .before .before .before .before .before .before .args .file .now))) (c .before .before .loaded .given .1) (c .before .before .before .before .before .before .load .ensures) in
-    omega (arith, c .before .before .before .before .before .before .load .kept)
+    let load = c .before .before .before .before .before .before .load in
+    let h = subst (Loads (length (c .before .before .before .before .before .before .before .before .before .before .before .args .file .now))) (c .before .before .loaded .given .1) (load .ensures) in
+    omega (arith, load .kept)
 
 replay-requires : tie.Need-replay-requires
 replay-requires c κs = search needs
@@ -36,20 +37,17 @@ not-read-requires c κs = search needs
 same-length : tie.Need-same-length
 same-length c = search needs
 
-same-length-2 : tie.Need-same-length-2
-same-length-2 c = search needs
-
 returns : tie.Need-returns
 returns c = search needs
 
-same-length-3 : tie.Need-same-length-3
-same-length-3 c = search needs
+same-length-2 : tie.Need-same-length-2
+same-length-2 c = search needs
 
 returns-2 : tie.Need-returns-2
 returns-2 c = search needs
 
-pub run-spec : {M : Type 1} → statement M
-run-spec =
+pub run-in-spec : {M : Type 1} → statement M
+run-in-spec =
     tie.close
     (tie.spec
     load-requires
@@ -61,7 +59,6 @@ run-spec =
     replayed-requires
     not-read-requires
     same-length
-    same-length-2
     returns
-    same-length-3
+    same-length-2
     returns-2)

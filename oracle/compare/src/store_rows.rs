@@ -1,0 +1,97 @@
+//! The records that are written by hand: the rows of `crates/vectors/data/rows.txt`, and wrong answers of real Lua.
+
+use std::fs;
+use std::io;
+use std::path::Path;
+
+use crate::library::Answer;
+use crate::store_checks::{Question, Records};
+
+const ROWS: &str = include_str!("../../../crates/vectors/data/rows.txt");
+const ROWS_FILE: &str = "rows.bin";
+const WRONG_REAL_FILE: &str = "wrong_real.bin";
+
+/// Writes the files and answers how many records and bytes they have.
+pub fn write(folder: &Path) -> io::Result<(usize, usize)> {
+    let rows = rows();
+    let wrong = wrong_real();
+    fs::write(folder.join(ROWS_FILE), &rows.bytes)?;
+    fs::write(folder.join(WRONG_REAL_FILE), &wrong.bytes)?;
+    Ok((rows.count + wrong.count, rows.bytes.len() + wrong.bytes.len()))
+}
+
+/// # Panics
+///
+/// When a line is no row.
+fn rows() -> Records {
+    let mut records = Records::default();
+    for line in ROWS.lines().filter(|line| !line.is_empty() && !line.starts_with('#')) {
+        row(&mut records, line).unwrap_or_else(|| panic!("rows.txt: {line}"));
+    }
+    records
+}
+
+/// A record for each of the row's versions.
+fn row(records: &mut Records, line: &str) -> Option<()> {
+    let (front, rest) = line.split_once('"')?;
+    let (text, answer) = rest.rsplit_once('"')?;
+    let &[kind, versions, captures] = front.split_whitespace().collect::<Vec<_>>().as_slice() else {
+        return None;
+    };
+    let &[number, offset, first, second, count] = answer.split_whitespace().collect::<Vec<_>>().as_slice() else {
+        return None;
+    };
+    let &[kind] = kind.as_bytes() else {
+        return None;
+    };
+    let captures = if captures == "." { None } else { Some(captures.parse().ok()?) };
+    let text = bytes(text)?;
+    let answer = Answer {
+        number: number.parse().ok()?,
+        offset: offset.parse().ok()?,
+        first: character(first)?,
+        second: character(second)?,
+        count: count.parse().ok()?,
+    };
+    for version in versions.bytes() {
+        records.push(&Question { kind, version: version.checked_sub(b'0')?, captures, text: &text }, &answer);
+    }
+    Some(())
+}
+
+fn character(word: &str) -> Option<u32> {
+    if word == "." { Some(0) } else { word.parse::<char>().ok().map(u32::from) }
+}
+
+/// The text with each `\x` and two digits as a byte.
+fn bytes(text: &str) -> Option<Vec<u8>> {
+    let mut parts = text.split("\\x");
+    let mut bytes = parts.next()?.as_bytes().to_vec();
+    for part in parts {
+        bytes.push(u8::from_str_radix(part.get(..2)?, 16).ok()?);
+        bytes.extend_from_slice(part.get(2..)?.as_bytes());
+    }
+    Some(bytes)
+}
+
+/// Three records that are right, one of which no version was asked, and others that are wrong in one version each, or have a letter
+/// that is no kind.
+fn wrong_real() -> Records {
+    const FORMAT: Question<'_> = Question { kind: b'F', version: 0, captures: None, text: b"%d" };
+    const FAULTY: Question<'_> = Question { kind: b'F', version: 0, captures: None, text: b"%y" };
+    let mut records = Records::default();
+    let mut real = |question: &Question<'_>, asked: u8, taken: u8| {
+        records.question(question);
+        records.bytes.extend([asked, taken]);
+    };
+    real(&FORMAT, 15, 15);
+    real(&FAULTY, 15, 0);
+    real(&FORMAT, 0, 0);
+    for version in 0..4 {
+        real(&FORMAT, 15, 15 - (1 << version));
+        real(&FAULTY, 15, 1 << version);
+        real(&FORMAT, 1 << version, 0);
+    }
+    real(&Question { kind: b'Q', ..FORMAT }, 0, 0);
+    records
+}
