@@ -44,7 +44,7 @@ local PICKED = {
   K = with(words("b1 c c0 c1 i17 i16 i1 i0 i I17 s s1 s17 !8i3 !8Xi3 i3 !i3 !4i3 !2i3 !1i3 !3i3 !5j !6j !3j !5l !5s !5T !5Xj !3h !16i16 !16i9 ! !17 !0 bz z zz X Xz Xi "
     .. "Xi17 Xs Xs3 Xx XX X! Xc1 Xc Xb Xd !8Xd !8Xi5 x <>= y bBhHiIlLjJTfdn i99999999999 !5d !5n i016"),
     "", " ", "X ", E_ACUTE, "b b", "\0", "b\0", "b\0y", "!5j\0", FF, "b" .. FF, "i-1"),
-  S = words("c0 c2147483639 c2147483640 c2147483648 c99999999999999999999 c2147483639b bc2147483639 !5jc2147483648"),
+  S = words("c0 c2147483639 c2147483640 c2147483648 c99999999999999999999 c2147483639b bc2147483639 c2147483639c9 !5jc2147483648"),
   G = with(words("a% %x %2 %1 %0 %9 %% %%% % a%1b%2 %1%x %x%2 %%2 %10"), "", "%\0", "a\0b", "%" .. E_ACUTE, FF, "%1" .. FF),
   D = with(words("%Q % a% *t !*t !!*t %% %E %Ec %Ed %O %Od %Oc %# %#c %#p %#% %E% %5d %aA %+ %k %s %P !%c ! %c% %EcQ *t%Q %C %D %e %F %g %G %h %n %r %R %t %T %u %V %Z %z"),
     "", "%\0", "a\0%Q", "*t\0", "*t\0%Q", "!*t\0%Q", "%#c\0%Q", "*t ", "%" .. E_ACUTE, FF, "%c" .. FF),
