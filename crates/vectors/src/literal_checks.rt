@@ -1,7 +1,11 @@
 // Stored answers of the check of a literal. A record: a question, the literal's start in four bytes, whether it was skipped in one, an answer
 // as the checks have it, whether there is a span in one, and its start and end in four each.
+ghost use mathlib.Core.Path.{_≡_};
+ghost use mathlib.Core.Bool.{true, false};
 ghost use Prim.Native.Nat.{_+_, _≤_};
 ghost use lib.ListN.{length};
+ghost use Rattle.luck_linter.specs.StringLiteral.{literalAnswerOf};
+ghost use Rattle.vectors.specs.Answers.{inNumbers, literal, literalInNumbers};
 ghost use Rattle.vectors.specs.Places.{AnswerLies, Passes};
 use crate::bytes;
 use crate::checks;
@@ -12,12 +16,13 @@ use crate::question::Question;
 use crate::tally::Turn;
 use luck_linter::rules::format_string;
 use luck_linter::rules::format_string::LiteralChecked;
+use luck_token::span::Span;
 
 // A skipped literal has an answer of zeros, and one without a span a span of zeros.
 struct LiteralAnswer {
-    skipped: u32,
+    skipped: bool,
     answer: Answer,
-    spanned: u32,
+    spanned: bool,
     start: u32,
     end: u32,
 }
@@ -63,9 +68,9 @@ fn answer_at(file: &[u8], at: usize) -> LiteralAnswer
     requires { ⌜ at + 23 ≤ length (now file) ⌝ }
 {
     LiteralAnswer {
-        skipped: bytes::byte_at(file, at),
+        skipped: bytes::byte_at(file, at) != 0,
         answer: checks::answer_at(file, at + 1),
-        spanned: bytes::byte_at(file, at + 14),
+        spanned: bytes::byte_at(file, at + 14) != 0,
         start: bytes::word_at(file, at + 15),
         end: bytes::word_at(file, at + 19),
     }
@@ -87,35 +92,39 @@ fn is_same(given: LiteralAnswer, stored: LiteralAnswer) -> bool {
     checks::is_same(given.answer, stored.answer)
 }
 
-fn in_numbers(checked: LiteralChecked) -> LiteralAnswer {
+fn in_numbers(checked: LiteralChecked) -> LiteralAnswer
+    ensures { λ r. ⌜ literalInNumbers r ≡ literalAnswerOf checked ⌝ }
+{
     match checked {
-        LiteralChecked::UnknownKind => without_span(checks::refused(30, 0)),
-        LiteralChecked::UnknownVersion => without_span(checks::refused(25, 0)),
-        LiteralChecked::NotUtf8(at) => without_span(checks::refused(23, at)),
-        LiteralChecked::Skipped => LiteralAnswer {
-            skipped: 1,
-            answer: checks::accepted(0),
-            spanned: 0,
-            start: 0,
-            end: 0,
-        },
-        LiteralChecked::Accepted(count) => without_span(checks::accepted(count)),
-        LiteralChecked::Refused(fault, span) => LiteralAnswer {
-            skipped: 0,
-            answer: checks::fault_in_numbers(fault),
-            spanned: 1,
-            start: span.start,
-            end: span.end,
-        },
+        LiteralChecked::UnknownKind => without_span(false, checks::refused(30, 0)),
+        LiteralChecked::UnknownVersion => without_span(false, checks::refused(25, 0)),
+        LiteralChecked::NotUtf8(at) => without_span(false, checks::refused(23, at)),
+        LiteralChecked::Skipped => without_span(true, checks::accepted(0)),
+        LiteralChecked::Accepted(count) => without_span(false, checks::accepted(count)),
+        LiteralChecked::Refused(fault, span) => with_span(checks::fault_in_numbers(fault), span),
     }
 }
 
-fn without_span(answer: Answer) -> LiteralAnswer {
+fn without_span(skipped: bool, answer: Answer) -> LiteralAnswer
+    ensures { λ r. ⌜ literalInNumbers r ≡ literal skipped false (inNumbers answer) 0 0 ⌝ }
+{
     LiteralAnswer {
-        skipped: 0,
+        skipped,
         answer,
-        spanned: 0,
+        spanned: false,
         start: 0,
         end: 0,
+    }
+}
+
+fn with_span(answer: Answer, span: Span) -> LiteralAnswer
+    ensures { λ r. ⌜ literalInNumbers r ≡ literal false true (inNumbers answer) (span .start) (span .end) ⌝ }
+{
+    LiteralAnswer {
+        skipped: false,
+        answer,
+        spanned: true,
+        start: span.start,
+        end: span.end,
     }
 }

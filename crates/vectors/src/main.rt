@@ -39,6 +39,7 @@ fn luck_answers() {
 // Answers that were written by hand from document 01.
 fn document_answers() {
     replay::run(b"rows of document 01", b"rows.bin", Format::Checks);
+    replay::run(b"its literals", b"literal_rows.bin", Format::LiteralChecks);
 }
 
 // Answers of Lua 5.1 to 5.4. All that is known to differ stands in a file of its own, whose records must all differ.

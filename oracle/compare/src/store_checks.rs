@@ -62,7 +62,7 @@ impl Records {
         self.answer(answer);
     }
 
-    fn push_literal(&mut self, question: &Question<'_>, start: u32, literal: &Literal) {
+    pub fn push_literal(&mut self, question: &Question<'_>, start: u32, literal: &Literal) {
         let Literal { number, first, second, skipped, spanned, start: from, end, offset, count } = *literal;
         self.question(question);
         self.word(start);

@@ -4,59 +4,84 @@ use std::fs;
 use std::io;
 use std::path::Path;
 
-use crate::library::Answer;
+use crate::library::{Answer, Literal};
 use crate::store_checks::{Question, Records};
 
 const ROWS: &str = include_str!("../../../crates/vectors/data/rows.txt");
 const ROWS_FILE: &str = "rows.bin";
+const LITERAL_ROWS_FILE: &str = "literal_rows.bin";
 const WRONG_REAL_FILE: &str = "wrong_real.bin";
 
 /// Writes the files and answers how many records and bytes they have.
 pub fn write(folder: &Path) -> io::Result<(usize, usize)> {
-    let rows = rows();
-    let wrong = wrong_real();
-    fs::write(folder.join(ROWS_FILE), &rows.bytes)?;
-    fs::write(folder.join(WRONG_REAL_FILE), &wrong.bytes)?;
-    Ok((rows.count + wrong.count, rows.bytes.len() + wrong.bytes.len()))
+    let (rows, literals) = rows();
+    let mut all = (0, 0);
+    for (name, records) in [(ROWS_FILE, rows), (LITERAL_ROWS_FILE, literals), (WRONG_REAL_FILE, wrong_real())] {
+        all = (all.0 + records.count, all.1 + records.bytes.len());
+        fs::write(folder.join(name), &records.bytes)?;
+    }
+    Ok(all)
 }
 
+/// The rows of bodies, and those of literals.
+///
 /// # Panics
 ///
 /// When a line is no row.
-fn rows() -> Records {
-    let mut records = Records::default();
+fn rows() -> (Records, Records) {
+    let (mut bodies, mut literals) = (Records::default(), Records::default());
     for line in ROWS.lines().filter(|line| !line.is_empty() && !line.starts_with('#')) {
-        row(&mut records, line).unwrap_or_else(|| panic!("rows.txt: {line}"));
+        row(&mut bodies, &mut literals, line).unwrap_or_else(|| panic!("rows.txt: {line}"));
     }
-    records
+    (bodies, literals)
 }
 
 /// A record for each of the row's versions.
-fn row(records: &mut Records, line: &str) -> Option<()> {
+fn row(bodies: &mut Records, literals: &mut Records, line: &str) -> Option<()> {
     let (front, rest) = line.split_once('"')?;
     let (text, answer) = rest.rsplit_once('"')?;
-    let &[kind, versions, captures] = front.split_whitespace().collect::<Vec<_>>().as_slice() else {
-        return None;
-    };
-    let &[number, offset, first, second, count] = answer.split_whitespace().collect::<Vec<_>>().as_slice() else {
-        return None;
-    };
-    let &[kind] = kind.as_bytes() else {
-        return None;
-    };
+    let front: Vec<&str> = front.split_whitespace().collect();
+    let answer: Vec<&str> = answer.split_whitespace().collect();
+    let &[kind, versions, captures, ref start @ ..] = front.as_slice() else { return None };
+    let &[kind] = kind.as_bytes() else { return None };
     let captures = if captures == "." { None } else { Some(captures.parse().ok()?) };
     let text = bytes(text)?;
-    let answer = Answer {
+    for version in versions.bytes() {
+        let question = Question { kind, version: version.checked_sub(b'0')?, captures, text: &text };
+        match *start {
+            [] => bodies.push(&question, &body_answer(&answer)?),
+            [start] => literals.push_literal(&question, start.parse().ok()?, &literal_answer(&answer)?),
+            _ => return None,
+        }
+    }
+    Some(())
+}
+
+fn body_answer(words: &[&str]) -> Option<Answer> {
+    let &[number, offset, first, second, count] = words else { return None };
+    Some(Answer {
         number: number.parse().ok()?,
         offset: offset.parse().ok()?,
         first: character(first)?,
         second: character(second)?,
         count: count.parse().ok()?,
-    };
-    for version in versions.bytes() {
-        records.push(&Question { kind, version: version.checked_sub(b'0')?, captures, text: &text }, &answer);
+    })
+}
+
+fn literal_answer(words: &[&str]) -> Option<Literal> {
+    const SKIPPED: Literal =
+        Literal { number: 0, first: 0, second: 0, skipped: 1, spanned: 0, start: 0, end: 0, offset: 0, count: 0 };
+    if let ["skipped"] = words {
+        return Some(SKIPPED);
     }
-    Some(())
+    let (body, span) = words.split_at_checked(5)?;
+    let Answer { number, first, second, offset, count } = body_answer(body)?;
+    let unspanned = Literal { number, first, second, offset, count, skipped: 0, ..SKIPPED };
+    match *span {
+        [] => Some(unspanned),
+        [start, end] => Some(Literal { spanned: 1, start: start.parse().ok()?, end: end.parse().ok()?, ..unspanned }),
+        _ => None,
+    }
 }
 
 fn character(word: &str) -> Option<u32> {
