@@ -1,7 +1,8 @@
 /*
  * luck.h: checks of Lua string literals, for Lua 5.1 to 5.5 and Luau.
  *
- * Link libluck.a, which `rt staticlib luck` writes to target/staticlib. It needs no other library. C99 and C++.
+ * Link libluck.a, which `rt staticlib luck` writes to target/staticlib, for 64-bit x86 on Linux. It needs no other library.
+ * C99 and C++.
  *
  * For every function:
  *
@@ -32,17 +33,18 @@
  *    pack and packsize
  *   14  INVALID_PACK_OPTION   no option, or one that `X` can't align to; carries the character
  *   15  TRUNCATED_PACK_SIZE   a `c` without a size, or an `X` at the text's end; at the place behind it
- *   16  PACK_SIZE_LIMITS      a size that is not 1 to 16; at its first digit
+ *   16  PACK_SIZE_LIMITS      a size of `i`, `I`, `s` or `!` that is not 1 to 16; at its first digit (`c` takes any)
  *   17  BAD_PACK_ALIGNMENT    an alignment that is no power of 2; at the option
  *   18  VARIABLE_LENGTH       an `s` or `z` in a packsize format; carries it
  *    replacement and date
- *   19  LONE_PERCENT          the text ends in a single `%`
- *   20  BAD_REPLACEMENT       a replacement's `%` before something other than a digit or `%`; at that
+ *   19  LONE_PERCENT          the text ends in a single `%` (replacements: versions 2 to 6; dates: 2 to 5)
+ *   20  BAD_REPLACEMENT       a replacement's `%` before something other than a digit or `%`; at that (versions 2 to 6)
  *   21  CAPTURE_INDEX         a replacement's digit above the larger of the known count of captures and 1; at the digit
- *   22  BAD_DATE_SPECIFIER    a date's `%` before something other than a conversion of this version; at that
+ *   22  BAD_DATE_SPECIFIER    a date's `%` before something other than a conversion of this version; at that (versions 2 to 6)
  *    any text
  *   23  NOT_UTF8              not UTF-8 (RFC 3629); at the first byte of the first ill-formed sequence
- *   24  UNDECODABLE           no whole literal, or an escape that this version does not have (decoding only); without a place
+ *   24  UNDECODABLE           no literal, or an escape that is malformed or that this version does not have (decoding only);
+ *                             without a place
  *   25  UNKNOWN_VERSION       `version` is not 1 to 6; without a place
  *   26  OUTPUT_TOO_SHORT      the value is longer than the output (decoding only); without a place
  *   30  UNKNOWN_KIND          `kind` is none of the six letters (luck_check_literal only); without a place
@@ -142,8 +144,9 @@ typedef struct {
  * 'P' (pattern), 'K' (pack), 'S' (packsize), 'G' (replacement, with `known` and `captures` as above) or 'D' (date); for the
  * others `known` and `captures` are not looked at.
  *
- * It skips a text that is not in two equal quotes, and one with an escape `\0` to `\9`, `\x` or `\u`, which could spell a
- * byte that the check reads. Other escapes are read as they are written.
+ * It skips a text that is not in two equal quotes, and one with an escape `\0` to `\9`, `\x` or `\u`, which spells a byte by its
+ * number. Other escapes are read as the two bytes that are written, not as the one that Lua reads: `"%b\""` is accepted, though
+ * the value `%b"` is refused. Neither this function nor decoding is a lexer: a quote or a line break between the quotes is taken.
  */
 luck_literal luck_check_literal(uint8_t kind, uint32_t version, bool known, size_t captures, uint32_t start, const uint8_t *text, size_t len);
 
