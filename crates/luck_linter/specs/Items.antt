@@ -71,7 +71,7 @@ pub data Single : Type 0 where
   byte : ℕ → Single
 
 pub data Repeat : Type 0 where
-  once optional star plus minus : Repeat  -- nothing, `?`, `*`, `+`, `-` behind a single
+  once optional star plus minus : Repeat  -- nothing, `?`, `*`, `+`, `-` after a single
 
 pub data Item : Type 0 where
   start-capture : Item  -- `(`

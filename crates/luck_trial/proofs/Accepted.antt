@@ -3,21 +3,20 @@
 use Prim.Native.Nat.{ℕ, zero, suc, _+_, _-_, _≤_, _<_}
 use native.Mathlib.Omega.{arith}
 use mathlib.Core.Path.{_≡_, refl, sym, ap, subst, _∙_}
-use mathlib.Core.Logic.{_⊎_, inl, inr, ⊎-elim}
-use mathlib.Core.Bool.{Bool, true, false, _&&_, true≢false}
+use mathlib.Core.Bool.{Bool, true, false}
 use mathlib.Core.List.{List, [], _∷_, _++_}
 use mathlib.Core.Option.{Option, none, some}
 use lib.ListN.{length}
 use lib.Dec.{eqb, leb, ltb}
-use borrow.Author.Tests.{ltb-true, ltb-false, leb-true, leb-false, eqb-true, eq-eqb, ne-eqb, eqb-false}
+use borrow.Author.Tests.{ltb-true, leb-true, leb-false, eqb-true}
 use Rattle.luck_token.specs.Bytes.{if_then_else_, byteAt}
-use Rattle.luck_token.specs.Walk.{Turn, stop, goes, walk, walkFrom}
+use Rattle.luck_token.specs.Walk.{Turn, stop, goes, walkFrom}
 use Rattle.luck_token.specs.Utf8.{illFormed}
 use Rattle.luck_token.specs.Version.{isVersion}
-use Rattle.luck_token.proofs.Cases.{by-test, order, present, and-left, and-right}
+use Rattle.luck_token.proofs.Cases.{by-test, present, and-right}
 use Rattle.luck_token.proofs.Walk.{walk-end, walk-stop, walk-goes}
 use Rattle.luck_linter.specs.Answer.{Answer, accepted, refused, refusedWith, afterVersion, afterUtf8, checkText}
-use Rattle.luck_linter.specs.Captures.{closeHere, closeLatest, isClosed, allClosed}
+use Rattle.luck_linter.specs.Captures.{closeLatest, isClosed, allClosed}
 use Rattle.luck_linter.specs.Pattern.{
   Head,
   at-open,
@@ -32,21 +31,11 @@ use Rattle.luck_linter.specs.Pattern.{
   esc-frontier,
   esc-other,
   esc-end,
-  escapeOf,
   escapeAt,
-  Member,
-  closing-bracket,
-  escaped-member,
-  cut-escape,
-  byte-member,
-  memberAt,
   SetEnd,
   closes-at,
   cut-at,
   unclosed,
-  memberBy,
-  memberTurn,
-  membersEnd,
   firstMember,
   setEnd,
   isEmptySet,
@@ -69,7 +58,6 @@ use Rattle.luck_linter.specs.Items.{
   Single,
   any,
   class,
-  among-set,
   byte,
   Repeat,
   once,
@@ -78,11 +66,7 @@ use Rattle.luck_linter.specs.Items.{
   plus,
   minus,
   Item,
-  frontier,
-  end-anchor,
   Read,
-  last,
-  item,
   repeatOf,
   repeatWidth,
   repeated,
@@ -98,6 +82,8 @@ use Rattle.luck_linter.specs.Items.{
   items,
 }
 use Rattle.luck_trial.proofs.Sound.{AllClosed, WellFormed}
+use Rattle.luck_trial.proofs.Places.{ClosesFrom, first-behind, set-closes}
+use Rattle.luck_trial.proofs.Items.{IsRepeat, is-repeat}
 
 -- ---- What an acceptance rules out
 
@@ -112,54 +98,6 @@ pub if-passed : (b : Bool) (x : Answer) (number offset c : ℕ) → 0 < number �
 unfolding if_then_else_
 if-passed true x number offset c h e = (refl, e)
 if-passed false x number offset c h e = refused-accepted (refused number offset) c e h
-
--- ---- Where a set ends
-
-abbrev StopsAt : {S A : Type 0} → (A → Type 0) → Turn S A → Type 0
-StopsAt P (stop a) = P a
-StopsAt P (goes width s) = Unit {0}
-
--- what holds of the answer of each turn that stops from a place on, and at the end, holds of the walk's answer
-module _ {S A : Type 0} (turn : ℕ → S → Turn S A) (ends : ℕ → S → A) (from len : ℕ) (P : A → Type 0)
-    (stops : (p : ℕ) (s : S) → from ≤ p → p < len → StopsAt P (turn p s))
-    (at-end : (p : ℕ) (s : S) → P (ends p s)) where
-  every : (n k p : ℕ) (s : S) → from ≤ p → n ≤ len - p → P (walk turn ends n k p s)
-  unfolding walk
-  every zero k p s f h = at-end p s
-  every (suc n) (suc k) p s f h = every n k (suc p) s (omega arith) (omega arith)
-  every (suc n) zero p s f h = go (λ w s′. every n (w - 1) (suc p) s′ (omega arith) (omega arith)) (turn p s) refl
-    where
-      go : ((w : ℕ) (s′ : S) → P (walk turn ends n (w - 1) (suc p) s′)) → (t : Turn S A) → turn p s ≡ t → P (walk turn ends (suc n) 0 p s)
-      go rest (stop a) e = rw (e, walk) (subst (StopsAt P) e (stops p s f (omega arith)))
-      go rest (goes w s′) e = rw (e, walk) (rest w s′)
-
-  walk-from : (s : S) → P (walkFrom turn ends len from s)
-  unfolding walkFrom
-  walk-from s = every (len - from) 0 from s (omega arith) (omega arith)
-
-module _ (pat : List ℕ) where
-  abbrev ClosesIn : ℕ → SetEnd → Type 0
-  ClosesIn from (closes-at e) = (from ≤ e) × (e < length pat)
-  ClosesIn from (cut-at e) = Unit {0}
-  ClosesIn from unclosed = Unit {0}
-
-  member-closes : (from p : ℕ) → from ≤ p → p < length pat → (m : Member) → StopsAt (ClosesIn from) (memberBy m p)
-  unfolding memberBy
-  member-closes from p f h closing-bracket = (f, h)
-  member-closes from p f h escaped-member = tt
-  member-closes from p f h cut-escape = tt
-  member-closes from p f h byte-member = tt
-
-  first-behind : (p : ℕ) → p < firstMember pat p
-  unfolding firstMember
-  first-behind p = by-test (λ (q : ℕ). p < q) _ _ _ (λ t. omega arith) (λ t. omega arith)
-
-  set-closes : (p : ℕ) → ClosesIn (firstMember pat p) (setEnd pat p)
-  unfolding setEnd memberTurn membersEnd
-  set-closes p =
-      let from = firstMember pat p in
-      walk-from (memberTurn pat) membersEnd from (length pat) (ClosesIn from)
-      (λ q first f h. member-closes from q f h (memberAt pat first q)) (λ q first. tt) true
 
 -- ---- The check from a place on
 
@@ -237,9 +175,9 @@ module _ (pat : List ℕ) (c : ℕ) where
   unfolding setRead setAs
   after-set start p flags h a = go (setEnd pat p) refl (set-closes pat p) a
     where
-      go : (e : SetEnd) → setEnd pat p ≡ e → ClosesIn pat (firstMember pat p) (setEnd pat p) → After start (onward start flags (setAs pat p e)) → Set-accepted p flags
+      go : (e : SetEnd) → setEnd pat p ≡ e → ClosesFrom pat (firstMember pat p) (setEnd pat p) → After start (onward start flags (setAs pat p e)) → Set-accepted p flags
       go (closes-at e) q i a =
-          let j : ClosesIn pat (firstMember pat p) (closes-at e) = subst (ClosesIn pat (firstMember pat p)) q i in
+          let j : ClosesFrom pat (firstMember pat p) (closes-at e) = subst (ClosesFrom pat (firstMember pat p)) q i in
           let k = first-behind pat p in
           record { at = e; closes = q; behind = omega (arith, j .0); on = after-read start flags (e + 1) (omega (arith, j .0)) (omega (arith, j .1)) a }
       go (cut-at e) q i a = after-fault start flags (refused 1 e) (omega arith) a
@@ -251,22 +189,6 @@ close-opened : (flags : List Bool) → closeLatest (flags ++ (false ∷ [])) ≡
 unfolding closeLatest
 close-opened [] = refl
 close-opened (f ∷ flags) = rw (close-opened flags)
-
--- a byte that makes a repeat
-abbrev IsRepeat : ℕ → Repeat → Type 0
-IsRepeat b once = Unit {0}
-IsRepeat b optional = b ≡ 63
-IsRepeat b star = b ≡ 42
-IsRepeat b plus = b ≡ 43
-IsRepeat b minus = b ≡ 45
-
-is-repeat : (b : ℕ) → IsRepeat b (repeatOf b)
-unfolding repeatOf
-is-repeat b =
-    by-test (IsRepeat b) (eqb b 63) _ _ (λ e. eqb-true b 63 e)
-    (λ n. by-test (IsRepeat b) (eqb b 42) _ _ (λ e. eqb-true b 42 e)
-    (λ n. by-test (IsRepeat b) (eqb b 43) _ _ (λ e. eqb-true b 43 e)
-    (λ n. by-test (IsRepeat b) (eqb b 45) _ _ (λ e. eqb-true b 45 e) (λ n. tt))))
 
 abbrev There : Escape → Type 0
 There (esc-digit d) = Unit {0}

@@ -23,7 +23,6 @@ use Rattle.luck_trial.specs.Match.{
   orElse,
   matchCapture,
   goesOnAt,
-  matchBalance,
   passedOver,
   Reach,
   reached,
@@ -125,8 +124,8 @@ module _ (inClass : ℕ → ℕ → Bool) (sub : List ℕ) (budget : ℕ) (P : O
     single-kept x r s l u h = by-test P _ _ _ (λ t. expand-kept x r s l u h) (λ t. passed-kept r s l u h)
 
     pub balance-kept : (x y s l u : ℕ) → U u → P (doItem inClass sub budget (balance x y) rest s l cs u)
-    unfolding doItem matchBalance
-    balance-kept x y s l u h = by-test P _ _ _ (λ t. goes-kept _ l u h) (λ t. kept .fails u h)
+    unfolding doItem
+    balance-kept x y s l u h = goes-kept _ l u h
 
     pub frontier-kept : (x : Set) (s l u : ℕ) → U u → P (doItem inClass sub budget (frontier x) rest s l cs u)
     unfolding doItem

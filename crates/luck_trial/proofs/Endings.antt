@@ -75,6 +75,7 @@ use Rattle.luck_trial.specs.Match.{
   startCapture,
   endCapture,
   matchCapture,
+  backReference,
   doItem,
   match,
 }
@@ -218,6 +219,11 @@ module _ (budget : ℕ) where
       reference-low (position start) s l cs u h = record { ends = h }
       reference-low (closed start n) s l cs u h = closed-kept inClass sub budget Low U kept rest cs (λ s l u. low s l cs u) start n s l u h
 
+      back-low : (d s l : ℕ) (cs : List Capture) (u : ℕ) → U u → Low (backReference sub d rest s l cs u)
+      unfolding backReference
+      back-low d s l cs u h =
+          by-test Low _ _ _ (λ t. reference-low (getD cs (d - 1) (opened 0)) s l cs u h) (λ t. raise-low 7 u (omega arith) (omega arith) h)
+
       item-low : (i : Item) → KindOf i → (s l : ℕ) (cs : List Capture) (u : ℕ) → U u → Low (doItem inClass sub budget i rest s l cs u)
       unfolding doItem
       item-low start-capture k s l cs u h = start-low (opened s) s l cs u h
@@ -226,8 +232,7 @@ module _ (budget : ℕ) where
       item-low end-anchor k s l cs u h = by-test Low (eqb s (length sub)) _ _ (λ t. record { ends = h }) (λ t. record { ends = h })
       item-low (balance x y) k s l cs u h = balance-kept inClass sub budget Low U kept rest cs (λ s l u. low s l cs u) x y s l u h
       item-low (frontier x) k s l cs u h = frontier-kept inClass sub budget Low U kept rest cs (λ s l u. low s l cs u) x s l u h
-      item-low (back-reference d) k s l cs u h =
-          by-test Low _ _ _ (λ t. reference-low (getD cs (d - 1) (opened 0)) s l cs u h) (λ t. raise-low 7 u (omega arith) (omega arith) h)
+      item-low (back-reference d) k s l cs u h = back-low d s l cs u h
       item-low (single x r) k s l cs u h = single-kept inClass sub budget Low U kept rest cs (λ s l u. low s l cs u) x r s l u h
       item-low (raises kind) k s l cs u h = raise-low kind u (k .0) (k .1) h
 

@@ -41,6 +41,7 @@ use Rattle.luck_trial.specs.Match.{
   startCapture,
   endCapture,
   matchCapture,
+  backReference,
   doItem,
   match,
 }
@@ -185,6 +186,13 @@ module _ (inClass : ℕ → ℕ → Bool) (sub : List ℕ) (budget n : ℕ) wher
       let inside = flag-inside (flagsOf cs) (d - 1) shut in
       (sym (flags-getD cs (d - 1)) ∙ shut, both-true (ltb 0 d) (leb d (length cs)) first (le-leb d (length cs) (omega (arith, ltb-true 0 d first, length-flags cs))))
 
+  back-sound : (rest : Rest) (d : ℕ) (cs : List Capture) → isClosed (flagsOf cs) d ≡ true → (s l u : ℕ) → ((s l u : ℕ) → U u → Sound (rest s l cs u))
+      → Sound (backReference sub d rest s l cs u)
+  unfolding backReference
+  back-sound rest d cs w s l u on =
+      let fine = reference-fine cs d w in
+      by-test Sound _ _ _ (λ t. reference-sound rest _ (fine .0) s l cs u on) (λ t. absurd (true≢false (sym (fine .1) ∙ t)))
+
   item-sound : (i : Item) (is : List Item) (cs : List Capture) → WellFormed (i ∷ is) (flagsOf cs) n
       → ((cs : List Capture) → WellFormed is (flagsOf cs) n → (s l u : ℕ) → U u → Sound (match inClass sub budget is s l cs u))
       → (s l u : ℕ) → Sound (doItem inClass sub budget i (match inClass sub budget is) s l cs u)
@@ -203,10 +211,7 @@ module _ (inClass : ℕ → ℕ → Bool) (sub : List ℕ) (budget n : ℕ) wher
   item-sound end-anchor is cs w on s l u = by-test Sound (eqb s (length sub)) _ _ (λ t. record { holds = (tt, w) }) (λ t. record { holds = tt })
   item-sound (balance x y) is cs w on s l u = balance-kept inClass sub budget Sound U kept (match inClass sub budget is) cs (on cs w) x y s l u tt
   item-sound (frontier x) is cs w on s l u = frontier-kept inClass sub budget Sound U kept (match inClass sub budget is) cs (on cs w) x s l u tt
-  item-sound (back-reference d) is cs w on s l u =
-      let fine = reference-fine cs d (w .0) in
-      by-test Sound _ _ _ (λ t. reference-sound (match inClass sub budget is) _ (fine .0) s l cs u (on cs (w .1)))
-      (λ t. absurd (true≢false (sym (fine .1) ∙ t)))
+  item-sound (back-reference d) is cs w on s l u = back-sound (match inClass sub budget is) d cs (w .0) s l u (on cs (w .1))
   item-sound (single x r) is cs w on s l u = single-kept inClass sub budget Sound U kept (match inClass sub budget is) cs (on cs w) x r s l u tt
   item-sound (raises kind) is cs w on s l u = absurd w
 

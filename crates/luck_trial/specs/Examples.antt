@@ -18,7 +18,7 @@ use Rattle.luck_linter.specs.Replacement.{escaped, pieces, allowsDigit, piecesW
 use Rattle.luck_linter.specs.Format.{isFlag, isModifier, getFormat, scanPrecision, scanWidth, scanFormat, modifiersAt, isConversion, flagsFor, flagsRun, takesPrecision, afterTwoDigits, goodModifiers, conversionTurn, specifierTurn, percentTurn, formatTurn, formatEnd, formatWalk, checkFormat}
 use Rattle.luck_linter.specs.Pack.{getnumlimit, fixedString, numberedOption, getoption, kindOf, numberOr, luckSizeof, luckSize, maxalign, isPowerOfTwo, isMisaligned, aligned, variable, alignBy, alignmentOf, alignToNext, kindTurn, optionTurn, packTurn, packEnd, packWalk, checkPack}
 use Rattle.luck_trial.specs.Class.{isLower, isUpper, isAlpha, isAlnum, isCntrl, isGraph, isPunct, isSpace, toLower, classTest, classBy, matchClass, isElement, isAnyOf, inSet, fits}
-use Rattle.luck_trial.specs.Match.{toCloseBy, captureToClose, due, newLevel, orElse, startCapture, endCapture, sameBytes, matchCapture, balanceEnd, goesOnAt, matchBalance, byteBefore, passedOver, longestFirst, maxExpand, fitsAt, reach, minExpand, expand, doItem, match}
+use Rattle.luck_trial.specs.Match.{toCloseBy, captureToClose, due, newLevel, orElse, startCapture, endCapture, sameBytes, matchCapture, backReference, balanceEnd, matchBalance, goesOnAt, byteBefore, isFrontier, passedOver, longestFirst, maxExpand, fitsAt, reach, minExpand, expand, doItem, match}
 use Rattle.luck_trial.specs.Replace.{andThen, append, decimalFrom, decimal, addCapture, addDigit, addPiece, addPieces}
 use Rattle.luck_trial.specs.Gsub.{Answer as Trial, answer, andWrote, endsAgain, copyByte, copyRest, round, anchoredRound, roundsFrom, rounds, strGsub, writerOf, gsub}
 
@@ -62,27 +62,52 @@ abbrev times : ℕ → List ℕ → List ℕ
 times zero text = []
 times (suc n) text = text ++ times n text
 
--- not starred: 7 and 8 steps; the rows of 26, 28 and 29; and the places of document 01 that were open (an attempt after the last match, the step before
--- the raise, the level before the step)
+-- not starred: 7 and 8 steps; the rows of 26, 28 and 29; the places of document 01 that were open (the step before the raise, kinds 5 and 8 before 28,
+-- the attempt after the last match); and each item, each kind and each way of writing once
 abbrev pub unstarred : List Case
 unstarred =
-    trial 4 (ascii "aaa") (ascii "a*") (ascii "x") 1000 10 (answer 0 0 (ascii "x") 1 7)
-    ∷ trial 4 (ascii "aab") (ascii "a-b") (ascii "x") 1000 10 (answer 0 0 (ascii "x") 1 8)
+    trial 4 (ascii "aaa") (ascii "a*") (ascii "x") 1000 30 (answer 0 0 (ascii "x") 1 7)
+    ∷ trial 4 (ascii "aab") (ascii "a-b") (ascii "x") 1000 30 (answer 0 0 (ascii "x") 1 8)
     ∷ trial 4 (ascii "a") (ascii "a") (ascii "xx") 1000 1 (answer 26 0 (ascii "x") 1 2)
-    ∷ trial 4 (times 200 (ascii "a")) (times 200 (ascii "a?")) (ascii "x") 200 10 (answer 28 0 [] 0 200)
-    ∷ trial 4 (times 200 (ascii "a")) (times 200 (ascii "a?")) (ascii "x") 199 10 (answer 27 0 [] 0 199)
-    ∷ trial 4 (ascii "a") (ascii ")") (ascii "x") 1 10 (answer 29 5 [] 0 1)
-    ∷ trial 4 (ascii "a") (ascii ")") (ascii "x") 0 10 (answer 27 0 [] 0 0)
-    ∷ trial 4 [] [] (ascii "x") 1000 10 (answer 0 0 (ascii "x") 1 2)
-    ∷ trial 4 (ascii "ab") [] (ascii "x") 1000 10 (answer 0 0 (ascii "xaxbx") 3 6)
-    ∷ trial 4 (ascii "a]-") (ascii "[!-%%]") (ascii "x") 1000 10 (answer 0 0 (ascii "ax-") 1 5)
-    ∷ trial 7 (ascii "a") (ascii "a") (ascii "x") 1000 10 (answer 25 0 [] 0 0)
+    ∷ trial 4 (times 200 (ascii "a")) (times 200 (ascii "a?")) (ascii "x") 200 30 (answer 28 0 [] 0 200)
+    ∷ trial 4 (times 200 (ascii "a")) (times 200 (ascii "a?")) (ascii "x") 199 30 (answer 27 0 [] 0 199)
+    ∷ trial 4 (ascii "a") (ascii ")") (ascii "x") 1 30 (answer 29 5 [] 0 1)
+    ∷ trial 4 (ascii "a") (ascii ")") (ascii "x") 0 30 (answer 27 0 [] 0 0)
+    ∷ trial 4 (times 300 (ascii "a")) (times 199 (ascii "a?") ++ ascii ")") (ascii "x") 1000 30 (answer 29 5 [] 0 200)
+    ∷ trial 4 (times 300 (ascii "a")) (times 32 (ascii "()") ++ times 167 (ascii "a?") ++ ascii "(") (ascii "x") 1000 30 (answer 29 8 [] 0 200)
+    ∷ trial 4 [] [] (ascii "x") 1000 30 (answer 0 0 (ascii "x") 1 2)
+    ∷ trial 4 (ascii "ab") [] (ascii "x") 1000 30 (answer 0 0 (ascii "xaxbx") 3 6)
+    ∷ trial 4 (ascii "a]-") (ascii "[!-%%]") (ascii "x") 1000 30 (answer 0 0 (ascii "ax-") 1 5)
+    ∷ trial 4 (ascii "aab") (ascii "^a") (ascii "x") 1000 30 (answer 0 0 (ascii "xab") 1 2)
+    ∷ trial 4 (ascii "baa") (ascii "^a") (ascii "x") 1000 2 (answer 26 0 (ascii "ba") 0 1)
+    ∷ trial 4 (ascii "(a(b))c") (ascii "%b()") (ascii "<%0>") 1000 30 (answer 0 0 (ascii "<(a(b))>c") 1 4)
+    ∷ trial 4 (ascii "a.a") (ascii "%baa") (ascii "x") 1000 30 (answer 0 0 (ascii "x") 1 3)
+    ∷ trial 4 (ascii "THE cat") (ascii "%f[%a]%a+") (ascii "<%0>") 1000 30 (answer 0 0 (ascii "<THE> <cat>") 2 14)
+    ∷ trial 4 (ascii "abab") (ascii "(ab)%1") (ascii "<%1>") 1000 30 (answer 0 0 (ascii "<ab>") 1 8)
+    ∷ trial 4 (ascii "ab") (ascii "()%1") (ascii "x") 1000 30 (answer 0 0 (ascii "ab") 0 6)
+    ∷ trial 4 (ascii "ab") (ascii "()") (ascii "%1") 1000 30 (answer 0 0 (ascii "1a2b3") 3 12)
+    ∷ trial 4 (ascii "ab") (ascii "(a)(b)") (ascii "%2%1") 1000 30 (answer 0 0 (ascii "ba") 1 9)
+    ∷ trial 4 (ascii "ab") (ascii "a") (ascii "[%1]") 1000 30 (answer 0 0 (ascii "[a]b") 1 4)
+    ∷ trial 4 (ascii "ab") (ascii "a") (ascii "%2") 1000 30 (answer 29 10 [] 1 2)
+    ∷ trial 4 (ascii "ab") (ascii "(a") (ascii "%1") 1000 30 (answer 29 6 [] 1 3)
+    ∷ trial 1 (ascii "a") (ascii "a") (ascii "%x") 1000 30 (answer 0 0 (ascii "x") 1 3)
+    ∷ trial 1 (ascii "a") (ascii "a") (ascii "%") 1000 30 (answer 0 0 (0 ∷ []) 1 3)
+    ∷ trial 4 (ascii "a") (ascii "a") (ascii "y%") 1000 30 (answer 29 9 (ascii "y") 1 2)
+    ∷ trial 4 (ascii "a") (ascii "(a%1)") (ascii "x") 1000 30 (answer 29 7 [] 0 3)
+    ∷ trial 4 (ascii "a") (ascii "%") (ascii "x") 1000 30 (answer 29 1 [] 0 1)
+    ∷ trial 4 (ascii "a") (ascii "[%") (ascii "x") 1000 30 (answer 29 2 [] 0 1)
+    ∷ trial 4 (ascii "a") (ascii "%f") (ascii "x") 1000 30 (answer 29 3 [] 0 1)
+    ∷ trial 4 (ascii "a") (ascii "%bx") (ascii "x") 1000 30 (answer 29 4 [] 0 1)
+    ∷ trial 4 (ascii "a") (times 33 (ascii "(")) (ascii "x") 1000 30 (answer 29 8 [] 0 33)
+    ∷ trial 4 (ascii "aab") (ascii "a+b") (ascii "x") 1000 30 (answer 0 0 (ascii "x") 1 6)
+    ∷ trial 4 (ascii "ab") (ascii "b$") (ascii "x") 1000 30 (answer 0 0 (ascii "ax") 1 4)
+    ∷ trial 7 (ascii "a") (ascii "a") (ascii "x") 1000 30 (answer 25 0 [] 0 0)
     ∷ []
 
 pub starred-hold : All starred
-unfolding if_then_else_ among isDigit isXdigit run digitValue numeralFrom numeral walk walkFrom isVersion versions has rulesOf rfc3629 tailsOf follow widthBy sequence sequenceAt noneIllFormed illFormed codePoint charAt isChar utf8Bytes afterVersion afterUtf8 checkText closeLatest isClosed allClosed headOf escapeOf escapeAt memberAt memberBy memberTurn membersEnd firstMember setEnd isEmptySet setAs setRead escapeAs escapeRead onward afterClose headTurn patternTurn patternEnd patternWalk checkPattern elementsFrom elementsOf setOf repeatOf repeatWidth repeated readSingle readSet readFrontier readEscape readByte readHead readItem thenItems itemsFrom items escaped pieces allowsDigit piecesWalk checkReplacement isFlag isModifier getFormat scanPrecision scanWidth scanFormat modifiersAt isConversion flagsFor flagsRun takesPrecision afterTwoDigits goodModifiers conversionTurn specifierTurn percentTurn formatTurn formatEnd formatWalk checkFormat getnumlimit fixedString numberedOption getoption kindOf numberOr luckSizeof luckSize maxalign isPowerOfTwo isMisaligned aligned variable alignBy alignmentOf alignToNext kindTurn optionTurn packTurn packEnd packWalk checkPack isLower isUpper isAlpha isAlnum isCntrl isGraph isPunct isSpace toLower classTest classBy matchClass isElement isAnyOf inSet fits toCloseBy captureToClose due newLevel orElse startCapture endCapture sameBytes matchCapture balanceEnd goesOnAt matchBalance byteBefore passedOver longestFirst maxExpand fitsAt reach minExpand expand doItem match andThen append decimalFrom decimal addCapture addDigit addPiece addPieces andWrote endsAgain copyByte copyRest round anchoredRound roundsFrom rounds strGsub writerOf gsub
+unfolding if_then_else_ among isDigit isXdigit run digitValue numeralFrom numeral walk walkFrom isVersion versions has rulesOf rfc3629 tailsOf follow widthBy sequence sequenceAt noneIllFormed illFormed codePoint charAt isChar utf8Bytes afterVersion afterUtf8 checkText closeLatest isClosed allClosed headOf escapeOf escapeAt memberAt memberBy memberTurn membersEnd firstMember setEnd isEmptySet setAs setRead escapeAs escapeRead onward afterClose headTurn patternTurn patternEnd patternWalk checkPattern elementsFrom elementsOf setOf repeatOf repeatWidth repeated readSingle readSet readFrontier readEscape readByte readHead readItem thenItems itemsFrom items escaped pieces allowsDigit piecesWalk checkReplacement isFlag isModifier getFormat scanPrecision scanWidth scanFormat modifiersAt isConversion flagsFor flagsRun takesPrecision afterTwoDigits goodModifiers conversionTurn specifierTurn percentTurn formatTurn formatEnd formatWalk checkFormat getnumlimit fixedString numberedOption getoption kindOf numberOr luckSizeof luckSize maxalign isPowerOfTwo isMisaligned aligned variable alignBy alignmentOf alignToNext kindTurn optionTurn packTurn packEnd packWalk checkPack isLower isUpper isAlpha isAlnum isCntrl isGraph isPunct isSpace toLower classTest classBy matchClass isElement isAnyOf inSet fits toCloseBy captureToClose due newLevel orElse startCapture endCapture sameBytes matchCapture backReference balanceEnd matchBalance goesOnAt byteBefore isFrontier passedOver longestFirst maxExpand fitsAt reach minExpand expand doItem match andThen append decimalFrom decimal addCapture addDigit addPiece addPieces andWrote endsAgain copyByte copyRest round anchoredRound roundsFrom rounds strGsub writerOf gsub
 starred-hold = (refl, (refl, (refl, (refl, (refl, (refl, (refl, (refl, (refl, (refl, (refl, (refl, (refl, (refl, (refl, tt)))))))))))))))
 
 pub unstarred-hold : All unstarred
-unfolding if_then_else_ among isDigit isXdigit run digitValue numeralFrom numeral walk walkFrom isVersion versions has rulesOf rfc3629 tailsOf follow widthBy sequence sequenceAt noneIllFormed illFormed codePoint charAt isChar utf8Bytes afterVersion afterUtf8 checkText closeLatest isClosed allClosed headOf escapeOf escapeAt memberAt memberBy memberTurn membersEnd firstMember setEnd isEmptySet setAs setRead escapeAs escapeRead onward afterClose headTurn patternTurn patternEnd patternWalk checkPattern elementsFrom elementsOf setOf repeatOf repeatWidth repeated readSingle readSet readFrontier readEscape readByte readHead readItem thenItems itemsFrom items escaped pieces allowsDigit piecesWalk checkReplacement isFlag isModifier getFormat scanPrecision scanWidth scanFormat modifiersAt isConversion flagsFor flagsRun takesPrecision afterTwoDigits goodModifiers conversionTurn specifierTurn percentTurn formatTurn formatEnd formatWalk checkFormat getnumlimit fixedString numberedOption getoption kindOf numberOr luckSizeof luckSize maxalign isPowerOfTwo isMisaligned aligned variable alignBy alignmentOf alignToNext kindTurn optionTurn packTurn packEnd packWalk checkPack isLower isUpper isAlpha isAlnum isCntrl isGraph isPunct isSpace toLower classTest classBy matchClass isElement isAnyOf inSet fits toCloseBy captureToClose due newLevel orElse startCapture endCapture sameBytes matchCapture balanceEnd goesOnAt matchBalance byteBefore passedOver longestFirst maxExpand fitsAt reach minExpand expand doItem match andThen append decimalFrom decimal addCapture addDigit addPiece addPieces andWrote endsAgain copyByte copyRest round anchoredRound roundsFrom rounds strGsub writerOf gsub
-unstarred-hold = (refl, (refl, (refl, (refl, (refl, (refl, (refl, (refl, (refl, (refl, (refl, tt)))))))))))
+unfolding if_then_else_ among isDigit isXdigit run digitValue numeralFrom numeral walk walkFrom isVersion versions has rulesOf rfc3629 tailsOf follow widthBy sequence sequenceAt noneIllFormed illFormed codePoint charAt isChar utf8Bytes afterVersion afterUtf8 checkText closeLatest isClosed allClosed headOf escapeOf escapeAt memberAt memberBy memberTurn membersEnd firstMember setEnd isEmptySet setAs setRead escapeAs escapeRead onward afterClose headTurn patternTurn patternEnd patternWalk checkPattern elementsFrom elementsOf setOf repeatOf repeatWidth repeated readSingle readSet readFrontier readEscape readByte readHead readItem thenItems itemsFrom items escaped pieces allowsDigit piecesWalk checkReplacement isFlag isModifier getFormat scanPrecision scanWidth scanFormat modifiersAt isConversion flagsFor flagsRun takesPrecision afterTwoDigits goodModifiers conversionTurn specifierTurn percentTurn formatTurn formatEnd formatWalk checkFormat getnumlimit fixedString numberedOption getoption kindOf numberOr luckSizeof luckSize maxalign isPowerOfTwo isMisaligned aligned variable alignBy alignmentOf alignToNext kindTurn optionTurn packTurn packEnd packWalk checkPack isLower isUpper isAlpha isAlnum isCntrl isGraph isPunct isSpace toLower classTest classBy matchClass isElement isAnyOf inSet fits toCloseBy captureToClose due newLevel orElse startCapture endCapture sameBytes matchCapture backReference balanceEnd matchBalance goesOnAt byteBefore isFrontier passedOver longestFirst maxExpand fitsAt reach minExpand expand doItem match andThen append decimalFrom decimal addCapture addDigit addPiece addPieces andWrote endsAgain copyByte copyRest round anchoredRound roundsFrom rounds strGsub writerOf gsub
+unstarred-hold = (refl, (refl, (refl, (refl, (refl, (refl, (refl, (refl, (refl, (refl, (refl, (refl, (refl, (refl, (refl, (refl, (refl, (refl, (refl, (refl, (refl, (refl, (refl, (refl, (refl, (refl, (refl, (refl, (refl, (refl, (refl, (refl, (refl, (refl, (refl, (refl, tt))))))))))))))))))))))))))))))))))))

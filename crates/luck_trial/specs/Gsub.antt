@@ -12,6 +12,7 @@ use Rattle.luck_token.specs.Version.{isVersion}
 use Rattle.luck_linter.specs.Items.{Item, items}
 use Rattle.luck_linter.specs.Replacement.{Piece, pieces}
 use Rattle.luck_trial.specs.Class.{matchClass}
+use Rattle.luck_trial.specs.declared.gsub.Trial.{Trial}
 use Rattle.luck_trial.specs.Match.{Capture, Outcome, matched, failed, stopped, match}
 use Rattle.luck_trial.specs.Replace.{Wrote, wrote, ended, append, addPieces}
 
@@ -25,6 +26,17 @@ pub record Answer : Type 0 where
 
 abbrev pub answer : ℕ → ℕ → List ℕ → ℕ → ℕ → Answer
 answer number kind out n u = record { number = number; kind = kind; written = out; replacements = n; steps = u }
+
+-- what a trial reports: its answer, with the number of the bytes written
+pub record Report : Type 0 where
+  pub number : ℕ
+  pub kind : ℕ
+  pub written : ℕ
+  pub replacements : ℕ
+  pub steps : ℕ
+
+abbrev pub report : Answer → Report
+report a = record { number = a .number; kind = a .kind; written = length (a .written); replacements = a .replacements; steps = a .steps }
 
 -- the lent output at exit: its first bytes are those written, the rest is untouched
 abbrev pub outputAfter : List ℕ → Answer → List ℕ
@@ -99,3 +111,7 @@ unfoldable pub gsub : ℕ → List ℕ → List ℕ → List ℕ → ℕ → ℕ
 gsub version pat rep sub budget room =
     let trial = strGsub matchClass sub budget room (writerOf version rep sub room) pat in
     if isVersion version then trial else answer 25 0 [] 0 0
+
+-- the code's answer
+abbrev pub reportOf : Trial → Report
+reportOf r = record { number = r .number; kind = r .kind; written = r .written; replacements = r .replacements; steps = r .steps }

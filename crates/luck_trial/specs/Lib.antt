@@ -2,4 +2,5 @@ pub mod Class
 pub mod Match
 pub mod Replace
 pub mod Gsub
+pub mod Inner
 pub mod Examples

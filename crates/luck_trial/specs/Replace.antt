@@ -51,7 +51,7 @@ module _ (sub : List ℕ) (room s e : ℕ) (cs : List Capture) where
       else if leb d (length cs) then capture
       else if eqb d 1 then whole else ended 29 10 out
 
-  -- 5.1 writes the byte behind a `%`, and C's closing zero byte for a final `%`
+  -- 5.1 writes the byte after a `%`, and C's closing zero byte for a final `%`
   unfoldable pub addPiece : Bool → Piece → List ℕ → Wrote
   addPiece is51 (literal b) out = append room (b ∷ []) out
   addPiece is51 (digit d) out = addDigit d out

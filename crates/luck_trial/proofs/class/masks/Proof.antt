@@ -1,0 +1,15 @@
+-- `luck_trial::class::masks` meets its contract. Assumes nothing.
+use mathlib.Core.Path.{refl}
+use Rattle.luck_token.specs.Bytes.{isDigit, isXdigit}
+use Rattle.luck_trial.specs.Class.{isLower, isUpper, isAlpha, isAlnum, isCntrl, isGraph, isPunct, isSpace}
+use Rattle.luck_trial.specs.Inner.{bit, maskOf}
+use Rattle.luck_trial.proofs.Classes.{are-masks}
+use Rattle.luck_trial.proofs.class.masks.Statement.{statement}
+use Rattle.luck_trial.proofs.class.masks.Tie as tie
+
+returns : tie.Need-returns
+unfolding maskOf bit isLower isUpper isAlpha isAlnum isCntrl isGraph isPunct isSpace isDigit isXdigit
+returns c = are-masks _ refl
+
+pub masks-spec : {M : Type 1} → statement M
+masks-spec = tie.close (tie.spec returns)
