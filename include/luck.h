@@ -1,5 +1,5 @@
 /*
- * luck.h: checks of Lua string literals, for Lua 5.1 to 5.5 and Luau.
+ * luck.h: checks of Lua string literals, and a trial of gsub, for Lua 5.1 to 5.5 and Luau.
  *
  * Link libluck.a, which `rt staticlib luck` writes to target/staticlib, for 64-bit x86 on Linux. It needs no other library.
  * C99 and C++.
@@ -10,8 +10,9 @@
  * - A text is a pointer and a count of bytes: any bytes, and a zero byte does not end it. With a count of 0 the pointer is not
  *   read and may be null; with any other count it points to so many readable bytes, at most PTRDIFF_MAX, as of any object in C.
  * - A `bool` is false or true: what C and C++ do by themselves, and what another language has to see to.
- * - The functions keep no state, allocate nothing, and write nothing but the output that decoding is lent. They may run in
- *   any number of threads at once, also on the same text. None calls itself; each takes less than 1 KiB of stack, as measured.
+ * - The functions keep no state, allocate nothing, and write nothing but the output that decoding and the trial are lent. They may run in
+ *   any number of threads at once, also on the same text. Each takes less than 1 KiB of stack, as measured, but for
+ *   luck_gsub_trial, whose 200 levels take less than 400 KiB, whatever the texts.
  *
  * The refusals, by `number`, with their names behind LUCK_. 0 is none: accepted, decoded, or skipped.
  *
@@ -46,7 +47,11 @@
  *   24  UNDECODABLE           no literal, or an escape that is malformed or that this version does not have (decoding only);
  *                             without a place
  *   25  UNKNOWN_VERSION       `version` is not 1 to 6; without a place
- *   26  OUTPUT_TOO_SHORT      the value is longer than the output (decoding only); without a place
+ *   26  OUTPUT_TOO_SHORT      decoding: the value is longer than the output; trial: a byte was due and the output was full
+ *    trial
+ *   27  STEPS_SPENT           a step was due and the budget was spent
+ *   28  TOO_DEEP              the 201st level
+ *   29  RAISED                Lua raises an error, of the kind that the answer has
  *   30  UNKNOWN_KIND          `kind` is none of the six letters (luck_check_literal only); without a place
  *
  * 25 is tested first (by luck_check_literal: 30, then 25), then 23, then the text from its front: the first fault is the answer.
@@ -91,6 +96,9 @@ enum {
     LUCK_UNDECODABLE = 24,
     LUCK_UNKNOWN_VERSION = 25,
     LUCK_OUTPUT_TOO_SHORT = 26,
+    LUCK_STEPS_SPENT = 27,
+    LUCK_TOO_DEEP = 28,
+    LUCK_RAISED = 29,
     LUCK_UNKNOWN_KIND = 30
 };
 
@@ -164,6 +172,31 @@ typedef struct {
  * `text` and `output` must not overlap.
  */
 luck_decoded luck_decode_string(uint32_t version, const uint8_t *text, size_t len, uint8_t *output, size_t room);
+
+/* What a trial of gsub answers. */
+typedef struct {
+    uint32_t number;     /* 0: done; else 25, 26, 27, 28 or 29 */
+    uint32_t kind;       /* 29: from 1 to 10, see below; else 0 */
+    size_t written;      /* the bytes written to the front of the output, in every answer */
+    size_t replacements; /* the matches that were replaced, the one at which it stopped included */
+    uint32_t steps;      /* the steps taken, at most the budget */
+} luck_trial;
+
+/*
+ * string.gsub(subject, pattern, replacement) by the rules of 5.4 in every version; in a replacement 5.1 writes the byte after
+ * a `%` that is neither a digit nor `%`, where the others raise kind 9. A step is due when an item of the pattern is begun and
+ * for each test that a repeat makes after its first. The result is written to the front of `output`, which has room for `room` bytes; no byte after the written
+ * ones is touched. The texts are any bytes and are not checked first. `output` must overlap none of them.
+ *
+ * Kinds, by Lua's message: 1 pattern ends with '%'; 2 missing ']'; 3 missing '[' after '%f'; 4 missing arguments to '%b';
+ * 5 invalid pattern capture; 6 unfinished capture; 7 invalid capture index in the pattern; 8 too many captures;
+ * 9 invalid use of '%' in the replacement; 10 invalid capture index in the replacement.
+ *
+ * With a pattern that luck_check_pattern accepts, and a replacement that luck_check_replacement accepts for its count under a
+ * version other than 1, the six versions give the same answer and the same output, and none raises.
+ */
+luck_trial luck_gsub_trial(uint32_t version, const uint8_t *pattern, size_t pattern_len, const uint8_t *replacement, size_t replacement_len,
+                           const uint8_t *subject, size_t subject_len, uint32_t budget, uint8_t *output, size_t room);
 
 #ifdef __cplusplus
 }

@@ -80,6 +80,19 @@ int main(void)
     same("not decoded: number", cut.number, LUCK_NOT_UTF8);
     same("not decoded: offset", cut.offset, 1);
 
+    memset(output, 0xAA, sizeof output);
+    luck_trial trial = luck_gsub_trial(4, bytes("a"), 1, bytes("x"), 1, bytes("aba"), 3, 100, output, sizeof output);
+    same("trial: number", trial.number, 0);
+    same("trial: kind", trial.kind, 0);
+    same("trial: written", trial.written, 3);
+    same("trial: replacements", trial.replacements, 2);
+    same("trial: steps", trial.steps, 6);
+    same("trial: bytes", (unsigned long long)memcmp(output, "xbx\xAA\xAA\xAA\xAA\xAA", sizeof output), 0);
+    luck_trial raised = luck_gsub_trial(4, bytes(")"), 1, NULL, 0, NULL, 0, 100, NULL, 0);
+    same("raised trial: number", raised.number, LUCK_RAISED);
+    same("raised trial: kind", raised.kind, 5);
+    same("raised trial: steps", raised.steps, 1);
+
     printf("include/luck.h: %d values of the library compared, %d differ\n", asked, wrong);
     return wrong == 0 ? 0 : 1;
 }

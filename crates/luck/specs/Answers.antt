@@ -6,9 +6,11 @@ use mathlib.Core.Option.{Option, none, some}
 use Rattle.luck_token.specs.Decode as decode
 use Rattle.luck_linter.specs.Answer as check
 use Rattle.luck_linter.specs.StringLiteral as literal
+use Rattle.luck_trial.specs.Gsub as trial
 use Rattle.luck.specs.declared.answer.Answer.{Answer}
 use Rattle.luck.specs.declared.literal.Literal.{Literal}
 use Rattle.luck.specs.declared.decoded.Decoded.{Decoded}
+use Rattle.luck.specs.declared.trial.Trial.{Trial}
 
 -- luck_answer
 abbrev pub checkAnswer : Answer → check.Answer
@@ -27,6 +29,10 @@ literalAnswer l =
 -- luck_decoded
 abbrev pub decodedAnswer : Decoded → decode.Answer
 decodedAnswer d = record { number = d .number; offset = d .offset; written = d .written }
+
+-- luck_trial
+abbrev pub trialReport : Trial → trial.Report
+trialReport r = record { number = r .number; kind = r .kind; written = r .written; replacements = r .replacements; steps = r .steps }
 
 -- a count of captures that is known, or none
 unfoldable pub countIf : Bool → ℕ → Option ℕ

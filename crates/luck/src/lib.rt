@@ -1,5 +1,5 @@
 // The library for hosts, by the names and structs of include/luck.h. A function takes any bytes and any numbers, keeps no state, and
-// writes nothing but the output that decoding is lent.
+// writes nothing but the output that decoding and the trial are lent.
 ghost use mathlib.Core.Path.{_≡_};
 ghost use mathlib.Core.Bool.{true, false};
 ghost use lib.ListN.{length};
@@ -10,15 +10,18 @@ ghost use Rattle.luck_linter.specs.Pack.{checkPack};
 ghost use Rattle.luck_linter.specs.Pattern.{checkPattern};
 ghost use Rattle.luck_linter.specs.Replacement.{countOf, checkReplacement};
 ghost use Rattle.luck_linter.specs.StringLiteral.{checkLiteral};
-ghost use Rattle.luck.specs.Answers.{checkAnswer, literalAnswer, decodedAnswer, countIf};
+ghost use Rattle.luck_trial.specs.Gsub.{report, outputAfter, gsub};
+ghost use Rattle.luck.specs.Answers.{checkAnswer, literalAnswer, decodedAnswer, trialReport, countIf};
 
 mod answer;
 mod decoded;
 mod literal;
+mod trial;
 
 use crate::answer::Answer;
 use crate::decoded::Decoded;
 use crate::literal::Literal;
+use crate::trial::Trial;
 use luck_linter::format_pattern::date;
 use luck_linter::format_pattern::format;
 use luck_linter::format_pattern::pack;
@@ -27,6 +30,7 @@ use luck_linter::format_pattern::replacement;
 use luck_linter::format_pattern::replacement::Captures;
 use luck_linter::rules::format_string;
 use luck_token::string;
+use luck_trial::gsub;
 
 // Accepted with how many arguments the specifiers take.
 #[no_mangle]
@@ -116,4 +120,25 @@ pub extern "C" fn luck_decode_string(version: u32, text: &[u8], output: &mut [u8
 {
     let decoded = string::decode_string(version, text, output);
     decoded::of_decoded(decoded)
+}
+
+// gsub of a pattern and a replacement on a subject, within a budget of steps.
+#[no_mangle]
+pub extern "C" fn luck_gsub_trial(
+    version: u32,
+    pattern: &[u8],
+    replacement: &[u8],
+    subject: &[u8],
+    budget: u32,
+    output: &mut [u8],
+) -> Trial
+    ensures answer { λ r. ⌜
+        trialReport r ≡ report (gsub version (now (pattern .entry)) (now (replacement .entry)) (now (subject .entry)) budget (length (now (output .entry))))
+        ⌝ }
+    ensures output { λ r. ⌜
+        now (output .exit) ≡ outputAfter (now (output .entry)) (gsub version (now (pattern .entry)) (now (replacement .entry)) (now (subject .entry)) budget (length (now (output .entry))))
+        ⌝ }
+{
+    let done = gsub::gsub(version, pattern, replacement, subject, budget, output);
+    trial::of_trial(done)
 }
