@@ -1,0 +1,215 @@
+//! Compares the proved library's trial of gsub with a plain program of the same rules, in one process: number, kind, bytes written,
+//! replacements, steps, and every byte of the output.
+
+mod library;
+mod plain;
+
+use std::env;
+use std::process::ExitCode;
+
+const USAGE: &str = "usage: trials short | trials long [SEED] [COUNT]";
+const DEFAULT_SEED: u64 = 20_240_501;
+const DEFAULT_COUNT: u64 = 5_000_000;
+/// What the output holds before a trial, and on both sides of it.
+const FILL: u8 = 0xA5;
+const GUARD: usize = 8;
+/// Differences that are printed.
+const SHOWN: u64 = 20;
+
+/// The bytes of which every short pattern is made.
+const HOSTILE: &[u8] = b"a(%)[]^-*+?.$1bfwA\x00";
+const SUBJECTS: [&[u8]; 5] = [b"", b"a", b"ab1", b"aab(a)", b"]-%aa\x00"];
+const REPLACEMENTS: [&[u8]; 4] = [b"x", b"<%0>%1", b"%2", b"%a%"];
+const PATTERN_PARTS: [&[u8]; 44] = [
+    b"a",
+    b"b",
+    b"c",
+    b".",
+    b"%",
+    b"%%",
+    b"(",
+    b")",
+    b"()",
+    b"(a",
+    b"[",
+    b"]",
+    b"[^",
+    b"-",
+    b"*",
+    b"+",
+    b"?",
+    b"^",
+    b"$",
+    b"%a",
+    b"%d",
+    b"%w",
+    b"%s",
+    b"%S",
+    b"%x",
+    b"%g",
+    b"%z",
+    b"%0",
+    b"%1",
+    b"%2",
+    b"%b",
+    b"%bab",
+    b"%b()",
+    b"%f",
+    b"%f[%w]",
+    b"%f[^a]",
+    b"[a-c]",
+    b"[%w_]",
+    b"[!-%%]",
+    b"[]a]",
+    b"[^%s]",
+    b"\x00",
+    b"\xC3\xA9",
+    b"a?",
+];
+const SUBJECT_PARTS: [&[u8]; 18] =
+    [b"a", b"a", b"aa", b"b", b"c", b"ab", b"1", b"_", b" ", b"(", b")", b"%", b"]", b"-", b"A", b"\x00", b"\xC3\xA9", b"\n"];
+const REPLACEMENT_PARTS: [&[u8]; 12] = [b"x", b"yz", b"%0", b"%1", b"%2", b"%3", b"%9", b"%%", b"%", b"%a", b"%\x00", b"\x00"];
+
+/// splitmix64, so that a run can be repeated from its seed.
+struct Random(u64);
+
+impl Random {
+    fn next(&mut self) -> u64 {
+        self.0 = self.0.wrapping_add(0x9E37_79B9_7F4A_7C15);
+        let mut z = self.0;
+        z = (z ^ (z >> 30)).wrapping_mul(0xBF58_476D_1CE4_E5B9);
+        z = (z ^ (z >> 27)).wrapping_mul(0x94D0_49BB_1331_11EB);
+        z ^ (z >> 31)
+    }
+
+    fn below(&mut self, bound: usize) -> usize {
+        usize::try_from(self.next() % bound as u64).unwrap()
+    }
+
+    fn text(&mut self, parts: &[&[u8]], most: usize) -> Vec<u8> {
+        (0..self.below(most + 1)).flat_map(|_| parts[self.below(parts.len())].iter().copied()).collect()
+    }
+}
+
+#[derive(Default)]
+struct Tally {
+    trials: u64,
+    differing: u64,
+    /// Trials by their number: 0, 25, 26, 27, 28, 29.
+    numbers: [u64; 30],
+    kinds: [u64; 11],
+}
+
+impl Tally {
+    fn trial(&mut self, version: u32, pattern: &[u8], replacement: &[u8], subject: &[u8], budget: u32, room: usize) {
+        let expected = plain::gsub(version, pattern, replacement, subject, budget, room);
+        let mut bytes = vec![FILL; GUARD + room + GUARD];
+        let found = library::gsub(version, pattern, replacement, subject, budget, &mut bytes[GUARD..GUARD + room]);
+        let mut whole = vec![FILL; GUARD + room + GUARD];
+        whole[GUARD..GUARD + expected.written.len()].copy_from_slice(&expected.written);
+        let is_same = found.number == expected.number
+            && found.kind == expected.kind
+            && found.written == expected.written.len()
+            && found.replacements == expected.replacements
+            && found.steps == expected.steps
+            && bytes == whole;
+        self.trials += 1;
+        self.numbers[expected.number as usize] += 1;
+        self.kinds[expected.kind as usize] += 1;
+        if !is_same {
+            self.differing += 1;
+            if self.differing <= SHOWN {
+                println!(
+                    "version {version}, pattern `{}`, replacement `{}`, subject `{}`, budget {budget}, room {room}: library {found:?} and `{}`, plain {expected:?}",
+                    pattern.escape_ascii(),
+                    replacement.escape_ascii(),
+                    subject.escape_ascii(),
+                    bytes.escape_ascii()
+                );
+            }
+        }
+    }
+
+    /// Every pattern of up to `most` bytes.
+    fn exhaustive(&mut self, most: usize) {
+        for length in 0..=most {
+            let mut digits = vec![0; length];
+            loop {
+                let pattern: Vec<u8> = digits.iter().map(|&digit| HOSTILE[digit]).collect();
+                self.short_pattern(&pattern);
+                let Some(place) = digits.iter().rposition(|&digit| digit + 1 < HOSTILE.len()) else { break };
+                digits[place] += 1;
+                digits[place + 1..].fill(0);
+            }
+        }
+    }
+
+    fn short_pattern(&mut self, pattern: &[u8]) {
+        for subject in SUBJECTS {
+            for replacement in REPLACEMENTS {
+                self.trial(4, pattern, replacement, subject, 1_000, 40);
+            }
+            self.trial(1, pattern, REPLACEMENTS[3], subject, 9, 3);
+        }
+    }
+
+    /// Small budgets and rooms as often as large ones, now and then a number that is no version.
+    fn random(&mut self, random: &mut Random, count: u64) {
+        for _ in 0..count {
+            let version = u32::try_from(random.below(8)).unwrap();
+            let pattern = random.text(&PATTERN_PARTS, 8);
+            let replacement = random.text(&REPLACEMENT_PARTS, 4);
+            let subject = random.text(&SUBJECT_PARTS, 14);
+            let budget = [u32::try_from(random.below(30)).unwrap(), 2_000][random.below(2)];
+            let room = [random.below(12), 200][random.below(2)];
+            self.trial(version, &pattern, &replacement, &subject, budget, room);
+        }
+    }
+
+    /// Levels and captures around their limits.
+    fn limits(&mut self) {
+        for levels in 190..=214 {
+            for end in [&b""[..], b"a", b")", b"(", b"b"] {
+                let pattern = [&b"a?".repeat(levels)[..], end].concat();
+                for subject in [b"a".repeat(levels), b"a".repeat(levels + 1), b"a".repeat(10)] {
+                    for budget in [levels as u32 - 1, levels as u32, 100_000] {
+                        self.trial(4, &pattern, b"x", &subject, budget, 300);
+                    }
+                }
+            }
+        }
+        for captures in 28..=36 {
+            for part in [&b"()"[..], b"(a)", b"("] {
+                let pattern = part.repeat(captures);
+                self.trial(4, &pattern, b"%1%9", &b"a".repeat(40), 100_000, 300);
+            }
+        }
+    }
+}
+
+fn main() -> ExitCode {
+    let words: Vec<String> = env::args().skip(1).collect();
+    let words: Vec<&str> = words.iter().map(String::as_str).collect();
+    let (most, seed, count) = match *words.as_slice() {
+        ["short"] => (3, DEFAULT_SEED, 500_000),
+        ["long"] => (4, DEFAULT_SEED, DEFAULT_COUNT),
+        ["long", seed] => (4, seed.parse().unwrap_or(DEFAULT_SEED), DEFAULT_COUNT),
+        ["long", seed, count] => (4, seed.parse().unwrap_or(DEFAULT_SEED), count.parse().unwrap_or(DEFAULT_COUNT)),
+        _ => {
+            eprintln!("{USAGE}");
+            return ExitCode::from(2);
+        }
+    };
+    let mut tally = Tally::default();
+    tally.limits();
+    tally.exhaustive(most);
+    tally.random(&mut Random(seed), count);
+    println!("{} trials, {} differ", tally.trials, tally.differing);
+    for (number, count) in tally.numbers.iter().enumerate().filter(|(_, count)| **count > 0) {
+        println!("  number {number}: {count}");
+    }
+    for (kind, count) in tally.kinds.iter().enumerate().skip(1) {
+        println!("  kind {kind}: {count}");
+    }
+    ExitCode::from(u8::from(tally.differing > 0))
+}
