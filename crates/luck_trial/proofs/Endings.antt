@@ -3,12 +3,12 @@
 use Prim.Native.Nat.{ℕ, zero, suc, _+_, _-_, _≤_, zero-le}
 use native.Mathlib.Omega.{arith}
 use mathlib.Core.Path.{_≡_, refl}
-use mathlib.Core.Bool.{Bool}
+use mathlib.Core.Bool.{Bool, true}
 use mathlib.Core.List.{List, [], _∷_, _++_}
 use mathlib.Core.Option.{Option, none, some}
 use lib.ListN.{length, getD}
 use lib.Dec.{eqb, leb, ltb}
-use Rattle.luck_token.specs.Bytes.{byteAt}
+use Rattle.luck_token.specs.Bytes.{byteAt, among}
 use Rattle.luck_token.proofs.Cases.{by-test}
 use Rattle.luck_linter.specs.Pattern.{
   Head,
@@ -160,17 +160,27 @@ module _ (pat : List ℕ) where
 -- ---- How an attempt and a trial end
 
 pub record Ending (budget number kind steps : ℕ) : Type 0 where
+  pub numbered : among number (0 ∷ 25 ∷ 26 ∷ 27 ∷ 28 ∷ 29 ∷ []) ≡ true
   pub spent : number ≡ 27 → steps ≡ budget
   pub kinded : number ≡ 29 → (1 ≤ kind) × (kind ≤ 10)
   pub kindless : (number ≡ 29 → ⊥) → kind ≡ 0
 
+listed-27 : among 27 (0 ∷ 25 ∷ 26 ∷ 27 ∷ 28 ∷ 29 ∷ []) ≡ true
+unfolding among
+listed-27 = refl
+
+listed-28 : among 28 (0 ∷ 25 ∷ 26 ∷ 27 ∷ 28 ∷ 29 ∷ []) ≡ true
+unfolding among
+listed-28 = refl
+
 module _ (budget : ℕ) where
   -- an ending other than 27 and 29
-  other : (number u : ℕ) → (number ≡ 27 → ⊥) → (number ≡ 29 → ⊥) → Ending budget number 0 u
-  other number u a b = record { spent = λ e. absurd (a e); kinded = λ e. absurd (b e); kindless = λ e. refl }
+  other : (number u : ℕ) → among number (0 ∷ 25 ∷ 26 ∷ 27 ∷ 28 ∷ 29 ∷ []) ≡ true → (number ≡ 27 → ⊥) → (number ≡ 29 → ⊥) → Ending budget number 0 u
+  other number u m a b = record { numbered = m; spent = λ e. absurd (a e); kinded = λ e. absurd (b e); kindless = λ e. refl }
 
   raising : (kind u : ℕ) → 1 ≤ kind → kind ≤ 10 → Ending budget 29 kind u
-  raising kind u low high = record { spent = λ e. absurd (omega arith); kinded = λ e. (low, high); kindless = λ e. absurd (e refl) }
+  unfolding among
+  raising kind u low high = record { numbered = refl; spent = λ e. absurd (omega arith); kinded = λ e. (low, high); kindless = λ e. absurd (e refl) }
 
   abbrev U : ℕ → Type 0
   U u = u ≤ budget
@@ -191,8 +201,8 @@ module _ (budget : ℕ) where
   kept =
       record {
         more = λ u h l. omega arith;
-        steps-spent = λ u h b. record { ends = (h, record { spent = λ e. omega arith; kinded = λ e. absurd (omega arith); kindless = λ e. refl }) };
-        too-deep = λ u h. record { ends = (h, other 28 u (λ e. omega arith) (λ e. omega arith)) };
+        steps-spent = λ u h b. record { ends = (h, record { numbered = listed-27; spent = λ e. omega arith; kinded = λ e. absurd (omega arith); kindless = λ e. refl }) };
+        too-deep = λ u h. record { ends = (h, other 28 u listed-28 (λ e. omega arith) (λ e. omega arith)) };
         fails = λ u h. record { ends = h };
         after-failure = λ u h. h .ends;
       }
@@ -249,14 +259,14 @@ module _ (budget : ℕ) where
     attempt-low (stopped number kind u) p = p .ends
 
 pub endings : (version : ℕ) (pat rep sub : List ℕ) (budget room : ℕ) → Fine (λ u. u ≤ budget) (Ending budget) (gsub version pat rep sub budget room)
-unfolding writerOf
+unfolding writerOf among
 endings version pat rep sub budget room =
     gsub-fine (λ u. u ≤ budget) (Ending budget) (λ cs. Unit {0}) version pat rep sub budget room zero-le
-    (λ u h. other budget 0 u (λ e. omega arith) (λ e. omega arith))
-    (other budget 25 0 (λ e. omega arith) (λ e. omega arith))
-    (λ u h. other budget 26 u (λ e. omega arith) (λ e. omega arith))
+    (λ u h. other budget 0 u refl (λ e. omega arith) (λ e. omega arith))
+    (other budget 25 0 refl (λ e. omega arith) (λ e. omega arith))
+    (λ u h. other budget 26 u refl (λ e. omega arith) (λ e. omega arith))
     (λ s e cs c u h out.
-    pieces-end (λ number kind. Ending budget number kind u) (other budget 26 u (λ e. omega arith) (λ e. omega arith))
+    pieces-end (λ number kind. Ending budget number kind u) (other budget 26 u refl (λ e. omega arith) (λ e. omega arith))
     (raising budget 6 u (omega arith) (omega arith)) (raising budget 9 u (omega arith) (omega arith)) (raising budget 10 u (omega arith) (omega arith))
     sub room s e cs (eqb version 1) (pieces rep) out)
     (λ s u h. attempt-low budget matchClass sub _ (match-low budget matchClass sub (items pat 0) (items-kinds pat 0) s 1 [] u h))

@@ -14,6 +14,7 @@ pub mod Items
 pub mod Reading
 pub mod Accepted
 pub mod Writings
+pub mod Quiet
 pub mod Promises
 pub mod Outputs
 pub mod Decimals

@@ -2,38 +2,22 @@
 -- Assumes nothing.
 use Prim.Native.Nat.{ℕ, _≤_}
 use native.Mathlib.Omega.{arith}
-use mathlib.Core.Path.{_≡_, refl, sym, ap, _∙_}
+use mathlib.Core.Path.{_≡_, refl, ap}
 use mathlib.Core.Bool.{Bool, true, false}
-use mathlib.Core.List.{List, []}
+use mathlib.Core.List.{List, [], _∷_}
 use mathlib.Core.Option.{some}
 use lib.ListN.{length}
 use lib.Dec.{eqb}
-use borrow.Author.Tests.{eq-eqb}
-use Rattle.luck_token.specs.Bytes.{if_then_else_}
+use Rattle.luck_token.specs.Bytes.{if_then_else_, among}
 use Rattle.luck_token.specs.Version.{isVersion, rulesOf}
 use Rattle.luck_linter.specs.Answer.{accepted}
 use Rattle.luck_linter.specs.Pattern.{checkPattern}
-use Rattle.luck_linter.specs.Items.{items}
-use Rattle.luck_linter.specs.Replacement.{isStrict, pieces, piecesWalk, checkReplacement}
+use Rattle.luck_linter.specs.Replacement.{isStrict, checkReplacement}
 use Rattle.luck_trial.specs.Class.{matchClass}
-use Rattle.luck_trial.specs.Gsub.{Answer, outputAfter, strGsub, writerOf, gsub}
-use Rattle.luck_trial.proofs.Runs.{gsub-fine}
-use Rattle.luck_trial.proofs.Sound.{AllClosed, flagsOf, NotRaised, match-sound}
-use Rattle.luck_trial.proofs.Accepted.{well-formed, anchored-well-formed}
-use Rattle.luck_trial.proofs.Writings.{walk-accepted, strict-accepted, pieces-quiet, writers-alike}
+use Rattle.luck_trial.specs.Gsub.{outputAfter, strGsub, gsub}
+use Rattle.luck_trial.proofs.Writings.{walk-accepted, strict-accepted, writers-alike}
+use Rattle.luck_trial.proofs.Quiet.{quiet}
 use Rattle.luck_trial.proofs.Endings.{Ending, endings}
-
--- what the proofs below share: an accepted pattern, and a replacement whose walk is accepted, strict unless the trial's version is 1
-quiet : (v version n k : ℕ) (strict : Bool) (pat rep sub : List ℕ) (budget room : ℕ) → checkPattern v pat ≡ accepted n
-    → piecesWalk strict (some n) (pieces rep) 0 ≡ accepted k → (strict ≡ false → eqb version 1 ≡ true) → gsub version pat rep sub budget room .number ≡ 29 → ⊥
-unfolding writerOf
-quiet v version n k strict pat rep sub budget room ok walk old =
-    (gsub-fine (λ u. Unit {0}) NotRaised (λ cs. AllClosed n (flagsOf cs)) version pat rep sub budget room tt
-    (λ u h e. omega arith) (λ e. omega arith) (λ u h e. omega arith)
-    (λ s e cs all u h out. pieces-quiet sub room s e cs n all strict (eqb version 1) old k (pieces rep) 0 walk out)
-    (λ s u h. match-sound matchClass sub budget n (items pat 0) [] (well-formed v pat n ok) s 1 u tt .holds)
-    (λ t s u h. match-sound matchClass sub budget n (items pat 1) [] (anchored-well-formed v pat n ok t) s 1 u tt .holds))
-    .ending
 
 -- ---- A pattern accepted under some version v with its count n, and a replacement accepted for that count under a version w other than 5.1
 
@@ -83,6 +67,10 @@ module _ (version : ℕ) (pat rep sub : List ℕ) (budget room : ℕ) where
   -- all of it where a step was due with none left,
   pub spent-exactly : gsub version pat rep sub budget room .number ≡ 27 → gsub version pat rep sub budget room .steps ≡ budget
   spent-exactly = endings version pat rep sub budget room .ending .spent
+
+  -- one of these numbers: 23 is never given,
+  pub numbers : among (gsub version pat rep sub budget room .number) (0 ∷ 25 ∷ 26 ∷ 27 ∷ 28 ∷ 29 ∷ []) ≡ true
+  numbers = endings version pat rep sub budget room .ending .numbered
 
   -- a kind from 1 to 10 with 29,
   pub kind-of-raised : gsub version pat rep sub budget room .number ≡ 29

@@ -1,0 +1,31 @@
+-- A trial of an accepted pattern and an accepted replacement raises nothing.
+-- Assumes nothing.
+use Prim.Native.Nat.{ℕ}
+use native.Mathlib.Omega.{arith}
+use mathlib.Core.Path.{_≡_}
+use mathlib.Core.Bool.{Bool, true, false}
+use mathlib.Core.List.{List, []}
+use mathlib.Core.Option.{some}
+use lib.Dec.{eqb}
+use Rattle.luck_linter.specs.Answer.{accepted}
+use Rattle.luck_linter.specs.Pattern.{checkPattern}
+use Rattle.luck_linter.specs.Items.{items}
+use Rattle.luck_linter.specs.Replacement.{pieces, piecesWalk}
+use Rattle.luck_trial.specs.Class.{matchClass}
+use Rattle.luck_trial.specs.Gsub.{writerOf, gsub}
+use Rattle.luck_trial.proofs.Runs.{gsub-fine}
+use Rattle.luck_trial.proofs.Sound.{AllClosed, flagsOf, NotRaised, match-sound}
+use Rattle.luck_trial.proofs.Accepted.{well-formed, anchored-well-formed}
+use Rattle.luck_trial.proofs.Writings.{pieces-quiet}
+
+-- the replacement's walk is accepted, strict unless the trial's version is 1
+pub quiet : (v version n k : ℕ) (strict : Bool) (pat rep sub : List ℕ) (budget room : ℕ) → checkPattern v pat ≡ accepted n
+    → piecesWalk strict (some n) (pieces rep) 0 ≡ accepted k → (strict ≡ false → eqb version 1 ≡ true) → gsub version pat rep sub budget room .number ≡ 29 → ⊥
+unfolding writerOf
+quiet v version n k strict pat rep sub budget room ok walk old =
+    (gsub-fine (λ u. Unit {0}) NotRaised (λ cs. AllClosed n (flagsOf cs)) version pat rep sub budget room tt
+    (λ u h e. omega arith) (λ e. omega arith) (λ u h e. omega arith)
+    (λ s e cs all u h out. pieces-quiet sub room s e cs n all strict (eqb version 1) old k (pieces rep) 0 walk out)
+    (λ s u h. match-sound matchClass sub budget n (items pat 0) [] (well-formed v pat n ok) s 1 u tt .holds)
+    (λ t s u h. match-sound matchClass sub budget n (items pat 1) [] (anchored-well-formed v pat n ok t) s 1 u tt .holds))
+    .ending
