@@ -3,11 +3,12 @@
 
 mod library;
 mod plain;
+mod real;
 
 use std::env;
 use std::process::ExitCode;
 
-const USAGE: &str = "usage: trials short | trials long [SEED] [COUNT]";
+const USAGE: &str = "usage: trials short | trials long [SEED] [COUNT] | trials real FILE";
 const DEFAULT_SEED: u64 = 20_240_501;
 const DEFAULT_COUNT: u64 = 5_000_000;
 /// What the output holds before a trial, and on both sides of it.
@@ -187,10 +188,25 @@ impl Tally {
     }
 }
 
+/// The stored answers of real Lua.
+fn replay(file: &str) -> ExitCode {
+    match real::replay(file) {
+        Ok(tally) => {
+            println!("{} answers of real Lua's gsub, {} differ; {} left out", tally.asked, tally.differing, tally.left_out);
+            ExitCode::from(u8::from(tally.differing > 0 || tally.asked == 0))
+        }
+        Err(error) => {
+            eprintln!("{file}: {error}");
+            ExitCode::from(2)
+        }
+    }
+}
+
 fn main() -> ExitCode {
     let words: Vec<String> = env::args().skip(1).collect();
     let words: Vec<&str> = words.iter().map(String::as_str).collect();
     let (most, seed, count) = match *words.as_slice() {
+        ["real", file] => return replay(file),
         ["short"] => (3, DEFAULT_SEED, 500_000),
         ["long"] => (4, DEFAULT_SEED, DEFAULT_COUNT),
         ["long", seed] => (4, seed.parse().unwrap_or(DEFAULT_SEED), DEFAULT_COUNT),
