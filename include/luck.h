@@ -12,7 +12,7 @@
  * - A `bool` is false or true: what C and C++ do by themselves, and what another language has to see to.
  * - The functions keep no state, allocate nothing, and write nothing but the output that decoding and the trial are lent. They may run in
  *   any number of threads at once, also on the same text. Each takes less than 1 KiB of stack, as measured, but for
- *   luck_gsub_trial, whose 200 levels take less than 400 KiB, whatever the texts.
+ *   luck_gsub_trial, whose 200 levels take up to 450 KiB: give it 512.
  *
  * The refusals, by `number`, with their names behind LUCK_. 0 is none: accepted, decoded, or skipped.
  *
@@ -184,8 +184,9 @@ typedef struct {
 
 /*
  * string.gsub(subject, pattern, replacement) by the rules of 5.4 in every version; in a replacement 5.1 writes the byte after
- * a `%` that is neither a digit nor `%`, where the others raise kind 9. A step is due when an item of the pattern is begun and
- * for each test that a repeat makes after its first. The result is written to the front of `output`, which has room for `room` bytes; no byte after the written
+ * a `%` that is neither a digit nor `%`, and a zero byte for a final `%`, where the others raise kind 9. A step is due when an item of
+ * the pattern is begun, its end included, and for each test that a repeat makes after its first. The budget bounds the steps, not
+ * the time: a step may read the whole pattern (a set) or the whole subject (`%b`), and each replacement reads the whole replacement. The result is written to the front of `output`, which has room for `room` bytes; no byte after the written
  * ones is touched. The texts are any bytes and are not checked first. `output` must overlap none of them.
  *
  * Kinds, by Lua's message: 1 pattern ends with '%'; 2 missing ']'; 3 missing '[' after '%f'; 4 missing arguments to '%b';
@@ -193,7 +194,8 @@ typedef struct {
  * 9 invalid use of '%' in the replacement; 10 invalid capture index in the replacement.
  *
  * With a pattern that luck_check_pattern accepts, and a replacement that luck_check_replacement accepts for its count under a
- * version other than 1, the six versions give the same answer and the same output, and none raises.
+ * version other than 1, the six versions give the same answer and the same output, and none raises; 28, which real Lua raises
+ * as "pattern too complex", can still be the answer.
  */
 luck_trial luck_gsub_trial(uint32_t version, const uint8_t *pattern, size_t pattern_len, const uint8_t *replacement, size_t replacement_len,
                            const uint8_t *subject, size_t subject_len, uint32_t budget, uint8_t *output, size_t room);
