@@ -10,6 +10,7 @@ mod real_lua;
 mod replay;
 mod report;
 mod tally;
+mod trials;
 
 use crate::replay::Format;
 
@@ -40,6 +41,7 @@ fn luck_answers() {
 fn document_answers() {
     replay::run(b"rows of document 01", b"rows.bin", Format::Checks);
     replay::run(b"its literals", b"literal_rows.bin", Format::LiteralChecks);
+    replay::run(b"its trials", b"trial_rows.bin", Format::Trials);
 }
 
 // Answers of Lua 5.1 to 5.4. All that is known to differ stands in a file of its own, whose records must all differ.
@@ -54,6 +56,11 @@ fn real_lua_answers() {
         Format::RealLua,
     );
     replay::run(b"real dates", b"real_dates.bin", Format::RealLua);
+    replay::run(b"real gsub, 1", b"real_gsub_1.bin", Format::Trials);
+    replay::run(b"real gsub, 2", b"real_gsub_2.bin", Format::Trials);
+    replay::run(b"real gsub, 3", b"real_gsub_3.bin", Format::Trials);
+    replay::run(b"real gsub, 4", b"real_gsub_4.bin", Format::Trials);
+    replay::run(b"real gsub, 5", b"real_gsub_5.bin", Format::Trials);
     replay::run(b"real, known to differ", b"real_known.bin", Format::RealLua);
 }
 
@@ -67,4 +74,5 @@ fn wrong_answers() {
         Format::LiteralChecks,
     );
     replay::run(b"wrong real", b"wrong_real.bin", Format::RealLua);
+    replay::run(b"wrong trials", b"wrong_trials.bin", Format::Trials);
 }

@@ -12,6 +12,7 @@ use crate::report;
 use crate::tally;
 use crate::tally::Replay;
 use crate::tally::Turn;
+use crate::trials;
 
 // What the records of a file are.
 pub enum Format {
@@ -19,6 +20,7 @@ pub enum Format {
     Checks,
     LiteralChecks,
     RealLua,
+    Trials,
 }
 
 pub fn run(name: &[u8], path: &[u8], format: Format) {
@@ -61,5 +63,6 @@ fn turn(format: Format, file: &[u8], at: usize) -> Turn
         Format::Checks => checks::turn(file, at),
         Format::LiteralChecks => literal_checks::turn(file, at),
         Format::RealLua => real_lua::turn(file, at),
+        Format::Trials => trials::turn(file, at),
     }
 }

@@ -4,11 +4,13 @@
 mod library;
 mod plain;
 mod real;
+mod store;
 
 use std::env;
+use std::path::Path;
 use std::process::ExitCode;
 
-const USAGE: &str = "usage: trials short | trials long [SEED] [COUNT] | trials real FILE";
+const USAGE: &str = "usage: trials short | trials long [SEED] [COUNT] | trials real FILE | trials store DATA DIR";
 const DEFAULT_SEED: u64 = 20_240_501;
 const DEFAULT_COUNT: u64 = 5_000_000;
 /// What the output holds before a trial, and on both sides of it.
@@ -202,11 +204,26 @@ fn replay(file: &str) -> ExitCode {
     }
 }
 
+/// The files that the program `vectors` replays.
+fn stored(data: &Path, folder: &Path) -> ExitCode {
+    match store::write(data, folder) {
+        Ok((records, files)) => {
+            println!("{records} records of real Lua's gsub in {files} files");
+            ExitCode::SUCCESS
+        }
+        Err(error) => {
+            eprintln!("{error}");
+            ExitCode::from(2)
+        }
+    }
+}
+
 fn main() -> ExitCode {
     let words: Vec<String> = env::args().skip(1).collect();
     let words: Vec<&str> = words.iter().map(String::as_str).collect();
     let (most, seed, count) = match *words.as_slice() {
         ["real", file] => return replay(file),
+        ["store", data, folder] => return stored(Path::new(data), Path::new(folder)),
         ["short"] => (3, DEFAULT_SEED, 500_000),
         ["long"] => (4, DEFAULT_SEED, DEFAULT_COUNT),
         ["long", seed] => (4, seed.parse().unwrap_or(DEFAULT_SEED), DEFAULT_COUNT),

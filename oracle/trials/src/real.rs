@@ -5,13 +5,13 @@ use std::io;
 
 use crate::library;
 
-const BUDGET: u32 = 1_000_000;
+pub const BUDGET: u32 = 1_000_000;
 const ROOM: usize = 4_096;
 /// Differences that are printed.
 const SHOWN: u64 = 20;
 
 #[derive(Debug, Clone, PartialEq, Eq)]
-enum Answer {
+pub enum Answer {
     LeftOut,
     Done(usize, Vec<u8>),
     /// By its kind, 7 standing for 10 too.
@@ -24,8 +24,14 @@ pub struct Tally {
     pub left_out: u64,
 }
 
+/// A pattern, a replacement and a subject, and the answers of 5.1 to 5.4.
+pub struct Case {
+    pub texts: [Vec<u8>; 3],
+    pub answers: Vec<Answer>,
+}
+
 /// A text between quotes, with `\` and two hexadecimal digits for what can't be printed.
-fn text(word: &str) -> Option<Vec<u8>> {
+pub fn text(word: &str) -> Option<Vec<u8>> {
     let inner = word.strip_prefix('"')?.strip_suffix('"')?.as_bytes();
     let mut bytes = Vec::new();
     let mut at = 0;
@@ -64,36 +70,46 @@ fn found(version: u32, pattern: &[u8], replacement: &[u8], subject: &[u8]) -> Op
     }
 }
 
+fn case(line: &str) -> Option<Case> {
+    let words: Vec<&str> = line.split(' ').collect();
+    let [pattern, replacement, subject, words @ ..] = words.as_slice() else { return None };
+    let mut answers: Vec<Answer> = Vec::new();
+    for word in words {
+        answers.push(if *word == "=" { answers.last()?.clone() } else { answer(word)? });
+    }
+    (answers.len() == 4).then_some(Case { texts: [text(pattern)?, text(replacement)?, text(subject)?], answers })
+}
+
+/// The cases of a stored file.
+pub fn cases(file: &str) -> io::Result<Vec<Case>> {
+    let content = fs::read_to_string(file)?;
+    let lines = content.lines().enumerate().filter(|(_, line)| !line.starts_with('#'));
+    lines.map(|(number, line)| case(line).ok_or_else(|| io::Error::other(format!("line {}: {line}", number + 1)))).collect()
+}
+
 impl Tally {
-    fn line(&mut self, line: &str) -> Option<()> {
-        let words: Vec<&str> = line.split(' ').collect();
-        let [pattern, replacement, subject, answers @ ..] = words.as_slice() else { return None };
-        let (pattern, replacement, subject) = (text(pattern)?, text(replacement)?, text(subject)?);
-        let mut before = None;
-        for (version, word) in (1..=4).zip(answers) {
-            let wanted = if *word == "=" { before? } else { answer(word)? };
-            if wanted == Answer::LeftOut {
+    fn case(&mut self, case: &Case) {
+        let [pattern, replacement, subject] = &case.texts;
+        for (version, wanted) in (1..=4).zip(&case.answers) {
+            if *wanted == Answer::LeftOut {
                 self.left_out += 1;
-            } else {
-                self.asked += 1;
-                let is = found(version, &pattern, &replacement, &subject);
-                if is.as_ref() != Some(&wanted) {
-                    self.differing += 1;
-                    if self.differing <= SHOWN {
-                        println!("5.{version}: {line}: library {is:?}");
-                    }
+                continue;
+            }
+            self.asked += 1;
+            let is = found(version, pattern, replacement, subject);
+            if is.as_ref() != Some(wanted) {
+                self.differing += 1;
+                if self.differing <= SHOWN {
+                    let texts = case.texts.each_ref().map(|text| text.escape_ascii().to_string());
+                    println!("5.{version}: {texts:?}: library {is:?}, Lua {wanted:?}");
                 }
             }
-            before = Some(wanted);
         }
-        (answers.len() == 4).then_some(())
     }
 }
 
 pub fn replay(file: &str) -> io::Result<Tally> {
     let mut tally = Tally { asked: 0, differing: 0, left_out: 0 };
-    for (number, line) in fs::read_to_string(file)?.lines().enumerate().filter(|(_, line)| !line.starts_with('#')) {
-        tally.line(line).ok_or_else(|| io::Error::other(format!("line {}: {line}", number + 1)))?;
-    }
+    cases(file)?.iter().for_each(|case| tally.case(case));
     Ok(tally)
 }
