@@ -11,26 +11,35 @@ mod grammar;
 mod kind;
 mod known;
 mod library;
+mod line_comparison;
+mod line_heads;
+mod line_texts;
+mod lines;
 mod output;
+mod program;
 mod random;
 mod reference;
 mod report;
 mod store;
 mod store_checks;
+mod store_lines;
 mod store_rows;
 mod store_texts;
 mod symbols;
 
 use std::env;
+use std::io;
 use std::path::Path;
 use std::process::ExitCode;
 use std::time::Instant;
 
 use comparison::Comparison;
 use exhaustive::{Form, LONG, LONG_LEVEL_1, QUOTED, RAW};
+use line_comparison::LineComparison;
 use random::Random;
 
-const USAGE: &str = "usage: compare short | compare (long | literals | checks) [SEED] [COUNT] | compare store DIR";
+const USAGE: &str = "usage: compare short | compare (long | literals | checks) [SEED] [COUNT] | compare store DIR
+       compare lines PROGRAM [SEED] [COUNT] | compare store-lines DIR";
 const DEFAULT_SEED: u64 = 20_240_501;
 
 /// How far a run goes.
@@ -96,6 +105,8 @@ fn main() -> ExitCode {
         ["literals", ref numbers @ ..] => compare_long(numbers, Run::literals),
         ["checks", ref numbers @ ..] => compare_long(numbers, Run::checks),
         ["store", folder] => store(Path::new(folder)),
+        ["lines", program, ref numbers @ ..] => compare_lines(Path::new(program), numbers),
+        ["store-lines", folder] => store_lines(Path::new(folder)),
         _ => usage(),
     }
 }
@@ -106,11 +117,10 @@ fn usage() -> ExitCode {
 }
 
 /// SEED and COUNT, each with its default.
-fn long_numbers(words: &[&str]) -> Option<(u64, u64)> {
-    const DEFAULT_COUNT: u64 = 10_000_000;
+fn numbers(words: &[&str], default_count: u64) -> Option<(u64, u64)> {
     match *words {
-        [] => Some((DEFAULT_SEED, DEFAULT_COUNT)),
-        [seed] => Some((seed.parse().ok()?, DEFAULT_COUNT)),
+        [] => Some((DEFAULT_SEED, default_count)),
+        [seed] => Some((seed.parse().ok()?, default_count)),
         [seed, count] => Some((seed.parse().ok()?, count.parse().ok()?)),
         _ => None,
     }
@@ -122,18 +132,43 @@ fn store(folder: &Path) -> ExitCode {
             println!("{records} records, {bytes} bytes");
             ExitCode::SUCCESS
         }
-        Err(error) => {
-            eprintln!("{}: {error}", folder.display());
-            ExitCode::from(2)
+        Err(error) => cannot_use(folder, &error),
+    }
+}
+
+fn cannot_use(path: &Path, error: &io::Error) -> ExitCode {
+    eprintln!("{}: {error}", path.display());
+    ExitCode::from(2)
+}
+
+fn store_lines(folder: &Path) -> ExitCode {
+    match store_lines::write(folder) {
+        Ok((lines, bytes)) => {
+            println!("{lines} lines, {bytes} bytes");
+            ExitCode::SUCCESS
         }
+        Err(error) => cannot_use(folder, &error),
+    }
+}
+
+fn compare_lines(program: &Path, words: &[&str]) -> ExitCode {
+    const DEFAULT_COUNT: u64 = 200_000;
+    let Some((seed, count)) = numbers(words, DEFAULT_COUNT) else { return usage() };
+    match LineComparison::run(program, seed, count) {
+        Ok(comparison) => {
+            println!("{comparison}");
+            ExitCode::from(u8::from(comparison.differing() > 0))
+        }
+        Err(error) => cannot_use(program, &error),
     }
 }
 
 /// The parts of a run that are asked for.
 type Parts = fn(&mut Run, &Extent);
 
-fn compare_long(numbers: &[&str], parts: Parts) -> ExitCode {
-    match long_numbers(numbers) {
+fn compare_long(words: &[&str], parts: Parts) -> ExitCode {
+    const DEFAULT_COUNT: u64 = 10_000_000;
+    match numbers(words, DEFAULT_COUNT) {
         Some((seed, count)) => compare(&long_extent(seed, count), parts),
         None => usage(),
     }

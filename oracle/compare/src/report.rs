@@ -116,15 +116,24 @@ impl Report {
 
 impl fmt::Display for Case<'_> {
     fn fmt(&self, f: &mut fmt::Formatter<'_>) -> fmt::Result {
-        const LONGEST_SHOWN: usize = 200;
-        let shown = self.text.get(..LONGEST_SHOWN).unwrap_or(self.text);
         write!(f, "{} ", self.check.name())?;
         if let Some(version) = self.version {
             write!(f, "V{version} ")?;
         }
+        Shown(self.text).fmt(f)
+    }
+}
+
+/// A text for a report, of which only the front is shown where it is long.
+pub struct Shown<'text>(pub &'text [u8]);
+
+impl fmt::Display for Shown<'_> {
+    fn fmt(&self, f: &mut fmt::Formatter<'_>) -> fmt::Result {
+        const LONGEST_SHOWN: usize = 200;
+        let shown = self.0.get(..LONGEST_SHOWN).unwrap_or(self.0);
         write!(f, "`{}`", shown.escape_ascii())?;
-        if shown.len() < self.text.len() {
-            write!(f, " and so on, {} bytes", self.text.len())?;
+        if shown.len() < self.0.len() {
+            write!(f, " and so on, {} bytes", self.0.len())?;
         }
         Ok(())
     }

@@ -1,0 +1,75 @@
+//! What is right of the program `bodies`: document 01's rules of a line, and luck's answer for the body.
+
+use std::fmt;
+
+use crate::check_reference::Body;
+use crate::kind::Kind;
+
+/// The bytes that a line may have, its newline not counted.
+pub const LONGEST: usize = 4005;
+/// The largest count of captures that a line can name.
+pub const MOST_CAPTURES: usize = 32;
+
+/// What the program writes for a line.
+#[derive(Debug, Clone, Copy, PartialEq, Eq)]
+pub struct Row {
+    pub number: u32,
+    pub offset: usize,
+    pub count: usize,
+}
+
+impl fmt::Display for Row {
+    fn fmt(&self, f: &mut fmt::Formatter<'_>) -> fmt::Result {
+        write!(f, "{:>4}{:>7}{:>7}", self.number, self.offset, self.count)
+    }
+}
+
+/// The lines of an input, without their newlines. After the last newline no line follows but one that has bytes.
+pub fn lines(input: &[u8]) -> impl Iterator<Item = &[u8]> {
+    input.split_inclusive(|&byte| byte == b'\n').map(|line| line.strip_suffix(b"\n").unwrap_or(line))
+}
+
+/// All that the program writes.
+pub fn output(input: &[u8]) -> Vec<u8> {
+    lines(input).map(|line| format!("{}\n", row(line))).collect::<String>().into_bytes()
+}
+
+/// The refusals in their order: 31, 30, 25, then those of the body, 23 first.
+pub fn row(line: &[u8]) -> Row {
+    if line.len() > LONGEST {
+        return refused(31);
+    }
+    let Some(Question { kind, version, captures, body }) = question(line) else { return refused(30) };
+    let answer = Body::new(body).check(kind, version, captures);
+    Row { number: answer.number, offset: answer.offset, count: answer.count }
+}
+
+const fn refused(number: u32) -> Row {
+    Row { number, offset: 0, count: 0 }
+}
+
+struct Question<'line> {
+    kind: Kind,
+    /// Any digit.
+    version: u32,
+    captures: Option<usize>,
+    body: &'line [u8],
+}
+
+/// None where the line does not fit.
+fn question(line: &[u8]) -> Option<Question<'_>> {
+    let (&[letter, digit, tens, ones, space], body) = line.split_first_chunk()?;
+    let kind = Kind::of_letter(letter)?;
+    let version = char::from(digit).to_digit(10)?;
+    let captures = captures(kind, [tens, ones])?;
+    (space == b' ').then_some(Question { kind, version, captures, body })
+}
+
+/// Blanks say that the count is unknown; all else is how a replacement's count is written in two columns.
+fn captures(kind: Kind, columns: [u8; 2]) -> Option<Option<usize>> {
+    match kind {
+        _ if columns == *b"  " => Some(None),
+        Kind::Replacement => (0..=MOST_CAPTURES).find(|count| format!("{count:>2}").as_bytes() == columns).map(Some),
+        _ => None,
+    }
+}
