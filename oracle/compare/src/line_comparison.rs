@@ -47,9 +47,13 @@ impl<'program> LineComparison<'program> {
 
     fn stored(&mut self) -> io::Result<()> {
         self.section("the stored lines, and no line", |comparison| {
-            let (input, _) = store_lines::made()?;
-            comparison.in_one(&input)?;
-            comparison.in_pieces(&input)?;
+            match store_lines::input() {
+                Ok(input) => {
+                    comparison.in_one(&input)?;
+                    comparison.in_pieces(&input)?;
+                }
+                Err(difference) => comparison.differ(|| difference),
+            }
             comparison.in_one(b"")
         })
     }

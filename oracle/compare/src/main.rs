@@ -1,4 +1,4 @@
-//! Compares the proved library with luck's Rust in one process, and writes the stored answers.
+//! Compares the proved library with luck's Rust in one process, and the program `bodies` with the same; writes the stored answers.
 
 mod bodies;
 mod body_edges;
@@ -142,7 +142,14 @@ fn cannot_use(path: &Path, error: &io::Error) -> ExitCode {
 }
 
 fn store_lines(folder: &Path) -> ExitCode {
-    match store_lines::write(folder) {
+    let input = match store_lines::input() {
+        Ok(input) => input,
+        Err(difference) => {
+            eprintln!("nothing is written: {difference}");
+            return ExitCode::FAILURE;
+        }
+    };
+    match store_lines::write(folder, &input) {
         Ok((lines, bytes)) => {
             println!("{lines} lines, {bytes} bytes");
             ExitCode::SUCCESS

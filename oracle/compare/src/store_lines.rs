@@ -105,7 +105,7 @@ const REFUSED: [ByHand<'_>; 53] = [
 ];
 
 /// Lines that do not fit, and such beside them that do.
-const MISFITS: [ByHand<'_>; 62] = [
+const MISFITS: [ByHand<'_>; 63] = [
     (b"", 30, 0, 0),
     (b"F", 30, 0, 0),
     (b"F1", 30, 0, 0),
@@ -119,6 +119,7 @@ const MISFITS: [ByHand<'_>; 62] = [
     (b"X1   %d", 30, 0, 0),
     (b" F1   %d", 30, 0, 0),
     (b"\0F1   %d", 30, 0, 0),
+    (b"\x001   %d", 30, 0, 0),
     (b"\xEF\xBB\xBFF1   %d", 30, 0, 0),
     (b"F    %d", 30, 0, 0),
     (b"Fx   %d", 30, 0, 0),
@@ -176,7 +177,7 @@ const LAST: ByHand<'_> = (b"P1   (a)(", 11, 4, 0);
 /// Lines about the limit: a head, what its body is filled with, what it ends with, the line's length, and the row.
 type LongByHand = (&'static [u8; HEAD], u8, &'static [u8], usize, [usize; 3]);
 
-const LONG: [LongByHand; 17] = [
+const LONG: [LongByHand; 18] = [
     (b"F1   ", b'a', b"%d", 4004, [0, 0, 1]),
     (b"F1   ", b'a', b"%d", 4005, [0, 0, 1]),
     (b"F1   ", b'a', b"%d", 4006, [31, 0, 0]),
@@ -194,21 +195,22 @@ const LONG: [LongByHand; 17] = [
     (b"F700 ", b'a', b"", 4006, [31, 0, 0]),
     (b"X1   ", b'a', b"", 4005, [30, 0, 0]),
     (b"X1   ", b'a', b"\xFF", 4006, [31, 0, 0]),
+    (b"D2   ", b'a', b"%Q", 8200, [31, 0, 0]),
 ];
 
 /// Writes both files and answers how many lines and bytes they have.
-pub fn write(folder: &Path) -> io::Result<(usize, usize)> {
-    let (input, output) = made()?;
+pub fn write(folder: &Path, input: &[u8]) -> io::Result<(usize, usize)> {
+    let output = lines::output(input);
     fs::create_dir_all(folder)?;
-    fs::write(folder.join(INPUT_FILE), &input)?;
+    fs::write(folder.join(INPUT_FILE), input)?;
     fs::write(folder.join(OUTPUT_FILE), &output)?;
-    Ok((lines::lines(&input).count(), input.len() + output.len()))
+    Ok((lines::lines(input).count(), input.len() + output.len()))
 }
 
-/// The input and the output. Fails where the reference differs from a row that was written by hand.
-pub fn made() -> io::Result<(Vec<u8>, Vec<u8>)> {
+/// The stored lines, or where the reference differs from a row that was written by hand.
+pub fn input() -> Result<Vec<u8>, String> {
     if lines::output(EXAMPLE_INPUT) != EXAMPLE_OUTPUT {
-        return Err(io::Error::other("the reference does not give document 01's example"));
+        return Err("the reference does not give document 01's example".to_owned());
     }
     let mut input = EXAMPLE_INPUT.to_vec();
     for line in ACCEPTED.iter().chain(&REFUSED).chain(&MISFITS) {
@@ -221,8 +223,7 @@ pub fn made() -> io::Result<(Vec<u8>, Vec<u8>)> {
     }
     random_lines(&mut input);
     input.extend_from_slice(by_hand(LAST)?);
-    let output = lines::output(&input);
-    Ok((input, output))
+    Ok(input)
 }
 
 fn push_line(input: &mut Vec<u8>, line: &[u8]) {
@@ -231,12 +232,9 @@ fn push_line(input: &mut Vec<u8>, line: &[u8]) {
 }
 
 /// The line, where the reference has the row that was written by hand.
-fn by_hand((line, number, offset, count): ByHand<'_>) -> io::Result<&[u8]> {
+fn by_hand((line, number, offset, count): ByHand<'_>) -> Result<&[u8], String> {
     let [expected, row] = [Row { number, offset, count }, lines::row(line)];
-    if row == expected {
-        return Ok(line);
-    }
-    Err(io::Error::other(format!("{}: by hand `{expected}`, the reference `{row}`", Shown(line))))
+    if row == expected { Ok(line) } else { Err(format!("{}: by hand `{expected}`, the reference `{row}`", Shown(line))) }
 }
 
 /// Hostile bodies of each kind in each version, without newlines in them, a replacement's with every form of count.
