@@ -23,6 +23,7 @@ const RANDOM_LINES: usize = 10;
 /// Document 01's example, whole.
 const EXAMPLE_INPUT: &[u8] = b"F1   %d%s\nG4 1 %2\nP1   [^]\n";
 const EXAMPLE_OUTPUT: &[u8] = b"   0      0      2\n  21      1      0\n   9      0      0\n";
+const EXAMPLE: [ByHand<'_>; 3] = [(b"F1   %d%s", 0, 0, 2), (b"G4 1 %2", 21, 1, 0), (b"P1   [^]", 9, 0, 0)];
 
 /// A line, and the number, the offset and the count of its row.
 type ByHand<'line> = (&'line [u8], u32, usize, usize);
@@ -175,27 +176,27 @@ const MISFITS: [ByHand<'_>; 63] = [
 const LAST: ByHand<'_> = (b"P1   (a)(", 11, 4, 0);
 
 /// Lines about the limit: a head, what its body is filled with, what it ends with, the line's length, and the row.
-type LongByHand = (&'static [u8; HEAD], u8, &'static [u8], usize, [usize; 3]);
+type LongByHand = (&'static [u8; HEAD], u8, &'static [u8], usize, (u32, usize, usize));
 
 const LONG: [LongByHand; 18] = [
-    (b"F1   ", b'a', b"%d", 4004, [0, 0, 1]),
-    (b"F1   ", b'a', b"%d", 4005, [0, 0, 1]),
-    (b"F1   ", b'a', b"%d", 4006, [31, 0, 0]),
-    (b"F1   ", b'a', b"%d", 4007, [31, 0, 0]),
-    (b"F2   ", b'a', b"%", 4005, [1, 3999, 0]),
-    (b"P3   ", b'a', b"(", 4005, [11, 4000, 0]),
-    (b"P3   ", b'a', b"(", 4006, [31, 0, 0]),
-    (b"K3   ", b'b', b"", 4005, [0, 0, 4000]),
-    (b"S4   ", b'b', b"z", 4005, [18, 3999, 0]),
-    (b"G5 1 ", b'a', b"%1", 4005, [0, 0, 0]),
-    (b"D6   ", b'a', b"%Q", 4005, [22, 3999, 0]),
-    (b"F4   ", b'a', b"\xC3", 4005, [23, 3999, 0]),
-    (b"F1   ", b'a', b"\r", 4006, [31, 0, 0]),
-    (b"F7   ", b'a', b"", 4005, [25, 0, 0]),
-    (b"F700 ", b'a', b"", 4006, [31, 0, 0]),
-    (b"X1   ", b'a', b"", 4005, [30, 0, 0]),
-    (b"X1   ", b'a', b"\xFF", 4006, [31, 0, 0]),
-    (b"D2   ", b'a', b"%Q", 8200, [31, 0, 0]),
+    (b"F1   ", b'a', b"%d", 4004, (0, 0, 1)),
+    (b"F1   ", b'a', b"%d", 4005, (0, 0, 1)),
+    (b"F1   ", b'a', b"%d", 4006, (31, 0, 0)),
+    (b"F1   ", b'a', b"%d", 4007, (31, 0, 0)),
+    (b"F2   ", b'a', b"%", 4005, (1, 3999, 0)),
+    (b"P3   ", b'a', b"(", 4005, (11, 4000, 0)),
+    (b"P3   ", b'a', b"(", 4006, (31, 0, 0)),
+    (b"K3   ", b'b', b"", 4005, (0, 0, 4000)),
+    (b"S4   ", b'b', b"z", 4005, (18, 3999, 0)),
+    (b"G5 1 ", b'a', b"%1", 4005, (0, 0, 0)),
+    (b"D6   ", b'a', b"%Q", 4005, (22, 3999, 0)),
+    (b"F4   ", b'a', b"\xC3", 4005, (23, 3999, 0)),
+    (b"F1   ", b'a', b"\r", 4006, (31, 0, 0)),
+    (b"F7   ", b'a', b"", 4005, (25, 0, 0)),
+    (b"F700 ", b'a', b"", 4006, (31, 0, 0)),
+    (b"X1   ", b'a', b"", 4005, (30, 0, 0)),
+    (b"X1   ", b'a', b"\xFF", 4006, (31, 0, 0)),
+    (b"D2   ", b'a', b"%Q", 8200, (31, 0, 0)),
 ];
 
 /// Writes both files and answers how many lines and bytes they have.
@@ -207,48 +208,71 @@ pub fn write(folder: &Path, input: &[u8]) -> io::Result<(usize, usize)> {
     Ok((lines::lines(input).count(), input.len() + output.len()))
 }
 
-/// The stored lines, or where the reference differs from a row that was written by hand.
+/// A line, and its row where that was written by hand.
+struct Stored {
+    line: Vec<u8>,
+    row: Option<Row>,
+}
+
+impl Stored {
+    fn by_hand(&(line, number, offset, count): &ByHand<'_>) -> Self {
+        Self { line: line.to_vec(), row: Some(Row { number, offset, count }) }
+    }
+}
+
+/// The stored lines, or where the reference differs from what was written by hand.
 pub fn input() -> Result<Vec<u8>, String> {
     if lines::output(EXAMPLE_INPUT) != EXAMPLE_OUTPUT {
         return Err("the reference does not give document 01's example".to_owned());
     }
-    let mut input = EXAMPLE_INPUT.to_vec();
-    for line in ACCEPTED.iter().chain(&REFUSED).chain(&MISFITS) {
-        push_line(&mut input, by_hand(*line)?);
+    let by_hand = EXAMPLE.iter().chain(&ACCEPTED).chain(&REFUSED).chain(&MISFITS);
+    let mut stored: Vec<Stored> = by_hand.map(Stored::by_hand).collect();
+    stored.extend(LONG.iter().map(long_line));
+    stored.extend(random_lines());
+    stored.push(Stored::by_hand(&LAST));
+    checked(&stored)
+}
+
+fn long_line(&(head, filler, end, length, (number, offset, count)): &LongByHand) -> Stored {
+    let body = vec![filler; length - HEAD - end.len()];
+    let line = [head, body.as_slice(), end].concat();
+    Stored::by_hand(&(&line, number, offset, count))
+}
+
+/// All lines, the last without its newline, where the reference finds just these lines in them and has the rows written by hand.
+fn checked(stored: &[Stored]) -> Result<Vec<u8>, String> {
+    let all: Vec<&[u8]> = stored.iter().map(|stored| stored.line.as_slice()).collect();
+    let input = all.join(&b'\n');
+    let output = String::from_utf8(lines::output(&input)).expect("rows are digits and blanks");
+    let rows: Vec<&str> = output.lines().collect();
+    if rows.len() != stored.len() {
+        return Err(format!("{} lines are stored, and the reference finds {}", stored.len(), rows.len()));
     }
-    for &(head, filler, end, length, [number, offset, count]) in &LONG {
-        let body = vec![filler; length - HEAD - end.len()];
-        let line = [head, body.as_slice(), end].concat();
-        push_line(&mut input, by_hand((&line, number as u32, offset, count))?);
+    for (Stored { line, row }, found) in stored.iter().zip(rows) {
+        if let Some(row) = row
+            && row.to_string() != found
+        {
+            return Err(format!("{}: by hand `{row}`, the reference `{found}`", Shown(line)));
+        }
     }
-    random_lines(&mut input);
-    input.extend_from_slice(by_hand(LAST)?);
     Ok(input)
 }
 
-fn push_line(input: &mut Vec<u8>, line: &[u8]) {
-    input.extend_from_slice(line);
-    input.push(b'\n');
-}
-
-/// The line, where the reference has the row that was written by hand.
-fn by_hand((line, number, offset, count): ByHand<'_>) -> Result<&[u8], String> {
-    let [expected, row] = [Row { number, offset, count }, lines::row(line)];
-    if row == expected { Ok(line) } else { Err(format!("{}: by hand `{expected}`, the reference `{row}`", Shown(line))) }
-}
-
 /// Hostile bodies of each kind in each version, without newlines in them, a replacement's with every form of count.
-fn random_lines(input: &mut Vec<u8>) {
+fn random_lines() -> Vec<Stored> {
     const COLUMNS: [&str; 8] = ["  ", " 0", " 1", " 2", " 8", " 9", "10", "32"];
     let mut random = Random::new(SEED);
+    let mut stored = Vec::new();
     for kind in Kind::ALL {
         for version in b'1'..=b'6' {
             for _ in 0..RANDOM_LINES {
                 let columns = if kind == Kind::Replacement { random.pick(&COLUMNS) } else { COLUMNS[0] };
                 let mut body = store_texts::hostile(&mut random, kind);
                 line_texts::newlines_to_returns(&mut body);
-                push_line(input, &[&[kind.letter(), version], columns.as_bytes(), b" ", &body].concat());
+                let line = [&[kind.letter(), version], columns.as_bytes(), b" ", &body].concat();
+                stored.push(Stored { line, row: None });
             }
         }
     }
+    stored
 }
