@@ -35,6 +35,7 @@ impl<'program> LineComparison<'program> {
         comparison.stored()?;
         comparison.heads()?;
         comparison.random_lines(seed, count)?;
+        comparison.empty_lines()?;
         comparison.endings()?;
         comparison.single_bytes(seed)?;
         comparison.cuts()?;
@@ -79,10 +80,26 @@ impl<'program> LineComparison<'program> {
         })
     }
 
+    /// A row is longer than an empty line: these give the most rows for what is read.
+    fn empty_lines(&mut self) -> io::Result<()> {
+        self.section("empty lines", |comparison| {
+            let input = vec![b'\n'; 300_000];
+            comparison.in_one(&input)?;
+            comparison.in_pieces(&input)
+        })
+    }
+
     /// Each last line with its newline and without, as the only line and after others.
     fn endings(&mut self) -> io::Result<()> {
         self.section("last lines with and without a newline", |comparison| {
-            let before = [vec![], b"\n".to_vec(), b"F1   %d\n".to_vec(), line_of(LONGEST + 1, b"\n"), vec![b'\n'; 5000]];
+            let before = [
+                vec![],
+                b"\n".to_vec(),
+                b"F1   %d\n".to_vec(),
+                line_of(LONGEST + 1, b"\n"),
+                line_of(200_000, b"\n"),
+                vec![b'\n'; 5000],
+            ];
             for before in &before {
                 for last in last_lines() {
                     comparison.in_pieces(&[before.as_slice(), &last].concat())?;
