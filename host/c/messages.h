@@ -1,0 +1,261 @@
+/*
+ * The sentences of the command `luck` (luck.c): for each refusal what is wrong and what to write instead, after docs/REFUSALS.md; and the help.
+ *
+ * In a sentence, these stand for parts of what was asked and answered (put_sentence writes them):
+ *
+ *     $c  the character at the fault        $v  the version's name            $r  the room of the output
+ *     $2  the conversion of refusal 6       $n  the pattern's captures        $b  the budget of steps
+ *     $k  the kind
+ */
+#ifndef LUCK_MESSAGES_H
+#define LUCK_MESSAGES_H
+
+#include "luck.h"
+
+enum {
+    LUCK_BAD_LINE = LUCK_UNKNOWN_KIND, /* the number 30, in a line: the head does not fit */
+    LUCK_LONG_LINE = 31
+};
+
+/* Kinds of questions beside the letters F P K S G D of the checks. */
+enum { TO_DECODE = 'd', TO_TRY = 't', A_LINE = 'l' };
+
+/* What was asked: all that a sentence may speak of. `text` is the text in which the answer's offset counts. */
+typedef struct {
+    uint8_t kind;
+    uint32_t version;
+    bool known; /* whether `captures` is known */
+    size_t captures;
+    size_t room;
+    uint32_t budget;
+    const uint8_t *text;
+    size_t len;
+} question;
+
+typedef struct {
+    const char *fault;
+    const char *advice;
+} message;
+
+/* By number. Where one number has several sentences, message_of has the others. */
+static const message messages[] = {
+    {"accepted", ""},
+    /* formats */
+    {"truncated specifier: the text ends before its conversion", "write `%%` for a percent sign, or the whole specifier, as in `%5.1f`"},
+    {"unknown specifier `%$c`: no conversion of $v", ""},
+    {"too many flags: `$c` is the sixth of its specifier, and $v takes five", "write each of the flags `-`, `+`, space, `#` and `0` at most once"},
+    {"width too long: $v takes two digits", "write a width up to 99"},
+    {"precision too long: $v takes two digits", "write a precision up to 99"},
+    {"bad modifier: `%$2` of $v can't take `$c` here", ""},
+    {"specifier too long: 21 or more flags, digits and dots", "write each flag once, and a width and a precision up to 99"},
+    /* patterns */
+    {"unterminated set: no `]` closes it", "write the `]`, as in `[a]`; write `%[` for the character `[`"},
+    {"empty set: a `]` in the first place is a member, and no other closes the set", "write `[]]` for a set of `]` alone; write `%[` for the character `[`"},
+    {"bad escape `%f`: no set follows it", "write a set after it, as in `%f[%w]`"},
+    {"unmatched capture: a `)` without its `(`", "write its `(` before it; write `%)` for the character `)`"},
+    {"too many captures: this is the 33rd", "write at most 32"},
+    {"back reference names no closed capture: `%$c`", "write `%1` to `%9` only after the `)` of that capture"},
+    /* pack formats */
+    {"invalid pack option `$c`", "write one of `b B h H i I l L j J T f d n s z c x X ! < > =` or a space"},
+    {"truncated pack size: no size follows `c`", "write a size, as in `c8`"},
+    {"integer size out of limits: it is not 1 to 16", "write a size from 1 to 16, as in `i4`"},
+    {"alignment is not a power of 2", "write a size of 1, 2, 4, 8 or 16 here and after `!`, or no `!`"},
+    {"variable-length option `$c`: packsize can't know its size", "write `c` with a size, as in `c8`"},
+    /* replacements and dates */
+    {"ends with a lone `%`", "write `%%` for a percent sign"},
+    {"unexpected character after `%`: `$c` is neither a digit nor `%`", "write `%%` for a percent sign, or `%0` to `%9` for the match and its captures"},
+    {"capture index `%$c` is higher than the pattern's capture count, $n", ""},
+    {"unexpected character after `%`: `%$c` is no date specifier of $v", ""},
+    /* any text */
+    {"not UTF-8: `$c` and the bytes after it make no character", "save the text as UTF-8; in a literal, spell a byte by its number, as in `\\255`"},
+    {"undecodable: no string literal, or an escape that is malformed or not of $v", "write it in two equal quotes or in long brackets, and `\\\\` for a backslash"},
+    {"unknown version: $v is none of 1 to 6", "write 5.1 to 5.5, luau, or a number: 1 to 5 for Lua 5.1 to 5.5, 6 for Luau"},
+    {"output too short: the value is longer than $r bytes", "write a larger --room: the literal's own length is always enough"},
+    /* trials */
+    {"steps spent: one more than the budget of $b was due", "write a larger --budget, or a pattern that tries less"},
+    {"too deep: the 201st level of the matching; real Lua raises \"pattern too complex\"", "write fewer items in one pattern"},
+    {"raised", ""}, /* by its kind: raises */
+    {"unknown kind `$k`: none of F P K S G D", "write format, pattern, pack, packsize, replacement or date, or its letter"},
+    {"line too long: more than 4,005 bytes", "write a body of at most 4,000 bytes after the head of five"}};
+
+/* The kinds of refusal 29, from 1, in the words of lstrlib.c, without the index that it names for 7 and 10. */
+static const char *const raises[] = {"",
+                                     "malformed pattern (ends with '%')",
+                                     "malformed pattern (missing ']')",
+                                     "missing '[' after '%f' in pattern",
+                                     "malformed pattern (missing arguments to '%b')",
+                                     "invalid pattern capture",
+                                     "unfinished capture",
+                                     "invalid capture index in pattern",
+                                     "too many captures",
+                                     "invalid use of '%' in replacement string",
+                                     "invalid capture index in replacement string"};
+
+enum { LAST_PATTERN_RAISE = 8 }; /* those after it are the replacement's */
+
+/* Refusal 2: the conversions of a version. */
+static const char *conversions_of(uint32_t version)
+{
+    switch (version) {
+    case 1:
+        return "write one of `c d i o u x X e E f g G q s`, or `%%` for a percent sign";
+    case 4:
+    case 5:
+        return "write one of `c d i o u x X e E f g G q s a A p`, or `%%` for a percent sign";
+    case 6:
+        return "write one of `c d i o u x X e E f g G q s`, `*` right after its `%`, or `%%` for a percent sign";
+    default:
+        return "write one of `c d i o u x X e E f g G q s a A`, or `%%` for a percent sign";
+    }
+}
+
+/* Refusal 6: what a conversion of 5.4 and 5.5 takes. */
+static const char *modifiers_of(uint32_t conversion)
+{
+    switch (conversion) {
+    case 'q':
+        return "write `%q` alone: it takes no modifiers";
+    case 'c':
+    case 'p':
+        return "leave it out: `%$2` takes `-`, then a width up to 99";
+    case 's':
+        return "leave it out: `%s` takes `-`, then a width and a precision up to 99";
+    case 'd':
+    case 'i':
+        return "leave it out: `%$2` takes `-`, `+`, `0` and space, then a width and a precision up to 99";
+    case 'u':
+        return "leave it out: `%u` takes `-` and `0`, then a width and a precision up to 99";
+    case 'o':
+    case 'x':
+    case 'X':
+        return "leave it out: `%$2` takes `-`, `#` and `0`, then a width and a precision up to 99";
+    default:
+        return "leave it out: `%$2` takes `-`, `+`, `#`, `0` and space, then a width and a precision up to 99";
+    }
+}
+
+/* Refusal 14: a digit, an option that stands after `X` and has no alignment (elsewhere it is taken), or no option at all. */
+static message of_pack_option(uint32_t character)
+{
+    static const message size = {"invalid pack option `$c`: a number where no size is taken", "write a size only right after `i`, `I`, `s`, `c` or `!`"};
+    static const message next = {"invalid pack option `$c`: `X` can't align to it", "write an option with a size, or `x`, after `X`, as in `Xi4`"};
+    if (character >= '0' && character <= '9')
+        return size;
+    switch (character) {
+    case 'z':
+    case 'c':
+    case 'X':
+    case '!':
+    case ' ':
+    case '<':
+    case '>':
+    case '=':
+        return next;
+    default:
+        return messages[LUCK_INVALID_PACK_OPTION];
+    }
+}
+
+/* The sentence of a refusal. */
+static message message_of(const question *asked, const luck_answer *refused)
+{
+    message found = messages[refused->number];
+    switch (refused->number) {
+    case LUCK_TRUNCATED_SPECIFIER:
+        if (asked->kind == 'P') {
+            found.fault = "truncated specifier: the pattern ends after `%`, or inside `%b`";
+            found.advice = "write `%%` for a percent sign; write both characters of `%b`, as in `%b()`";
+        }
+        break;
+    case LUCK_UNKNOWN_SPECIFIER:
+        found.advice = conversions_of(asked->version);
+        break;
+    case LUCK_BAD_MODIFIER:
+        found.advice = modifiers_of(refused->second);
+        break;
+    case LUCK_UNMATCHED_CAPTURE:
+        if (refused->offset == asked->len) {
+            found.fault = "unmatched capture: a `(` is never closed";
+            found.advice = "write a `)` for each `(`; write `%(` for the character `(`";
+        }
+        break;
+    case LUCK_INVALID_PACK_OPTION:
+        return of_pack_option(refused->first);
+    case LUCK_TRUNCATED_PACK_SIZE:
+        if (refused->offset > 0 && asked->text[refused->offset - 1] == 'X') {
+            found.fault = "truncated pack size: no option follows `X`";
+            found.advice = "write an option with a size, or `x`, after `X`, as in `Xi4`";
+        }
+        break;
+    case LUCK_CAPTURE_INDEX:
+        found.advice = asked->captures == 0   ? "write `%0` or `%1`: both are the match"
+                       : asked->captures == 1 ? "write `%1`, or `%0` for the match"
+                                              : "write `%1` to `%$n`, or `%0` for the match";
+        break;
+    case LUCK_BAD_DATE_SPECIFIER:
+        found.advice = asked->version == 6 ? "write one of `aAbBcdHIjmMpSUwWxXyYzZ%` after the `%`"
+                                           : "write one of `aAbBcCdDeFgGhHIjmMnprRStTuUVwWxXyYzZ%` after the `%`, or"
+                                             " `%E` before one of `cCxXyY`, or `%O` before one of `deHImMSuUVwWy`";
+        break;
+    case LUCK_OUTPUT_TOO_SHORT:
+        if (asked->kind == TO_TRY) {
+            found.fault = "output full: one more than its $r bytes was due";
+            found.advice = "write a larger --room";
+        }
+        break;
+    case LUCK_UNKNOWN_VERSION:
+        if (asked->kind == A_LINE)
+            found.advice = "write a digit: 1 to 5 for Lua 5.1 to 5.5, 6 for Luau";
+        break;
+    default:
+        break;
+    }
+    return found;
+}
+
+static const char *const head_advice = "write the kind (F P K S G D), the version digit, two columns of captures (only for G), a space, then the body";
+
+static const char *const usage_text =
+    "usage: luck check KIND VERSION TEXT [CAPTURES]\n"
+    "       luck literal KIND VERSION TEXT [CAPTURES]\n"
+    "       luck decode VERSION TEXT [--room N]\n"
+    "       luck trial VERSION PATTERN REPLACEMENT [--budget N] [--room N]\n"
+    "       luck lines [FILE]\n"
+    "       luck --help | --version\n";
+
+/* In parts, since C99 promises no string of more than 4,095 bytes. */
+static const char *const help_text[] = {
+    "\n"
+    "Checks of Lua string literals, their decoding, and a trial of gsub, for Lua 5.1 to 5.5 and Luau.\n"
+    "\n"
+    "  check    a body: a literal's text between its quotes, its escapes as they are written\n"
+    "  literal  a literal with its quotes; skipped if it is no short string, or has an escape by number\n"
+    "           (`\\0` to `\\9`, `\\x`, `\\u`)\n"
+    "  decode   writes the bytes that a literal stands for, and nothing else, to standard output\n"
+    "  trial    string.gsub of the subject, which is read from standard input; the result goes to standard output,\n"
+    "           replacements, steps and how it ended to standard error\n"
+    "  lines    a file of bodies, one a line (standard input without FILE, or for -): kind letter, version digit,\n"
+    "           two columns of captures (0 to 32, set right, only for G; blank: unknown), a space, the body.\n"
+    "           Each refused line is explained. A line is at most 4,005 bytes; its newline is not counted.\n"
+    "\n"
+    "  KIND     format, pattern, pack, packsize, replacement or date, or its letter: F P K S G D\n"
+    "  VERSION  5.1, 5.2, 5.3, 5.4, 5.5 or luau, or its number: 1 to 6\n"
+    "  TEXT     - reads standard input to its end. All its bytes are the text, a last newline too:\n"
+    "           printf %s TEXT gives exactly TEXT, echo adds a newline.\n"
+    "  CAPTURES the captures of the pattern, for a replacement only; without it they are unknown\n"
+    "  N        a number in digits. --budget: the steps that a trial may take, at most 4294967295, by default 10000000.\n"
+    "           --room: the bytes of the output, by default 16777216 (16 MiB). Neither is raised by itself.\n"
+    "\n",
+    "Words are taken as they stand in their places: a TEXT may begin with `-`, as in `luck check format 5.1 -5d`, and\n"
+    "needs no `--` before it. The text - itself goes through standard input. --help and --version are options only\n"
+    "in the first place, --budget and --room only after the texts.\n"
+    "\n"
+    "The answers of check, literal and lines go to standard output, the refused ones too; those of decode and trial\n"
+    "to standard error. A refusal shows the text with a caret under the first column of the character at fault, its\n"
+    "number and its offset, in bytes from 0 (docs/REFUSALS.md lists them). Bytes that are not UTF-8, control\n"
+    "characters and those without a column of their own are shown as `\\n`, `\\x1B`, `\\u{202E}`.\n"
+    "\n"
+    "Exit status: 0 accepted, skipped, decoded or done; 1 refused or raised, also a trial that spent its steps, filled\n"
+    "its output or went too deep, and lines of which one is refused; 2 wrong usage, or a read or write that failed.\n"};
+
+#endif

@@ -1,0 +1,167 @@
+/*
+ * Texts on a screen, for the command `luck` (luck.c): any bytes are shown without harm, and a caret stands under the byte at fault.
+ */
+#ifndef LUCK_SHOW_H
+#define LUCK_SHOW_H
+
+#include <stdbool.h>
+#include <stddef.h>
+#include <stdint.h>
+#include <stdio.h>
+#include <string.h>
+
+enum {
+    SCREEN = 72, /* the columns of a text that is shown; of a longer one PART are, with dots */
+    DOTS = 3,
+    PART = SCREEN - 2 * DOTS,
+    LONGEST_SHOWN = 16 /* `\u{10FFFF}` and a zero byte fit */
+};
+
+static const size_t nowhere = SIZE_MAX; /* the place of a refusal that has none */
+
+/* Code points that take no column of their own, or turn the order of the text, have 0 columns and are shown by their number; wide ones
+ * have 2. All others count 1: the tables of real terminals differ, and these are the blocks on which they agree. */
+static const struct {
+    uint32_t first;
+    uint32_t last;
+    unsigned columns;
+} blocks[] = {{0x80, 0x9F, 0},     {0xAD, 0xAD, 0},     {0x300, 0x36F, 0},     {0x61C, 0x61C, 0},     {0x1100, 0x115F, 2},   {0x200B, 0x200F, 0},
+              {0x2028, 0x202E, 0}, {0x2060, 0x206F, 0}, {0x2E80, 0x303E, 2},   {0x3041, 0xA4CF, 2},   {0xAC00, 0xD7A3, 2},   {0xF900, 0xFAFF, 2},
+              {0xFE00, 0xFE0F, 0}, {0xFE30, 0xFE6F, 2}, {0xFEFF, 0xFEFF, 0},   {0xFF00, 0xFF60, 2},   {0xFFE0, 0xFFE6, 2},   {0xFFF9, 0xFFFB, 0},
+              {0x1F300, 0x1F64F, 2}, {0x1F680, 0x1F6FF, 2}, {0x1F900, 0x1F9FF, 2}, {0x20000, 0x3FFFD, 2}, {0xE0000, 0xE0FFF, 0}};
+
+static unsigned columns_of(uint32_t code)
+{
+    for (size_t i = 0; i < sizeof blocks / sizeof blocks[0]; i++)
+        if (code >= blocks[i].first && code <= blocks[i].last)
+            return blocks[i].columns;
+    return 1;
+}
+
+/* The width in bytes of the UTF-8 character (RFC 3629) at the front of a text that is not empty; 0 where there is none. */
+static size_t utf8_at(const uint8_t *text, size_t len, uint32_t *code)
+{
+    static const uint32_t lowest[] = {0, 0, 0x80, 0x800, 0x10000};
+    uint8_t lead = text[0];
+    size_t width = lead < 0x80 ? 1 : lead >> 5 == 0x06 ? 2 : lead >> 4 == 0x0E ? 3 : lead >> 3 == 0x1E ? 4 : 0;
+    if (width == 0 || width > len)
+        return 0;
+    uint32_t value = width == 1 ? lead : lead & (0x7Fu >> width);
+    for (size_t i = 1; i < width; i++) {
+        if ((text[i] & 0xC0) != 0x80)
+            return 0;
+        value = value << 6 | (text[i] & 0x3Fu);
+    }
+    if (value < lowest[width] || value > 0x10FFFF || (value >= 0xD800 && value <= 0xDFFF))
+        return 0;
+    *code = value;
+    return width;
+}
+
+/* How the front of a text is shown. */
+typedef struct {
+    size_t taken; /* the bytes of the text */
+    size_t columns;
+    char shown[LONGEST_SHOWN];
+} character;
+
+/* A backslash of the text is shown as it is, so that a literal looks like its source: `\n` can be a newline or two characters. */
+static character character_at(const uint8_t *text, size_t len)
+{
+    character found;
+    uint32_t code = 0;
+    found.taken = utf8_at(text, len, &code);
+    if (found.taken == 0) {
+        found.taken = 1;
+        snprintf(found.shown, sizeof found.shown, "\\x%02X", (unsigned)text[0]);
+    } else if (code == '\n' || code == '\r' || code == '\t') {
+        snprintf(found.shown, sizeof found.shown, "\\%c", code == '\n' ? 'n' : code == '\r' ? 'r' : 't');
+    } else if (code < 0x20 || code == 0x7F) {
+        snprintf(found.shown, sizeof found.shown, "\\x%02X", (unsigned)code);
+    } else if (columns_of(code) == 0) {
+        snprintf(found.shown, sizeof found.shown, "\\u{%X}", (unsigned)code);
+    } else {
+        memcpy(found.shown, text, found.taken);
+        found.shown[found.taken] = '\0';
+        found.columns = columns_of(code);
+        return found;
+    }
+    found.columns = strlen(found.shown);
+    return found;
+}
+
+static void put_text(FILE *out, const uint8_t *text, size_t len)
+{
+    for (size_t at = 0; at < len;) {
+        character next = character_at(text + at, len - at);
+        fputs(next.shown, out);
+        at += next.taken;
+    }
+}
+
+static void put_word(FILE *out, const char *word)
+{
+    put_text(out, (const uint8_t *)word, strlen(word));
+}
+
+/* The columns of the text, and of the characters before the one that holds the byte at `place`. */
+static size_t columns_before(const uint8_t *text, size_t len, size_t place, size_t *all)
+{
+    size_t before = 0;
+    *all = 0;
+    for (size_t at = 0; at < len;) {
+        character next = character_at(text + at, len - at);
+        at += next.taken;
+        *all += next.columns;
+        if (at <= place)
+            before += next.columns;
+    }
+    return before;
+}
+
+/* A row of the text, and under it a row with a caret; `place` may be the text's end, or nowhere. Of a text longer than SCREEN
+ * columns a part is shown that has the place in it. */
+static void put_place(FILE *out, const uint8_t *text, size_t len, size_t place)
+{
+    if (len == 0 && place == nowhere)
+        return;
+    size_t all = 0;
+    size_t before = columns_before(text, len, place, &all);
+    size_t from = 0;
+    size_t column = 0; /* of the text, where the next character begins */
+    size_t at = 0;
+    if (all > SCREEN && place != nowhere) {
+        from = before > PART / 2 ? before - PART / 2 : 0;
+        if (all - from < PART)
+            from = all - PART;
+    }
+    fputs("  ", out);
+    while (at < len && column < from) {
+        character next = character_at(text + at, len - at);
+        at += next.taken;
+        column += next.columns;
+    }
+    if (at > 0)
+        fputs("...", out);
+    size_t caret = before - column + (at > 0 ? DOTS : 0);
+    size_t until = all > SCREEN ? from + PART : all;
+    while (at < len) {
+        character next = character_at(text + at, len - at);
+        if (column + next.columns > until) {
+            fputs("...", out);
+            break;
+        }
+        fputs(next.shown, out);
+        at += next.taken;
+        column += next.columns;
+    }
+    fputs("\n", out);
+    if (place == nowhere)
+        return;
+    fputs("  ", out);
+    for (size_t i = 0; i < caret; i++)
+        fputc(' ', out);
+    fputs("^\n", out);
+}
+
+#endif
