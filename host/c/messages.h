@@ -50,7 +50,7 @@ static const message messages[] = {
     {"specifier too long: 21 or more flags, digits and dots", "write each flag once, and a width and a precision up to 99"},
     /* patterns */
     {"unterminated set: no `]` closes it", "write the `]`, as in `[a]`; write `%[` for the character `[`"},
-    {"empty set: a `]` in the first place is a member, and no other closes the set", "write `[]]` for a set of `]` alone; write `%[` for the character `[`"},
+    {"empty set: a `]` in the first place is a member, and no other closes the set", "write `[]]` for a set of `]` alone, `[^]]` for all but it; write `%[` for the character `[`"},
     {"bad escape `%f`: no set follows it", "write a set after it, as in `%f[%w]`"},
     {"unmatched capture: a `)` without its `(`", "write its `(` before it; write `%)` for the character `)`"},
     {"too many captures: this is the 33rd", "write at most 32"},
@@ -70,9 +70,9 @@ static const message messages[] = {
     {"not UTF-8: `$c` and the bytes after it make no character", "save the text as UTF-8; in a literal, spell a byte by its number, as in `\\255`"},
     {"undecodable: no string literal, or an escape that is malformed or not of $v", "write it in two equal quotes or in long brackets, and `\\\\` for a backslash"},
     {"unknown version: $v is none of 1 to 6", "write 5.1 to 5.5, luau, or a number: 1 to 5 for Lua 5.1 to 5.5, 6 for Luau"},
-    {"output too short: the value is longer than $r bytes", "write a larger --room: the literal's own length is always enough"},
+    {"output too short: the value is longer than the room of $r", "write a larger --room: the literal's own length is always enough"},
     /* trials */
-    {"steps spent: one more than the budget of $b was due", "write a larger --budget, or a pattern that tries less"},
+    {"steps spent: one step more than the budget of $b was due", "write a larger --budget, or a pattern that tries less"},
     {"too deep: the 201st level of the matching; real Lua raises \"pattern too complex\"", "write fewer items in one pattern"},
     {"raised", ""}, /* by its kind: raises */
     {"unknown kind `$k`: none of F P K S G D", "write format, pattern, pack, packsize, replacement or date, or its letter"},
@@ -103,7 +103,7 @@ static const char *conversions_of(uint32_t version)
     case 5:
         return "write one of `c d i o u x X e E f g G q s a A p`, or `%%` for a percent sign";
     case 6:
-        return "write one of `c d i o u x X e E f g G q s`, `*` right after its `%`, or `%%` for a percent sign";
+        return "write one of `c d i o u x X e E f g G q s *`, or `%%` for a percent sign";
     default:
         return "write one of `c d i o u x X e E f g G q s a A`, or `%%` for a percent sign";
     }
@@ -159,15 +159,18 @@ static message of_pack_option(uint32_t character)
 /* The sentence of a refusal. */
 static message message_of(const question *asked, const luck_answer *refused)
 {
+    static const message cut_escape = {"truncated specifier: the pattern ends after `%`", "write `%%` for a percent sign"};
+    static const message cut_balance = {"truncated specifier: the pattern ends inside `%b`", "write two characters after `%b`, as in `%b()`"};
+    static const message late_star = {"unknown specifier `%*`: $v takes `*` only right after its `%`", "write `%*` without flags, width and precision"};
     message found = messages[refused->number];
     switch (refused->number) {
     case LUCK_TRUNCATED_SPECIFIER:
-        if (asked->kind == 'P') {
-            found.fault = "truncated specifier: the pattern ends after `%`, or inside `%b`";
-            found.advice = "write `%%` for a percent sign; write both characters of `%b`, as in `%b()`";
-        }
+        if (asked->kind == 'P')
+            return refused->offset + 1 == asked->len ? cut_escape : cut_balance;
         break;
     case LUCK_UNKNOWN_SPECIFIER:
+        if (asked->version == 6 && refused->first == '*')
+            return late_star;
         found.advice = conversions_of(asked->version);
         break;
     case LUCK_BAD_MODIFIER:
@@ -193,13 +196,15 @@ static message message_of(const question *asked, const luck_answer *refused)
                                               : "write `%1` to `%$n`, or `%0` for the match";
         break;
     case LUCK_BAD_DATE_SPECIFIER:
+        if (asked->version != 6 && (asked->text[refused->offset] == 'E' || asked->text[refused->offset] == 'O'))
+            found.fault = "unexpected character after `%$c`: no date specifier of $v";
         found.advice = asked->version == 6 ? "write one of `aAbBcdHIjmMpSUwWxXyYzZ%` after the `%`"
                                            : "write one of `aAbBcCdDeFgGhHIjmMnprRStTuUVwWxXyYzZ%` after the `%`, or"
                                              " `%E` before one of `cCxXyY`, or `%O` before one of `deHImMSuUVwWy`";
         break;
     case LUCK_OUTPUT_TOO_SHORT:
         if (asked->kind == TO_TRY) {
-            found.fault = "output full: one more than its $r bytes was due";
+            found.fault = "output full: one byte more than the room of $r was due";
             found.advice = "write a larger --room";
         }
         break;
