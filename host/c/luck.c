@@ -1,5 +1,6 @@
 /*
- * luck: the checks of include/luck.h for people. `luck --help` says how it is called. The sentences stand in messages.h, how a text is shown in show.h.
+ * luck: the checks of include/luck.h for people. `luck --help` says how it is called. The sentences stand in messages.h, how a text is
+ * shown in show.h.
  *
  *     cc -std=c99 -Wall -Wextra -Werror -Iinclude host/c/luck.c target/staticlib/libluck.a -o luck
  *
@@ -339,8 +340,8 @@ static void put_literal_refusal(const question *asked, const luck_literal *found
     message said = message_of(&body, &refused);
     fputs("refused: ", stdout);
     put_sentence(stdout, said.fault, &body, &refused);
-    fprintf(stdout, " (refusal %lu, offset %zu, span %lu to %lu)\n", (unsigned long)found->number, found->offset, (unsigned long)found->start,
-            (unsigned long)found->end);
+    fprintf(stdout, " (refusal %lu, offset %zu, ", (unsigned long)found->number, found->offset);
+    fprintf(stdout, "span %lu to %lu)\n", (unsigned long)found->start, (unsigned long)found->end);
     put_place(stdout, asked->text, asked->len, found->offset + 1);
     put_advice(stdout, said.advice, &body, &refused);
 }
@@ -403,7 +404,6 @@ static int run_decode(int count, char **words)
 {
     question asked = nothing_asked();
     uint8_t *kept = NULL;
-    asked.kind = TO_DECODE;
     if (count < 2)
         return wrong_usage("VERSION and TEXT are needed", NULL);
     if (!read_version(words[0], &asked.version))
@@ -446,8 +446,8 @@ static int try_gsub(const question *asked, const char *pattern, const char *repl
     uint8_t *output = output_of(asked->room);
     if (output == NULL)
         return trouble("no memory for", "the output");
-    luck_trial found = luck_gsub_trial(asked->version, (const uint8_t *)pattern, strlen(pattern), (const uint8_t *)replacement, strlen(replacement),
-                                       asked->text, asked->len, asked->budget, output, asked->room);
+    luck_trial found = luck_gsub_trial(asked->version, (const uint8_t *)pattern, strlen(pattern), (const uint8_t *)replacement,
+                                       strlen(replacement), asked->text, asked->len, asked->budget, output, asked->room);
     fwrite(output, 1, found.written, stdout);
     fflush(stdout);
     put_trial(asked, &found);
@@ -523,13 +523,13 @@ static bool judge_line(unsigned long long number, const uint8_t *line, size_t le
 {
     if (len > LONGEST) {
         fprintf(stdout, "line %llu: ", number);
-        put_bad_line(line, LONGEST, LUCK_LONG_LINE, messages[LUCK_LONG_LINE].fault, messages[LUCK_LONG_LINE].advice);
+        put_bad_line(line, LONGEST, LONG_LINE, messages[LONG_LINE].fault, messages[LONG_LINE].advice);
         return false;
     }
     const char *misfit = misfit_of(line, len);
     if (misfit != NULL) {
         fprintf(stdout, "line %llu: ", number);
-        put_bad_line(line, len, LUCK_BAD_LINE, misfit, head_advice);
+        put_bad_line(line, len, BAD_LINE, misfit, head_advice);
         return false;
     }
     question asked = line_question(line, len);

@@ -1,5 +1,6 @@
 /*
- * The sentences of the command `luck` (luck.c): for each refusal what is wrong and what to write instead, after docs/REFUSALS.md; and the help.
+ * The sentences of the command `luck` (luck.c): for each refusal what is wrong and what to write instead, after docs/REFUSALS.md;
+ * and the help.
  *
  * In a sentence, these stand for parts of what was asked and answered (put_sentence writes them):
  *
@@ -12,13 +13,11 @@
 
 #include "luck.h"
 
-enum {
-    LUCK_BAD_LINE = LUCK_UNKNOWN_KIND, /* the number 30, in a line: the head does not fit */
-    LUCK_LONG_LINE = 31
-};
+/* Refusals of a line, which the library does not read: its head does not fit; it is too long. */
+enum { BAD_LINE = 30, LONG_LINE = 31 };
 
-/* Kinds of questions beside the letters F P K S G D of the checks. */
-enum { TO_DECODE = 'd', TO_TRY = 't', A_LINE = 'l' };
+/* Kinds of questions beside the letters F P K S G D of the checks: a trial, and a line's version. */
+enum { TO_TRY = 't', A_LINE = 'l' };
 
 /* What was asked: all that a sentence may speak of. `text` is the text in which the answer's offset counts. */
 typedef struct {
@@ -39,44 +38,70 @@ typedef struct {
 
 /* By number. Where one number has several sentences, message_of has the others. */
 static const message messages[] = {
-    {"accepted", ""},
+    /* 0 */ {"accepted", ""},
     /* formats */
-    {"truncated specifier: the text ends before its conversion", "write `%%` for a percent sign, or the whole specifier, as in `%5.1f`"},
-    {"unknown specifier `%$c`: no conversion of $v", ""},
-    {"too many flags: `$c` is the sixth of its specifier, and $v takes five", "write each of the flags `-`, `+`, space, `#` and `0` at most once"},
-    {"width too long: $v takes two digits", "write a width up to 99"},
-    {"precision too long: $v takes two digits", "write a precision up to 99"},
-    {"bad modifier: `%$2` of $v can't take `$c` here", ""},
-    {"specifier too long: 21 or more flags, digits and dots", "write each flag once, and a width and a precision up to 99"},
+    /* 1 */ {"truncated specifier: the text ends before its conversion",
+     "write `%%` for a percent sign, or the whole specifier, as in `%5.1f`"},
+    /* 2 */ {"unknown specifier `%$c`: no conversion of $v", ""},
+    /* 3 */ {"too many flags: `$c` is the sixth of its specifier, and $v takes five",
+     "write each of the flags `-`, `+`, space, `#` and `0` at most once"},
+    /* 4 */ {"width too long: $v takes two digits",
+     "write a width up to 99"},
+    /* 5 */ {"precision too long: $v takes two digits",
+     "write a precision up to 99"},
+    /* 6 */ {"bad modifier: `%$2` of $v can't take `$c` here", ""},
+    /* 7 */ {"specifier too long: 21 or more flags, digits and dots",
+     "write each flag once, and a width and a precision up to 99"},
     /* patterns */
-    {"unterminated set: no `]` closes it", "write the `]`, as in `[a]`; write `%[` for the character `[`"},
-    {"empty set: a `]` in the first place is a member, and no other closes the set", "write `[]]` for a set of `]` alone, `[^]]` for all but it; write `%[` for the character `[`"},
-    {"bad escape `%f`: no set follows it", "write a set after it, as in `%f[%w]`"},
-    {"unmatched capture: a `)` without its `(`", "write its `(` before it; write `%)` for the character `)`"},
-    {"too many captures: this is the 33rd", "write at most 32"},
-    {"back reference names no closed capture: `%$c`", "write `%1` to `%9` only after the `)` of that capture"},
+    /* 8 */ {"unterminated set: no `]` closes it",
+     "write the `]`, as in `[a]`; write `%[` for the character `[`"},
+    /* 9 */ {"empty set: a `]` in the first place is a member, and no other closes the set",
+     "write `[]]` for a set of `]` alone, `[^]]` for all but it; write `%[` for the character `[`"},
+    /* 10 */ {"bad escape `%f`: no set follows it",
+     "write a set after it, as in `%f[%w]`"},
+    /* 11 */ {"unmatched capture: a `)` without its `(`",
+     "write its `(` before it; write `%)` for the character `)`"},
+    /* 12 */ {"too many captures: this is the 33rd",
+     "write at most 32"},
+    /* 13 */ {"back reference names no closed capture: `%$c`",
+     "write `%1` to `%9` only after the `)` of that capture"},
     /* pack formats */
-    {"invalid pack option `$c`", "write one of `b B h H i I l L j J T f d n s z c x X ! < > =` or a space"},
-    {"truncated pack size: no size follows `c`", "write a size, as in `c8`"},
-    {"integer size out of limits: it is not 1 to 16", "write a size from 1 to 16, as in `i4`"},
-    {"alignment is not a power of 2", "write a size of 1, 2, 4, 8 or 16 here and after `!`, or no `!`"},
-    {"variable-length option `$c`: packsize can't know its size", "write `c` with a size, as in `c8`"},
+    /* 14 */ {"invalid pack option `$c`",
+     "write one of `b B h H i I l L j J T f d n s z c x X ! < > =` or a space"},
+    /* 15 */ {"truncated pack size: no size follows `c`",
+     "write a size, as in `c8`"},
+    /* 16 */ {"integer size out of limits: it is not 1 to 16",
+     "write a size from 1 to 16, as in `i4`"},
+    /* 17 */ {"alignment is not a power of 2",
+     "write a size of 1, 2, 4, 8 or 16 here and after `!`, or no `!`"},
+    /* 18 */ {"variable-length option `$c`: packsize can't know its size",
+     "write `c` with a size, as in `c8`"},
     /* replacements and dates */
-    {"ends with a lone `%`", "write `%%` for a percent sign"},
-    {"unexpected character after `%`: `$c` is neither a digit nor `%`", "write `%%` for a percent sign, or `%0` to `%9` for the match and its captures"},
-    {"capture index `%$c` is higher than the pattern's capture count, $n", ""},
-    {"unexpected character after `%`: `%$c` is no date specifier of $v", ""},
+    /* 19 */ {"ends with a lone `%`",
+     "write `%%` for a percent sign"},
+    /* 20 */ {"unexpected character after `%`: `$c` is neither a digit nor `%`",
+     "write `%%` for a percent sign, or `%0` to `%9` for the match and its captures"},
+    /* 21 */ {"capture index `%$c` is higher than the pattern's capture count, $n", ""},
+    /* 22 */ {"unexpected character after `%`: `%$c` is no date specifier of $v", ""},
     /* any text */
-    {"not UTF-8: `$c` and the bytes after it make no character", "save the text as UTF-8; in a literal, spell a byte by its number, as in `\\255`"},
-    {"undecodable: no string literal, or an escape that is malformed or not of $v", "write it in two equal quotes or in long brackets, and `\\\\` for a backslash"},
-    {"unknown version: $v is none of 1 to 6", "write 5.1 to 5.5, luau, or a number: 1 to 5 for Lua 5.1 to 5.5, 6 for Luau"},
-    {"output too short: the value is longer than the room of $r", "write a larger --room: the literal's own length is always enough"},
+    /* 23 */ {"not UTF-8: `$c` and the bytes after it make no character",
+     "save the text as UTF-8; in a literal, spell a byte by its number, as in `\\255`"},
+    /* 24 */ {"undecodable: no string literal, or an escape that is malformed or not of $v",
+     "write it in two equal quotes or in long brackets, and `\\\\` for a backslash"},
+    /* 25 */ {"unknown version: $v is none of 1 to 6",
+     "write 5.1 to 5.5, luau, or a number: 1 to 5 for Lua 5.1 to 5.5, 6 for Luau"},
+    /* 26 */ {"output too short: the value is longer than the room of $r",
+     "write a larger --room: the literal's own length is always enough"},
     /* trials */
-    {"steps spent: one step more than the budget of $b was due", "write a larger --budget, or a pattern that tries less"},
-    {"too deep: the 201st level of the matching; real Lua raises \"pattern too complex\"", "write fewer items in one pattern"},
-    {"raised", ""}, /* by its kind: raises */
-    {"unknown kind `$k`: none of F P K S G D", "write format, pattern, pack, packsize, replacement or date, or its letter"},
-    {"line too long: more than 4,005 bytes", "write a body of at most 4,000 bytes after the head of five"}};
+    /* 27 */ {"steps spent: one step more than the budget of $b was due",
+     "write a larger --budget, or a pattern that tries less"},
+    /* 28 */ {"too deep: the 201st level of the matching; real Lua raises \"pattern too complex\"",
+     "write fewer items in one pattern"},
+    /* 29 */ {"raised", ""}, /* by its kind: raises */
+    /* 30 */ {"unknown kind `$k`: none of F P K S G D",
+     "write format, pattern, pack, packsize, replacement or date, or its letter"},
+    /* 31 */ {"line too long: more than 4,005 bytes",
+     "write a body of at most 4,000 bytes after the head of five"}};
 
 /* The kinds of refusal 29, from 1, in the words of lstrlib.c, without the index that it names for 7 and 10. */
 static const char *const raises[] = {"",
@@ -137,8 +162,10 @@ static const char *modifiers_of(uint32_t conversion)
 /* Refusal 14: a digit, an option that stands after `X` and has no alignment (elsewhere it is taken), or no option at all. */
 static message of_pack_option(uint32_t character)
 {
-    static const message size = {"invalid pack option `$c`: a number where no size is taken", "write a size only right after `i`, `I`, `s`, `c` or `!`"};
-    static const message next = {"invalid pack option `$c`: `X` can't align to it", "write an option with a size, or `x`, after `X`, as in `Xi4`"};
+    static const message size = {"invalid pack option `$c`: a number where no size is taken",
+                                       "write a size only right after `i`, `I`, `s`, `c` or `!`"};
+    static const message next = {"invalid pack option `$c`: `X` can't align to it",
+                                       "write an option with a size, or `x`, after `X`, as in `Xi4`"};
     if (character >= '0' && character <= '9')
         return size;
     switch (character) {
@@ -159,9 +186,12 @@ static message of_pack_option(uint32_t character)
 /* The sentence of a refusal. */
 static message message_of(const question *asked, const luck_answer *refused)
 {
-    static const message cut_escape = {"truncated specifier: the pattern ends after `%`", "write `%%` for a percent sign"};
-    static const message cut_balance = {"truncated specifier: the pattern ends inside `%b`", "write two characters after `%b`, as in `%b()`"};
-    static const message late_star = {"unknown specifier `%*`: $v takes `*` only right after its `%`", "write `%*` without flags, width and precision"};
+    static const message cut_escape = {"truncated specifier: the pattern ends after `%`",
+                                       "write `%%` for a percent sign"};
+    static const message cut_balance = {"truncated specifier: the pattern ends inside `%b`",
+                                       "write two characters after `%b`, as in `%b()`"};
+    static const message late_star = {"unknown specifier `%*`: $v takes `*` only right after its `%`",
+                                       "write `%*` without flags, width and precision"};
     message found = messages[refused->number];
     switch (refused->number) {
     case LUCK_TRUNCATED_SPECIFIER:
@@ -218,7 +248,9 @@ static message message_of(const question *asked, const luck_answer *refused)
     return found;
 }
 
-static const char *const head_advice = "write the kind (F P K S G D), the version digit, two columns of captures (only for G), a space, then the body";
+/* Refusal 30, of a line. */
+static const char *const head_advice =
+    "write the kind (F P K S G D), the version digit, two columns of captures (only for G), a space, then the body";
 
 static const char *const usage_text =
     "usage: luck check KIND VERSION TEXT [CAPTURES]\n"
@@ -243,8 +275,10 @@ static const char *const help_text[] = {
     "           two columns of captures (0 to 32, set right, only for G; blank: unknown), a space, the body.\n"
     "           Each refused line is explained. A line is at most 4,005 bytes; its newline is not counted.\n"
     "\n"
-    "  KIND     format, pattern, pack, packsize, replacement or date, or its letter: F P K S G D\n"
-    "  VERSION  5.1, 5.2, 5.3, 5.4, 5.5 or luau, or its number: 1 to 6\n"
+    "  KIND     format, pattern, pack, packsize, replacement or date, or its letter: F P K S G D. Another letter is\n"
+    "           refused (30); any other word is wrong usage\n"
+    "  VERSION  5.1, 5.2, 5.3, 5.4, 5.5 or luau, or its number: 1 to 6. Another number is refused (25); any other\n"
+    "           word is wrong usage\n"
     "  TEXT     - reads standard input to its end. All its bytes are the text, a last newline too:\n"
     "           printf %s TEXT gives exactly TEXT, echo adds a newline.\n"
     "  CAPTURES the captures of the pattern, for a replacement only; without it they are unknown\n"
