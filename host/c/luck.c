@@ -221,10 +221,9 @@ static int read_all(FILE *in, uint8_t **text, size_t *len)
     return ferror(in) ? trouble("cannot read", "standard input") : 0;
 }
 
-/* The word itself, or for `-` what standard input has, which `kept` holds to be freed. */
+/* The word itself, or for `-` what standard input has, which `kept` then holds to be freed. */
 static int read_text(const char *word, uint8_t **kept, question *asked)
 {
-    *kept = NULL;
     asked->text = (const uint8_t *)word;
     asked->len = strlen(word);
     if (strcmp(word, "-") != 0)
@@ -288,7 +287,7 @@ static int read_options(int count, char **words, bool has_budget, question *aske
 
 static luck_answer check(const question *asked)
 {
-    luck_answer none;
+    static const luck_answer no_kind = {LUCK_UNKNOWN_KIND, 0, 0, 0, 0};
     switch (asked->kind) {
     case 'F':
         return luck_check_format(asked->version, asked->text, asked->len);
@@ -303,9 +302,7 @@ static luck_answer check(const question *asked)
     case 'D':
         return luck_check_date(asked->version, asked->text, asked->len);
     default:
-        memset(&none, 0, sizeof none);
-        none.number = LUCK_UNKNOWN_KIND;
-        return none;
+        return no_kind;
     }
 }
 
