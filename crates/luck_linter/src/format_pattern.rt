@@ -151,6 +151,55 @@ pub fn as_checked(walked: Walked) -> Checked
     }
 }
 
+// The number of a fault in the table of refusals.
+pub fn number(fault: PatternError) -> u32
+    ensures { λ r. ⌜ r ≡ refusal fault .number ⌝ }
+{
+    match fault {
+        PatternError::TruncatedSpecifier { offset: _ } => 1,
+        PatternError::UnknownSpecifier {
+            offset: _,
+            character: _,
+        } => 2,
+        PatternError::BadFlag {
+            offset: _,
+            character: _,
+        } => 3,
+        PatternError::BadWidth { offset: _ } => 4,
+        PatternError::BadPrecision { offset: _ } => 5,
+        PatternError::BadModifier {
+            offset: _,
+            modifier: _,
+            conversion: _,
+        } => 6,
+        PatternError::LongSpecifier { offset: _ } => 7,
+        PatternError::UnterminatedSet { offset: _ } => 8,
+        PatternError::EmptySet { offset: _ } => 9,
+        PatternError::BadEscape {
+            offset: _,
+            character: _,
+        } => 10,
+        PatternError::UnmatchedCapture { offset: _ } => 11,
+        PatternError::TooManyCaptures { offset: _ } => 12,
+        PatternError::BadBackReference { offset: _ } => 13,
+        PatternError::InvalidPackOption {
+            offset: _,
+            character: _,
+        } => 14,
+        PatternError::TruncatedPackSize { offset: _ } => 15,
+        PatternError::PackSizeOutOfLimits { offset: _ } => 16,
+        PatternError::BadPackAlignment { offset: _ } => 17,
+        PatternError::VariableLengthPackOption {
+            offset: _,
+            character: _,
+        } => 18,
+        PatternError::LonePercent { offset: _ } => 19,
+        PatternError::BadReplacementEscape { offset: _ } => 20,
+        PatternError::CaptureIndexOutOfRange { offset: _ } => 21,
+        PatternError::BadDateSpecifier { offset: _ } => 22,
+    }
+}
+
 // The place of a fault.
 pub fn offset(fault: PatternError) -> usize
     ensures { λ r. ⌜ r ≡ refusal fault .offset ⌝ }
