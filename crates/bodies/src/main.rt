@@ -1,0 +1,110 @@
+// Reads lines from standard input and writes a row for each: what the checks answer for its body. The work is luck_lines'; this is the reading
+// and the writing, with two buffers and nothing else kept, so that the input may be of any length.
+ghost use lib.ListN.{length};
+ghost use Rattle.bodies.specs.Held.{Within};
+use libc::STDIN_FILENO;
+use libc::STDOUT_FILENO;
+use luck_lines::buffer;
+use luck_lines::stream;
+
+// The bytes of the input buffer that are not taken yet, from `at` to `end`; whether their line is too long already; and whether there is more to do.
+struct Held {
+    at: usize,
+    end: usize,
+    long: bool,
+    more: bool,
+}
+
+// An error was said, or the input has ended.
+fn stop() -> Held
+    ensures { λ r. ⌜ Within r 0 ⌝ }
+{
+    Held {
+        at: 0,
+        end: 0,
+        long: false,
+        more: false,
+    }
+}
+
+fn write_rows(rows: &[u8]) -> bool {
+    let is_written = io::write_all(STDOUT_FILENO, rows);
+    if !is_written {
+        os::fail(b"bodies: standard output");
+    }
+    is_written
+}
+
+fn finish(left: &[u8], output: &mut [u8], long: bool) {
+    let wrote = stream::finish(left, output, long);
+    write_rows(&output[0..wrote]);
+}
+
+// No whole line is left: what there is moves to the front, and more is read after it.
+fn read_more(input: &mut [u8], output: &mut [u8], at: usize, end: usize, long: bool) -> Held
+    ensures { λ r. ⌜ Within r (length (now (input .exit))) ⌝ }
+{
+    let kept = buffer::keep(input, at, end);
+    let got = libc::read(STDIN_FILENO, &mut input[kept..]);
+    if got < 0 {
+        os::fail(b"bodies: standard input");
+        return stop();
+    }
+    if got == 0 {
+        finish(&input[0..kept], output, long);
+        return stop();
+    }
+    let more = io::count(got, &input[kept..]);
+    Held {
+        at: 0,
+        end: kept + more,
+        long,
+        more: true,
+    }
+}
+
+// Takes what the output has room for, and reads more where nothing can be taken.
+fn list_some(input: &mut [u8], output: &mut [u8], held: Held) -> Held
+    requires { ⌜ Within held (length (now input)) ⌝ }
+    ensures { λ r. ⌜ Within r (length (now (input .exit))) ⌝ }
+{
+    let at = held.at;
+    let end = held.end;
+    let fed = stream::feed(&input[at..end], output, held.long);
+    let wrote = fed.wrote;
+    let left = at + fed.used;
+    if 0 < wrote {
+        let is_written = write_rows(&output[0..wrote]);
+        return Held {
+            at: left,
+            end,
+            long: fed.long,
+            more: is_written,
+        };
+    }
+    read_more(input, output, left, end, fed.long)
+}
+
+// A proved loop has to end, and nothing says that an input does: it counts its turns down, from a number that no run uses up.
+fn list(input: &mut [u8], output: &mut [u8]) {
+    let mut held = Held {
+        at: 0,
+        end: 0,
+        long: false,
+        more: true,
+    };
+    let mut turns = u64::MAX;
+    while 0 < turns {
+        held = list_some(input, output, held);
+        if !held.more {
+            return;
+        }
+        turns -= 1;
+    }
+}
+
+fn main() {
+    let mut input = io::large_buffer();
+    let mut output = io::large_buffer();
+    list(&mut input, &mut output);
+}

@@ -1,0 +1,6 @@
+pub mod Line
+pub mod Row
+pub mod Lines
+pub mod Stream
+pub mod Inner
+pub mod Examples

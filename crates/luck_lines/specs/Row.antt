@@ -1,0 +1,33 @@
+-- A row of the listing (document 01): number, offset and count in 4, 7 and 7 columns, right-justified, with no bytes between, and a newline.
+-- Assumes nothing.
+use Prim.Native.Nat.{ℕ, _+_, _/_, _%_}
+use Prim.Native.Char.{code}
+use mathlib.Core.List.{List, [], _∷_, _++_}
+use lib.Dec.{ltb}
+use Rattle.luck_token.specs.Bytes.{if_then_else_}
+use Rattle.luck_linter.specs.Answer.{Answer}
+
+-- LF
+abbrev pub newline : ℕ
+newline = 10
+
+-- the digit of n at a power of ten, or a blank where it would be a leading zero
+unfoldable pub column : ℕ → ℕ → ℕ
+column power n = if ltb n power then code " " else code "0" + n / power % 10
+
+-- n right-justified in one column more than there are powers. No number of a row is too large for its columns: a line has at most 4,005 bytes
+unfoldable pub justified : List ℕ → ℕ → List ℕ
+justified [] n = (code "0" + n % 10) ∷ []
+justified (power ∷ powers) n = column power n ∷ justified powers n
+
+unfoldable pub fourColumns : ℕ → List ℕ
+fourColumns n = justified (1000 ∷ 100 ∷ 10 ∷ []) n
+
+unfoldable pub sevenColumns : ℕ → List ℕ
+sevenColumns n = justified (1000000 ∷ 100000 ∷ 10000 ∷ 1000 ∷ 100 ∷ 10 ∷ []) n
+
+unfoldable pub row : ℕ → ℕ → ℕ → List ℕ
+row number offset count = fourColumns number ++ (sevenColumns offset ++ (sevenColumns count ++ (newline ∷ [])))
+
+abbrev pub answerRow : Answer → List ℕ
+answerRow a = row (a .number) (a .offset) (a .count)

@@ -1,0 +1,96 @@
+-- The listing made piece by piece: what one call takes of the bytes that are there, and what it writes. What comes of it all is the listing of the whole
+-- input, however it was cut (proofs/Promises.antt).
+-- Assumes nothing.
+use Prim.Native.Nat.{ℕ, _+_, _-_, _≤_}
+use mathlib.Core.Path.{_≡_}
+use mathlib.Core.Bool.{Bool, true, false, not, _||_}
+use mathlib.Core.List.{List, [], _++_}
+use lib.ListN.{length, drop, replicate}
+use lib.Dec.{eqb, ltb}
+use Rattle.luck_token.specs.Bytes.{if_then_else_, part, run}
+use Rattle.luck_token.specs.Walk.{Turn, stop, goes, walkFrom}
+use Rattle.luck_linter.specs.Answer.{refused}
+use Rattle.luck_lines.specs.Line.{longest, lineAnswer}
+use Rattle.luck_lines.specs.Row.{newline, answerRow}
+use Rattle.luck_lines.specs.Lines.{linesFrom, rows}
+use Rattle.luck_lines.specs.declared.stream.Fed.{Fed}
+
+-- a row's bytes
+abbrev pub rowLength : ℕ
+rowLength = 19
+
+-- how many bytes stand before the first newline
+unfoldable pub lineLength : List ℕ → ℕ
+lineLength text = run (λ b. not (eqb b newline)) text
+
+-- the row of a line; `long`: of a line of which too many bytes were taken already
+unfoldable pub rowOf : Bool → List ℕ → List ℕ
+rowOf true line = answerRow (refused 31 0)
+rowOf false line = answerRow (lineAnswer line)
+
+-- how many bytes were taken, the rows written, and whether the line that goes on after them is too long already
+pub record Taken : Type 0 where
+  pub used : ℕ
+  pub written : List ℕ
+  pub long : Bool
+
+abbrev pub taken : ℕ → List ℕ → Bool → Taken
+taken used written long = record { used = used; written = written; long = long }
+
+pub record State : Type 0 where
+  pub written : List ℕ
+  pub long : Bool
+
+abbrev pub state : List ℕ → Bool → State
+state written long = record { written = written; long = long }
+
+module _ (input : List ℕ) (room : ℕ) where
+  -- no newline is left: what there is stays for the next call, unless the line is too long already
+  unfoldable pub unended : ℕ → State → Taken
+  unended p s =
+      if s .long || ltb longest (length input - p) then taken (length input) (s .written) true else taken p (s .written) false
+
+  -- a line of n bytes, which ends in the input: it is taken if there is room for its row
+  unfoldable pub lineTurn : ℕ → State → ℕ → Turn State Taken
+  lineTurn p s n =
+      if ltb (room - length (s .written)) rowLength then stop (taken p (s .written) (s .long))
+      else goes (n + 1) (state (s .written ++ rowOf (s .long) (part input p (p + n))) false)
+
+  unfoldable pub feedTurn : ℕ → State → Turn State Taken
+  feedTurn p s =
+      let n = lineLength (drop p input) in
+      if eqb (p + n) (length input) then stop (unended p s) else lineTurn p s n
+
+  -- whole lines from the front, while there is room
+  unfoldable pub feed : Bool → Taken
+  feed long = walkFrom feedTurn unended (length input) 0 (state [] long)
+
+-- the end of the input: the row of what is left, as a last line that lacks its newline, if there is anything and room for the row
+unfoldable pub finish : Bool → List ℕ → ℕ → List ℕ
+finish long left room =
+    if ltb room rowLength then [] else if long || not (eqb (length left) 0) then rowOf long left else []
+
+-- the code's answer
+abbrev pub fedOf : Taken → Fed
+fedOf t = record { used = t .used; wrote = length (t .written); long = t .long }
+
+-- an output that had these bytes: what was written at its front, the rest as it was
+abbrev pub inFront : List ℕ → List ℕ → List ℕ
+inFront written output = written ++ drop (length written) output
+
+-- what was taken of a line and is not kept: nothing, or too many bytes, for which any 4,006 stand
+unfoldable pub passed : Bool → List ℕ
+passed false = []
+passed true = replicate 4006 0
+
+-- the rows that are due for an input that goes on after such bytes
+unfoldable pub listingAfter : Bool → List ℕ → List ℕ
+listingAfter long input = rows (linesFrom (passed long) input)
+
+-- a run of a program, with what it writes: bytes come in pieces, whole lines are taken whenever it likes and with any room, and at the end of the input,
+-- with no newline left, the last line is taken
+pub data Run : Bool → List ℕ → List ℕ → List ℕ → Type 0 where
+  reads : (long : Bool) (held piece input written : List ℕ) → Run long (held ++ piece) input written → Run long held (piece ++ input) written
+  takes : (long : Bool) (held input written : List ℕ) (room : ℕ)
+      → Run (feed held room long .long) (drop (feed held room long .used) held) input written → Run long held input (feed held room long .written ++ written)
+  ends : (long : Bool) (held : List ℕ) (room : ℕ) → lineLength held ≡ length held → rowLength ≤ room → Run long held [] (finish long held room)
