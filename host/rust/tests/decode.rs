@@ -1,0 +1,93 @@
+//! Decoding: values, refusals in their order, and the bytes of the output that must stay as they were.
+
+use luck::DecodeError::{NotUtf8, OutputTooShort, Undecodable};
+use luck::Version::{Lua51, Lua52, Lua53, Lua54};
+use luck::{DecodeError, Version, decode_string, decode_string_into, raw};
+
+const UNTOUCHED: u8 = 0xAA;
+
+#[test]
+fn values() {
+    for version in Version::ALL {
+        assert_eq!(decode_string(version, b"''"), Ok(vec![]));
+        assert_eq!(decode_string(version, b"[[]]"), Ok(vec![]));
+        assert_eq!(decode_string(version, br#""a\n\t\65\0""#), Ok(b"a\n\tA\0".to_vec()));
+        assert_eq!(decode_string(version, b"[==[\na]]b]==]"), Ok(b"a]]b".to_vec()));
+        assert_eq!(decode_string(version, b"'\0'"), Ok(vec![0]));
+        assert_eq!(decode_string(version, br"'\255'"), Ok(vec![0xFF]));
+    }
+}
+
+#[test]
+fn values_by_version() {
+    let by_version = |text: &[u8]| Version::ALL.map(|version| decode_string(version, text).ok());
+    let value = |text: &str| Some(text.as_bytes().to_vec());
+    assert_eq!(by_version(br"'\q'"), [value("q"), None, None, None, None, value("q")]);
+    assert_eq!(by_version(br"'\x41'"), [value("x41"), value("A"), value("A"), value("A"), value("A"), value("A")]);
+    assert_eq!(by_version(br"'\u{E9}'"), [value("u{E9}"), None, value("é"), value("é"), value("é"), value("é")]);
+}
+
+#[test]
+fn refusals() {
+    assert_eq!(decode_string(Lua52, br#""\q""#), Err(Undecodable));
+    for text in [b"".as_slice(), b"'", b"\"a'", b"[[a", b"[=[a]]", b"a", br"'\256'", br"'\'"] {
+        for version in Version::ALL {
+            assert_eq!(decode_string(version, text), Err(Undecodable), "{version}: {text:?}");
+        }
+    }
+    assert_eq!(decode_string(Lua54, br"'\u{110000}'"), Err(Undecodable));
+    assert_eq!(decode_string(Lua53, br"'\u{D800}'"), Err(Undecodable));
+    assert_eq!(decode_string(Lua51, b"'a\xFF'"), Err(NotUtf8 { offset: 2 }));
+}
+
+/// 23 comes before 24, and 24 before 26.
+#[test]
+fn order() {
+    assert_eq!(decode_string_into(Lua52, b"'\\q\xFF", &mut []), Err(NotUtf8 { offset: 3 }));
+    assert_eq!(decode_string_into(Lua52, br"'\q'", &mut []), Err(Undecodable));
+    assert_eq!(decode_string_into(Lua52, b"'a'", &mut []), Err(OutputTooShort));
+}
+
+/// Lends the inner `room` bytes of a larger buffer, and gives the answer and the whole buffer.
+fn into_room(text: &[u8], room: usize) -> (Result<usize, DecodeError>, Vec<u8>) {
+    let mut buffer = vec![UNTOUCHED; room + 4];
+    let answer = decode_string_into(Lua52, text, &mut buffer[2..2 + room]);
+    (answer, buffer)
+}
+
+#[test]
+fn written_bytes() {
+    let (answer, buffer) = into_room(br#""a\n""#, 4);
+    assert_eq!(answer, Ok(2));
+    assert_eq!(buffer, b"\xAA\xAAa\n\xAA\xAA\xAA\xAA");
+}
+
+#[test]
+fn rooms() {
+    assert_eq!(into_room(b"''", 0), (Ok(0), vec![UNTOUCHED; 4]));
+    assert_eq!(into_room(b"'ab'", 2), (Ok(2), b"\xAA\xAAab\xAA\xAA".to_vec()));
+    for room in [0, 1] {
+        assert_eq!(into_room(b"'ab'", room), (Err(OutputTooShort), vec![UNTOUCHED; room + 4]));
+    }
+    for text in [br#""ab\q""#.as_slice(), b"'ab", b"'ab\xFF'"] {
+        let (answer, buffer) = into_room(text, 8);
+        assert!(answer.is_err());
+        assert_eq!(buffer, [UNTOUCHED; 12]);
+    }
+}
+
+#[test]
+fn messages() {
+    assert_eq!(NotUtf8 { offset: 3 }.to_string(), "not UTF-8 at offset 3");
+    assert_eq!(Undecodable.to_string(), "no literal, or an escape that this version does not have");
+    assert_eq!(OutputTooShort.to_string(), "the value is longer than the output");
+}
+
+#[test]
+fn other_numbers() {
+    for number in [1, 25, 27, u32::MAX] {
+        let error = raw::Decoded { number, offset: 0, written: 0 }.result().unwrap_err();
+        assert_eq!(error, DecodeError::Other { number });
+        assert_eq!(error.to_string(), format!("refusal {number}"));
+    }
+}
