@@ -1,0 +1,457 @@
+"""Tests of luck.py: every function at accepted, refused and edge inputs.
+
+    python3 -B host/python/test_luck.py
+
+It makes a shared object of its own, in a temporary folder, from libluck.a in the folder that the variable LUCK_LIB names (by default
+target/staticlib; a relative name counts from the repository's root). It needs cc.
+"""
+
+from __future__ import annotations
+
+import ctypes
+import doctest
+import os
+import re
+import subprocess
+import sys
+import tempfile
+import threading
+import unittest
+from pathlib import Path
+
+import luck as module
+from luck import SIZE_MAX, UINT32_MAX, Answer, Decoded, DecodedInto, Literal, Luck, Number, Trial, TrialInto, make_shared_object
+
+ROOT = Path(__file__).resolve().parent.parent.parent
+ARCHIVE = ROOT / os.environ.get("LUCK_LIB", "target/staticlib") / "libluck.a"
+VERSIONS = range(1, 7)
+NO_VERSIONS = (0, 7, 256, UINT32_MAX)
+ENOUGH = 1_000_000
+UNTOUCHED = b"\xAA"
+
+
+def load_library() -> Luck:
+    if not ARCHIVE.is_file():
+        sys.exit(f"{ARCHIVE} is not there: run `rt staticlib luck` in the repository's root, or set LUCK_LIB to the folder of libluck.a")
+    # A loaded shared object stays loaded when its file goes.
+    with tempfile.TemporaryDirectory() as folder:
+        shared = Path(folder) / "libluck.so"
+        make_shared_object(ARCHIVE, shared)
+        return Luck(shared)
+
+
+luck = load_library()
+
+# The checks that take a version and a body, and a replacement's with one capture, by the letter of the kind.
+CHECKS = {
+    b"F": luck.check_format,
+    b"P": luck.check_pattern,
+    b"K": luck.check_pack,
+    b"S": luck.check_packsize,
+    b"D": luck.check_date,
+    b"G": lambda version, body: luck.check_replacement(version, 1, body),
+}
+
+# Every refusal of a check at its smallest input of docs/REFUSALS.md: kind, version, body, number, offset, characters.
+REFUSALS = [
+    (b"F", 1, b"%", 1, 0, ""),
+    (b"F", 1, b"%y", 2, 1, "y"),
+    (b"F", 1, b"%------d", 3, 6, "-"),
+    (b"F", 1, b"%100d", 4, 1, ""),
+    (b"F", 1, b"%.100d", 5, 2, ""),
+    (b"F", 4, b"%#d", 6, 1, "#d"),
+    (b"F", 4, b"%" + 21 * b"0" + b"d", 7, 1, ""),
+    (b"P", 1, b"%", 1, 0, ""),
+    (b"P", 1, b"[a", 8, 0, ""),
+    (b"P", 1, b"[]", 9, 0, ""),
+    (b"P", 1, b"%f", 10, 0, "f"),
+    (b"P", 1, b")", 11, 0, ""),
+    (b"P", 1, b"(", 11, 1, ""),
+    (b"P", 1, 33 * b"(", 12, 32, ""),
+    (b"P", 1, b"%1", 13, 1, ""),
+    (b"K", 3, b"y", 14, 0, "y"),
+    (b"K", 3, b"b1", 14, 1, "1"),
+    (b"K", 3, b"c", 15, 1, ""),
+    (b"K", 3, b"i17", 16, 1, ""),
+    (b"K", 3, b"!i3", 17, 1, ""),
+    (b"S", 3, b"s", 18, 0, "s"),
+    (b"G", 2, b"%", 19, 0, ""),
+    (b"G", 2, b"%x", 20, 1, ""),
+    (b"G", 2, b"%2", 21, 1, ""),
+    (b"D", 2, b"%", 19, 0, ""),
+    (b"D", 2, b"%Q", 22, 1, ""),
+    (b"F", 1, b"\xFF", 23, 0, ""),
+]
+
+
+def accepted(count: int) -> Answer:
+    return Answer(0, 0, 0, 0, count)
+
+
+def refused(number: int, offset: int, characters: str = "") -> Answer:
+    first, second = [*map(ord, characters), 0, 0][:2]
+    return Answer(number, first, second, offset, 0)
+
+
+class Bodies(unittest.TestCase):
+    """The checks of bodies."""
+
+    def test_empty(self) -> None:
+        for version in VERSIONS:
+            for check in CHECKS.values():
+                self.assertEqual(check(version, b""), accepted(0))
+            self.assertEqual(luck.check_replacement(version, None, b""), accepted(0))
+
+    def test_accepted(self) -> None:
+        for answer, count in [
+            (luck.check_format(1, b"%d%s"), 2),
+            (luck.check_format(1, b"%-----d%%"), 1),
+            (luck.check_pattern(1, b"()%1"), 1),
+            (luck.check_pattern(1, b"[]]"), 0),
+            (luck.check_pattern(1, 32 * b"(" + 32 * b")"), 32),
+            (luck.check_pack(3, b"i4s"), 2),
+            (luck.check_packsize(3, b"i4c10b"), 3),
+            (luck.check_date(2, b"!%Y-%m-%d"), 0),
+            (luck.check_format(4, 100_000 * b"%d"), 100_000),
+        ]:
+            self.assertEqual(answer, accepted(count))
+
+    def test_smallest_inputs(self) -> None:
+        for kind, version, body, number, offset, characters in REFUSALS:
+            with self.subTest(kind=kind, body=body):
+                self.assertEqual(CHECKS[kind](version, body), refused(number, offset, characters))
+
+    def test_every_number_has_a_row(self) -> None:
+        self.assertEqual({row[3] for row in REFUSALS}, set(range(1, 24)))
+
+    def test_versions(self) -> None:
+        for kind, body, versions in [
+            (b"F", b"%a", [2, 3, 4, 5]),
+            (b"F", b"%p", [4, 5]),
+            (b"F", b"%*", [6]),
+            (b"D", b"%Q", [1]),
+            (b"D", b"%", [1, 6]),
+            (b"G", b"%x", [1]),
+            (b"G", b"%2", []),
+        ]:
+            with self.subTest(kind=kind, body=body):
+                self.assertEqual([version for version in VERSIONS if CHECKS[kind](version, body).number == 0], versions)
+
+    def test_no_version(self) -> None:
+        for version in NO_VERSIONS:
+            for check in CHECKS.values():
+                self.assertEqual(check(version, b"%\xFF"), refused(25, 0))
+
+    def test_captures(self) -> None:
+        for version in VERSIONS:
+            for captures, body, answer in [
+                (None, b"%9", accepted(0)),
+                (0, b"%1", accepted(0)),
+                (0, b"%2", refused(21, 1)),
+                (2, b"%2", accepted(0)),
+                (8, b"%9", refused(21, 1)),
+                (SIZE_MAX, b"%9", accepted(0)),
+            ]:
+                self.assertEqual(luck.check_replacement(version, captures, body), answer)
+
+    def test_nul(self) -> None:
+        self.assertEqual(luck.check_format(1, b"%\0"), refused(2, 1))
+        self.assertEqual(luck.check_pattern(1, b"\0()"), accepted(1))
+        self.assertEqual(luck.check_pattern(1, b"\0("), refused(11, 2))
+        self.assertEqual(luck.check_pack(3, b"b\0"), refused(14, 1))
+        self.assertEqual(luck.check_packsize(3, b"b\0"), refused(14, 1))
+        self.assertEqual(luck.check_date(2, b"\0%Q"), refused(22, 2))
+        self.assertEqual(luck.check_replacement(2, None, b"\0%x"), refused(20, 2))
+
+    def test_not_utf8(self) -> None:
+        for body in [b"%\xFF", b"%\x80", b"%\xC3", b"%\xC0\x80", b"%\xE2\x82", b"%\xED\xA0\x80", b"%\xF4\x90\x80\x80"]:
+            for version in VERSIONS:
+                for check in CHECKS.values():
+                    self.assertEqual(check(version, body), refused(23, 1))
+
+    def test_characters(self) -> None:
+        self.assertEqual(luck.check_format(1, "%é".encode()), refused(2, 1, "é"))
+        self.assertEqual(luck.check_pack(3, "\U0001F600".encode()), refused(14, 0, "\U0001F600"))
+
+
+class Literals(unittest.TestCase):
+    """The check of a literal."""
+
+    def test_accepted(self) -> None:
+        for kind, text, count in [
+            (b"F", b"'%d%s'", 2),
+            (b"P", b'"(a)()"', 2),
+            (b"K", b"'i4s'", 2),
+            (b"S", b"'i4'", 1),
+            (b"G", b"'%2'", 0),
+            (b"D", b"'%Y'", 0),
+        ]:
+            self.assertEqual(luck.check_literal(kind, 3, None, 100, text), Literal(0, 0, 0, False, False, 0, 0, 0, count))
+
+    def test_smallest_inputs(self) -> None:
+        for kind, version, body, number, offset, characters in REFUSALS[:-1]:
+            with self.subTest(kind=kind, body=body):
+                _, first, second, _, _ = refused(number, offset, characters)
+                wanted = Literal(number, first, second, False, True, 11 + offset, 12 + offset, offset, 0)
+                self.assertEqual(luck.check_literal(kind, version, 1, 10, b"'" + body + b"'"), wanted)
+
+    def test_skipped(self) -> None:
+        skipped = Literal(0, 0, 0, True, False, 0, 0, 0, 0)
+        for text in [b"", b"'", b"%y", b"'%y", b"'%y\"", b"[[%y]]", rb"'%y\65'", rb"'%y\0'", rb"'%y\x41'", rb"'%y\u{41}'"]:
+            with self.subTest(text=text):
+                self.assertEqual(luck.check_literal(b"F", 4, None, 100, text), skipped)
+        for text in [rb"'%y\\1'", rb"'%y\n'"]:
+            self.assertEqual(luck.check_literal(b"F", 4, None, 100, text).number, 2)
+
+    def test_spans(self) -> None:
+        for kind, start, text, span in [
+            (b"F", 100, b"'ab%#d'", (104, 105)),
+            (b"F", 0, "'%é'".encode(), (2, 4)),
+            (b"F", 0, "'%\U0001F600'".encode(), (2, 6)),
+            (b"P", 7, b"'('", (9, 10)),
+            (b"F", UINT32_MAX - 3, b"'%y'", (UINT32_MAX - 1, UINT32_MAX)),
+            (b"F", UINT32_MAX - 2, b"'%y'", (UINT32_MAX, UINT32_MAX)),
+            (b"F", UINT32_MAX, b"'%y'", (UINT32_MAX, UINT32_MAX)),
+        ]:
+            answer = luck.check_literal(kind, 4, None, start, text)
+            self.assertEqual((answer.spanned, answer.start, answer.end), (True, *span))
+
+    def test_captures(self) -> None:
+        for kind, captures, text, number in [
+            (b"G", None, b"'%9'", 0),
+            (b"G", 0, b"'%1'", 0),
+            (b"G", 1, b"'%2'", 21),
+            (b"G", SIZE_MAX, b"'%9'", 0),
+            (b"F", SIZE_MAX, b"'%d'", 0),
+        ]:
+            self.assertEqual(luck.check_literal(kind, 2, captures, 0, text).number, number)
+
+    def test_no_span(self) -> None:
+        for kind, version, text, number, offset in [
+            (b"F", 4, b"'%\xFF'", 23, 2),
+            (b"F", 4, b"[[\xFF]]", 23, 2),
+            (b"F", 7, b"'%\xFF'", 25, 0),
+            (b"F", UINT32_MAX, b"'%y'", 25, 0),
+            (b"Z", 4, b"'%y'", 30, 0),
+            (b"Z", 7, b"'%\xFF'", 30, 0),
+            (b"\0", 4, b"''", 30, 0),
+            (b"\xFF", 4, b"''", 30, 0),
+        ]:
+            wanted = Literal(number, 0, 0, False, False, 0, 0, offset, 0)
+            self.assertEqual(luck.check_literal(kind, version, None, 100, text), wanted)
+
+
+class Decoding(unittest.TestCase):
+    """The bytes that a literal stands for."""
+
+    def test_values(self) -> None:
+        for version in VERSIONS:
+            for text, value in [
+                (b"''", b""),
+                (b"[[]]", b""),
+                (rb'"a\n\t\65\0"', b"a\n\tA\0"),
+                (b"[==[\na]]b]==]", b"a]]b"),
+                (b"'\0'", b"\0"),
+                (rb"'\255'", b"\xFF"),
+            ]:
+                self.assertEqual(luck.decode_string(version, text), Decoded(0, 0, value))
+        self.assertEqual(luck.decode_string(4, rb"'\u{E9}'").value, "é".encode())
+
+    def test_refused(self) -> None:
+        for version, text, number, offset in [
+            (2, rb'"\q"', 24, 0),
+            (4, b"", 24, 0),
+            (4, b"'", 24, 0),
+            (4, b"'a\"", 24, 0),
+            (4, b"[=[a]]", 24, 0),
+            (4, rb"'\256'", 24, 0),
+            (4, rb"'\u{110000}'", 24, 0),
+            (4, b"'a\xFF", 23, 2),
+            *((version, b"'\xFF", 25, 0) for version in NO_VERSIONS),
+        ]:
+            self.assertEqual(luck.decode_string(version, text), Decoded(number, offset, b""))
+
+    def test_output(self) -> None:
+        for version, text, room, answer, front in [
+            (2, rb'"a\n"', 4, (0, 0, 2), b"a\n"),
+            (2, b"'ab'", 2, (0, 0, 2), b"ab"),
+            (2, b"''", 0, (0, 0, 0), b""),
+            (2, b"'ab'", 1, (26, 0, 0), b""),
+            (2, b"'ab'", 0, (26, 0, 0), b""),
+            (2, rb'"ab\q"', 8, (24, 0, 0), b""),
+            (2, rb'"\q"', 0, (24, 0, 0), b""),
+            (2, b"'ab\xFF'", 8, (23, 3, 0), b""),
+            (7, b"'ab'", 8, (25, 0, 0), b""),
+        ]:
+            with self.subTest(text=text, room=room):
+                output = bytearray(UNTOUCHED * room)
+                self.assertEqual(luck.decode_string_into(version, text, output), DecodedInto(*answer))
+                self.assertEqual(output, front + UNTOUCHED * (room - len(front)))
+
+    def test_output_is_given_back(self) -> None:
+        output = bytearray(4)
+        luck.decode_string_into(4, b"'a'", output)
+        output.extend(b"more")
+        self.assertEqual(output, b"a\0\0\0more")
+
+
+class Trials(unittest.TestCase):
+    """The trial of gsub. A trial is given as subject, pattern, replacement."""
+
+    def test_done(self) -> None:
+        for texts, output, replacements, steps in [
+            ((b"abc", b"%w*", b"x"), b"x", 1, 7),
+            ((b"a", b"a", b"x"), b"x", 1, 3),
+            ((b"aaa", b"a*", b"x"), b"x", 1, 7),
+            ((b"aab", b"a-b", b"x"), b"x", 1, 8),
+            ((b"aba", b"a", b"x"), b"xbx", 2, 6),
+            ((b"", b"", b"x"), b"x", 1, 2),
+            ((b"ab", b"", b"x"), b"xaxbx", 3, 6),
+            ((b"", b"", b""), b"", 1, 2),
+            ((b"\0\xFFa\0", b"[%z\xFF]", b"<\xFE\0>"), b"<\xFE\0><\xFE\0>a<\xFE\0>", 3, 8),
+        ]:
+            subject, pattern, replacement = texts
+            for version in VERSIONS:
+                with self.subTest(texts=texts, version=version):
+                    found = luck.gsub_trial(version, pattern, replacement, subject, ENOUGH, 20)
+                    self.assertEqual(found, Trial(0, 0, output, replacements, steps))
+
+    def test_output(self) -> None:
+        deep = (200 * b"a", 200 * b"a?", b"x")
+        for version, texts, budget, room, answer, front in [
+            (4, (b"a", b"a", b"xx"), ENOUGH, 4, (0, 0, 2, 1, 3), b"xx"),
+            (4, (b"a", b"a", b"xx"), ENOUGH, 2, (0, 0, 2, 1, 3), b"xx"),
+            (4, (b"a", b"a", b"xx"), ENOUGH, 1, (26, 0, 1, 1, 2), b"x"),
+            (4, (b"a", b"a", b"xx"), ENOUGH, 0, (26, 0, 0, 1, 2), b""),
+            (4, (b"", b"", b""), ENOUGH, 0, (0, 0, 0, 1, 2), b""),
+            (4, (b"a", b"a", b"x"), UINT32_MAX, 4, (0, 0, 1, 1, 3), b"x"),
+            (4, (b"a", b"a", b"x"), 2, 4, (27, 0, 1, 1, 2), b"x"),
+            (4, (b"a", b"a", b"x"), 1, 4, (27, 0, 0, 0, 1), b""),
+            (4, (b"a", b"a", b"x"), 0, 4, (27, 0, 0, 0, 0), b""),
+            (4, deep, ENOUGH, 4, (28, 0, 0, 0, 200), b""),
+            (4, deep, 199, 4, (27, 0, 0, 0, 199), b""),
+            (4, (b"ab", b"(b)", b"x%2"), ENOUGH, 4, (29, 10, 2, 1, 6), b"ax"),
+            *((version, (b"a", b"a", b"x"), ENOUGH, 4, (25, 0, 0, 0, 0), b"") for version in NO_VERSIONS),
+        ]:
+            subject, pattern, replacement = texts
+            with self.subTest(texts=texts, budget=budget, room=room):
+                output = bytearray(UNTOUCHED * room)
+                found = luck.gsub_trial_into(version, pattern, replacement, subject, budget, output)
+                self.assertEqual(found, TrialInto(*answer))
+                self.assertEqual(output, front + UNTOUCHED * (room - len(front)))
+
+    def test_raised(self) -> None:
+        rows = [
+            (b"%", b""),
+            (b"[", b""),
+            (b"%f", b""),
+            (b"%b", b""),
+            (b")", b""),
+            (b"(", b"%1"),
+            (b"%1", b""),
+            (33 * b"(", b""),
+            (b"", b"%"),
+            (b"", b"%2"),
+        ]
+        for kind, (pattern, replacement) in enumerate(rows, start=1):
+            with self.subTest(kind=kind):
+                found = luck.gsub_trial(4, pattern, replacement, b"", ENOUGH, 20)
+                self.assertEqual((found.number, found.kind, found.output), (29, kind, b""))
+        self.assertEqual(luck.gsub_trial(1, b"", b"%", b"", ENOUGH, 20), Trial(0, 0, b"\0", 1, 2))
+
+    def test_threads(self) -> None:
+        """The same texts in eight threads at once."""
+        subject, found = 1000 * b"ab", []
+
+        def run() -> None:
+            found.append(luck.gsub_trial(4, b"a(b)", b"%1", subject, ENOUGH, 2000))
+
+        threads = [threading.Thread(target=run) for _ in range(8)]
+        for thread in threads:
+            thread.start()
+        for thread in threads:
+            thread.join()
+        self.assertEqual([(trial.number, trial.output) for trial in found], 8 * [(0, 1000 * b"b")])
+
+
+class WrongArguments(unittest.TestCase):
+    """What ctypes would cut off or misread is refused before the call."""
+
+    def test_numbers(self) -> None:
+        for number in (-1, UINT32_MAX + 1, 2**64, 2**64 + 4):
+            for check in CHECKS.values():
+                self.assertRaises(OverflowError, check, number, b"")
+            self.assertRaises(OverflowError, luck.check_literal, b"F", number, None, 0, b"''")
+            self.assertRaises(OverflowError, luck.check_literal, b"F", 4, None, number, b"''")
+            self.assertRaises(OverflowError, luck.decode_string, number, b"''")
+            self.assertRaises(OverflowError, luck.decode_string_into, number, b"''", bytearray())
+            self.assertRaises(OverflowError, luck.gsub_trial, number, b"", b"", b"", 1, 1)
+            self.assertRaises(OverflowError, luck.gsub_trial, 4, b"", b"", b"", number, 1)
+            self.assertRaises(OverflowError, luck.gsub_trial_into, 4, b"", b"", b"", number, bytearray())
+
+    def test_sizes(self) -> None:
+        for number in (-1, SIZE_MAX + 1):
+            self.assertRaises(OverflowError, luck.check_replacement, 4, number, b"")
+            self.assertRaises(OverflowError, luck.check_literal, b"G", 4, number, 0, b"''")
+            self.assertRaises(OverflowError, luck.gsub_trial, 4, b"", b"", b"", 1, number)
+
+    def test_kinds(self) -> None:
+        for kind in (b"", b"FF"):
+            self.assertRaises(ValueError, luck.check_literal, kind, 4, None, 0, b"''")
+        for wrong in ("F", 70, None):
+            self.assertRaises(TypeError, luck.check_literal, wrong, 4, None, 0, b"''")
+
+    def test_types(self) -> None:
+        for wrong in ("text", None, bytearray(b"text"), 4):
+            for check in CHECKS.values():
+                self.assertRaises(TypeError, check, 4, wrong)
+            self.assertRaises(TypeError, luck.check_literal, b"F", 4, None, 0, wrong)
+            self.assertRaises(TypeError, luck.decode_string, 4, wrong)
+            for texts in [(wrong, b"", b""), (b"", wrong, b""), (b"", b"", wrong)]:
+                self.assertRaises(TypeError, luck.gsub_trial, 4, *texts, 1, 1)
+        for wrong in (b"read only", memoryview(b"read only"), None, 4):
+            self.assertRaises(TypeError, luck.decode_string_into, 4, b"''", wrong)
+            self.assertRaises(TypeError, luck.gsub_trial_into, 4, b"", b"", b"", 1, wrong)
+        for wrong in (4.0, "4", None):
+            self.assertRaises(TypeError, luck.check_format, wrong, b"")
+
+
+class Header(unittest.TestCase):
+    """luck.py and include/luck.h say the same."""
+
+    header = (ROOT / "include" / "luck.h").read_text()
+
+    def test_numbers(self) -> None:
+        there = re.findall(r"^ +LUCK_(\w+) = (\d+),?$", self.header, re.MULTILINE)
+        self.assertEqual({name: int(number) for name, number in there}, {number.name: number.value for number in Number})
+
+    def test_fields(self) -> None:
+        types = {"uint32_t": ctypes.c_uint32, "size_t": ctypes.c_size_t, "bool": ctypes.c_bool}
+        structs = re.findall(r"typedef struct \{(.*?)\} luck_(\w+);", self.header, re.DOTALL)
+        self.assertEqual(len(structs), 4)
+        for fields, name in structs:
+            there = [(field, types[kind]) for kind, field in re.findall(r"^    (\w+) (\w+);", fields, re.MULTILINE)]
+            self.assertEqual(getattr(module, "_C" + name.capitalize())._fields_, there)
+
+
+class Loading(unittest.TestCase):
+    """What is no shared object of the library."""
+
+    def test_not_there(self) -> None:
+        self.assertRaises(OSError, Luck, ROOT / "no such file.so")
+
+    def test_another_library(self) -> None:
+        with tempfile.TemporaryDirectory() as folder:
+            empty = Path(folder) / "empty.so"
+            subprocess.run(["cc", "-shared", "-x", "c", os.devnull, "-o", os.fspath(empty)], check=True)
+            self.assertRaises(AttributeError, Luck, empty)
+
+
+def load_tests(loader: unittest.TestLoader, tests: unittest.TestSuite, pattern: object) -> unittest.TestSuite:
+    """The examples in luck.py's own text are tests too."""
+    tests.addTests(doctest.DocTestSuite(module, extraglobs={"luck": luck}))
+    return tests
+
+
+if __name__ == "__main__":
+    unittest.main()
