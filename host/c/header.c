@@ -1,98 +1,397 @@
 /*
- * The header against the library: every function of include/luck.h is called, and every field of its answers is compared with an
- * answer of document 01. It writes one line, and exits with 1 where anything differs.
+ * The header against the library: every function of include/luck.h is called at accepted, refused and edge inputs, and every field of
+ * its answers and every byte of its outputs is compared with an answer of docs/REFUSALS.md or of document 01. It writes one line, and
+ * one to standard error for each difference, and exits with 1 where anything differs. It is C99 and C++.
  *
- *     cc -std=c99 -Wall -Wextra -Werror -Iinclude host/c/header.c target/staticlib/libluck.a -o header
+ *     cc -std=c99 -Wall -Wextra -Werror -Iinclude host/c/header.c target/staticlib/libluck.a -o target/header && target/header
+ *     c++ -x c++ -Wall -Wextra -Werror -Iinclude host/c/header.c -x none target/staticlib/libluck.a -o target/header && target/header
  */
 #include "luck.h"
 
 #include <stdio.h>
 #include <string.h>
 
+/* A text and its length, zero bytes included. */
+#define TEXT(text) text, sizeof(text) - 1
+
+#define TEN(byte) byte byte byte byte byte byte byte byte byte byte
+#define HUNDRED(bytes) TEN(TEN(bytes))
+
+enum { UNTOUCHED = 0xAA, ROOM = 8, AROUND = 2, ENOUGH = 1000000 };
+
+static const uint32_t no_versions[] = {0, 7, 256, UINT32_MAX};
+enum { NO_VERSIONS = sizeof no_versions / sizeof no_versions[0] };
+
 static int wrong = 0;
 static int asked = 0;
-
-static void same(const char *what, unsigned long long found, unsigned long long wanted)
-{
-    asked++;
-    if (found != wanted) {
-        wrong++;
-        printf("%s: %llu, not %llu\n", what, found, wanted);
-    }
-}
-
-static void answer(const char *what, luck_answer found, uint32_t number, uint32_t first, uint32_t second, size_t offset, size_t count)
-{
-    char line[80];
-    const char *name[5] = {"number", "first", "second", "offset", "count"};
-    const unsigned long long is[5] = {found.number, found.first, found.second, found.offset, found.count};
-    const unsigned long long be[5] = {number, first, second, offset, count};
-    for (int i = 0; i < 5; i++) {
-        snprintf(line, sizeof line, "%s: %s", what, name[i]);
-        same(line, is[i], be[i]);
-    }
-}
 
 static const uint8_t *bytes(const char *text)
 {
     return (const uint8_t *)text;
 }
 
+static void same(const char *what, const char *field, unsigned long long found, unsigned long long wanted)
+{
+    asked++;
+    if (found != wanted) {
+        wrong++;
+        fprintf(stderr, "%s: %s is %llu, not %llu\n", what, field, found, wanted);
+    }
+}
+
+/* ---- checks of bodies ---- */
+
+static void same_answer(const char *what, luck_answer found, luck_answer wanted)
+{
+    same(what, "number", found.number, wanted.number);
+    same(what, "first", found.first, wanted.first);
+    same(what, "second", found.second, wanted.second);
+    same(what, "offset", found.offset, wanted.offset);
+    same(what, "count", found.count, wanted.count);
+}
+
+/* The check of a kind; a replacement's pattern has one capture. */
+static luck_answer check(char kind, uint32_t version, const char *body, size_t len)
+{
+    switch (kind) {
+    case 'F': return luck_check_format(version, bytes(body), len);
+    case 'P': return luck_check_pattern(version, bytes(body), len);
+    case 'K': return luck_check_pack(version, bytes(body), len);
+    case 'S': return luck_check_packsize(version, bytes(body), len);
+    case 'D': return luck_check_date(version, bytes(body), len);
+    default: return luck_check_replacement(version, true, 1, bytes(body), len);
+    }
+}
+
+typedef struct {
+    const char *what;
+    char kind;
+    uint32_t version;
+    const char *body;
+    size_t len;
+    luck_answer answer; /* number, first, second, offset, count */
+} row;
+
+static const row accepted_rows[] = {
+    {"format %d%s", 'F', 1, TEXT("%d%s"), {0, 0, 0, 0, 2}},
+    {"format, five flags", 'F', 1, TEXT("%-----d"), {0, 0, 0, 0, 1}},
+    {"format %a of 5.2", 'F', 2, TEXT("%a"), {0, 0, 0, 0, 1}},
+    {"format %* of Luau", 'F', 6, TEXT("%*"), {0, 0, 0, 0, 1}},
+    {"format, NUL", 'F', 1, TEXT("\0%d"), {0, 0, 0, 0, 1}},
+    {"pattern ()%1", 'P', 1, TEXT("()%1"), {0, 0, 0, 0, 1}},
+    {"pattern []]", 'P', 1, TEXT("[]]"), {0, 0, 0, 0, 0}},
+    {"pattern, 32 captures", 'P', 1, TEXT(TEN("()()()") "()()"), {0, 0, 0, 0, 32}},
+    {"pattern, NUL", 'P', 1, TEXT("\0()"), {0, 0, 0, 0, 1}},
+    {"pack i4s", 'K', 3, TEXT("i4s"), {0, 0, 0, 0, 2}},
+    {"packsize i4c10b", 'S', 3, TEXT("i4c10b"), {0, 0, 0, 0, 3}},
+    {"date %Y", 'D', 2, TEXT("%Y"), {0, 0, 0, 0, 0}},
+    {"date %Q of 5.1", 'D', 1, TEXT("%Q"), {0, 0, 0, 0, 0}},
+    {"date, a final % of Luau", 'D', 6, TEXT("a%"), {0, 0, 0, 0, 0}},
+    {"replacement %0%1%%", 'G', 2, TEXT("%0%1%%"), {0, 0, 0, 0, 0}},
+    {"replacement %x of 5.1", 'G', 1, TEXT("%x"), {0, 0, 0, 0, 0}},
+};
+
+/* The smallest inputs of docs/REFUSALS.md, and edges. A fault's character is one byte wide. */
+static const row refused_rows[] = {
+    {"1 in a format", 'F', 1, TEXT("%"), {LUCK_TRUNCATED_SPECIFIER, 0, 0, 0, 0}},
+    {"2", 'F', 1, TEXT("%y"), {LUCK_UNKNOWN_SPECIFIER, 'y', 0, 1, 0}},
+    {"2, NUL", 'F', 1, TEXT("%\0"), {LUCK_UNKNOWN_SPECIFIER, 0, 0, 1, 0}},
+    {"3", 'F', 1, TEXT("%------d"), {LUCK_BAD_FLAG, '-', 0, 6, 0}},
+    {"4", 'F', 1, TEXT("%100d"), {LUCK_BAD_WIDTH, 0, 0, 1, 0}},
+    {"5", 'F', 1, TEXT("%.100d"), {LUCK_BAD_PRECISION, 0, 0, 2, 0}},
+    {"6", 'F', 4, TEXT("%#d"), {LUCK_BAD_MODIFIER, '#', 'd', 1, 0}},
+    {"7", 'F', 4, TEXT("%" TEN("00") "0d"), {LUCK_LONG_SPECIFIER, 0, 0, 1, 0}},
+    {"1 in a pattern", 'P', 1, TEXT("%"), {LUCK_TRUNCATED_SPECIFIER, 0, 0, 0, 0}},
+    {"8", 'P', 1, TEXT("[a"), {LUCK_UNTERMINATED_SET, 0, 0, 0, 0}},
+    {"9", 'P', 1, TEXT("[]"), {LUCK_EMPTY_SET, 0, 0, 0, 0}},
+    {"10", 'P', 1, TEXT("%f"), {LUCK_BAD_ESCAPE, 'f', 0, 0, 0}},
+    {"11, )", 'P', 1, TEXT(")"), {LUCK_UNMATCHED_CAPTURE, 0, 0, 0, 0}},
+    {"11, (", 'P', 1, TEXT("("), {LUCK_UNMATCHED_CAPTURE, 0, 0, 1, 0}},
+    {"11 after a NUL", 'P', 1, TEXT("\0("), {LUCK_UNMATCHED_CAPTURE, 0, 0, 2, 0}},
+    {"12", 'P', 1, TEXT(TEN("(((") "((("), {LUCK_TOO_MANY_CAPTURES, 0, 0, 32, 0}},
+    {"13", 'P', 1, TEXT("%1"), {LUCK_BAD_BACK_REFERENCE, 0, 0, 1, 0}},
+    {"14, y", 'K', 3, TEXT("y"), {LUCK_INVALID_PACK_OPTION, 'y', 0, 0, 0}},
+    {"14, b1", 'K', 3, TEXT("b1"), {LUCK_INVALID_PACK_OPTION, '1', 0, 1, 0}},
+    {"15", 'K', 3, TEXT("c"), {LUCK_TRUNCATED_PACK_SIZE, 0, 0, 1, 0}},
+    {"16", 'K', 3, TEXT("i17"), {LUCK_PACK_SIZE_LIMITS, 0, 0, 1, 0}},
+    {"17", 'K', 3, TEXT("!i3"), {LUCK_BAD_PACK_ALIGNMENT, 0, 0, 1, 0}},
+    {"18", 'S', 3, TEXT("s"), {LUCK_VARIABLE_LENGTH, 's', 0, 0, 0}},
+    {"14 in packsize", 'S', 3, TEXT("by"), {LUCK_INVALID_PACK_OPTION, 'y', 0, 1, 0}},
+    {"19 in a replacement", 'G', 2, TEXT("%"), {LUCK_LONE_PERCENT, 0, 0, 0, 0}},
+    {"20", 'G', 2, TEXT("%x"), {LUCK_BAD_REPLACEMENT, 0, 0, 1, 0}},
+    {"21", 'G', 2, TEXT("%2"), {LUCK_CAPTURE_INDEX, 0, 0, 1, 0}},
+    {"19 in a date", 'D', 2, TEXT("%"), {LUCK_LONE_PERCENT, 0, 0, 0, 0}},
+    {"22", 'D', 2, TEXT("%Q"), {LUCK_BAD_DATE_SPECIFIER, 0, 0, 1, 0}},
+};
+
+enum { ACCEPTED_ROWS = sizeof accepted_rows / sizeof accepted_rows[0], REFUSED_ROWS = sizeof refused_rows / sizeof refused_rows[0] };
+
+static const char kinds[] = "FPKSDG";
+
+static void check_bodies(void)
+{
+    const luck_answer none = {0, 0, 0, 0, 0};
+    const luck_answer not_utf8 = {LUCK_NOT_UTF8, 0, 0, 1, 0};
+    const luck_answer no_version = {LUCK_UNKNOWN_VERSION, 0, 0, 0, 0};
+    for (size_t i = 0; i < ACCEPTED_ROWS; i++) {
+        const row *at = &accepted_rows[i];
+        same_answer(at->what, check(at->kind, at->version, at->body, at->len), at->answer);
+    }
+    for (size_t i = 0; i < REFUSED_ROWS; i++) {
+        const row *at = &refused_rows[i];
+        same_answer(at->what, check(at->kind, at->version, at->body, at->len), at->answer);
+    }
+    for (const char *kind = kinds; *kind != 0; kind++) {
+        for (uint32_t version = 1; version <= 6; version++) {
+            same_answer("an empty text", check(*kind, version, NULL, 0), none);
+            same_answer("not UTF-8", check(*kind, version, TEXT("%\xFF")), not_utf8);
+            same_answer("cut off UTF-8", check(*kind, version, TEXT("%\xE2\x82")), not_utf8);
+            same_answer("a surrogate", check(*kind, version, TEXT("%\xED\xA0\x80")), not_utf8);
+        }
+        for (size_t i = 0; i < NO_VERSIONS; i++) {
+            same_answer("no version", check(*kind, no_versions[i], TEXT("%\xFF")), no_version);
+        }
+    }
+}
+
+static void check_captures(void)
+{
+    const luck_answer accepted = {0, 0, 0, 0, 0};
+    const luck_answer refused = {LUCK_CAPTURE_INDEX, 0, 0, 1, 0};
+    for (uint32_t version = 1; version <= 6; version++) {
+        same_answer("%2 of unknown", luck_check_replacement(version, false, 1, bytes("%2"), 2), accepted);
+        same_answer("%1 of 0", luck_check_replacement(version, true, 0, bytes("%1"), 2), accepted);
+        same_answer("%2 of 0", luck_check_replacement(version, true, 0, bytes("%2"), 2), refused);
+        same_answer("%2 of 2", luck_check_replacement(version, true, 2, bytes("%2"), 2), accepted);
+        same_answer("%9 of the most", luck_check_replacement(version, true, SIZE_MAX, bytes("%9"), 2), accepted);
+    }
+}
+
+/* ---- literals ---- */
+
+static void same_literal(const char *what, luck_literal found, luck_literal wanted)
+{
+    same(what, "literal's number", found.number, wanted.number);
+    same(what, "literal's first", found.first, wanted.first);
+    same(what, "literal's second", found.second, wanted.second);
+    same(what, "literal's skipped", found.skipped, wanted.skipped);
+    same(what, "literal's spanned", found.spanned, wanted.spanned);
+    same(what, "literal's start", found.start, wanted.start);
+    same(what, "literal's end", found.end, wanted.end);
+    same(what, "literal's offset", found.offset, wanted.offset);
+    same(what, "literal's count", found.count, wanted.count);
+}
+
+/* A row's body in quotes, at the offset 100 of a source. */
+static luck_literal check_quoted(const row *at)
+{
+    uint8_t text[80];
+    text[0] = '\'';
+    memcpy(text + 1, at->body, at->len);
+    text[1 + at->len] = '\'';
+    return luck_check_literal((uint8_t)at->kind, at->version, true, 1, 100, text, at->len + 2);
+}
+
+static void check_rows_as_literals(void)
+{
+    for (size_t i = 0; i < ACCEPTED_ROWS; i++) {
+        const row *at = &accepted_rows[i];
+        const luck_literal wanted = {0, 0, 0, false, false, 0, 0, 0, at->answer.count};
+        same_literal(at->what, check_quoted(at), wanted);
+    }
+    for (size_t i = 0; i < REFUSED_ROWS; i++) {
+        const row *at = &refused_rows[i];
+        const uint32_t start = (uint32_t)(101 + at->answer.offset);
+        const luck_literal wanted = {at->answer.number, at->answer.first, at->answer.second, false, true, start, start + 1,
+                                     at->answer.offset, 0};
+        same_literal(at->what, check_quoted(at), wanted);
+    }
+}
+
+/* A literal at the offset `start`, with a count of captures that is not known. */
+static luck_literal check_text(char kind, uint32_t version, uint32_t start, const char *text, size_t len)
+{
+    return luck_check_literal((uint8_t)kind, version, false, 0, start, bytes(text), len);
+}
+
+static void check_literals(void)
+{
+    const luck_literal none = {0, 0, 0, false, false, 0, 0, 0, 0};
+    const luck_literal skipped = {0, 0, 0, true, false, 0, 0, 0, 0};
+    const luck_literal wide = {LUCK_UNKNOWN_SPECIFIER, 0xE9, 0, false, true, 102, 104, 1, 0};
+    const luck_literal last = {LUCK_UNKNOWN_SPECIFIER, 'y', 0, false, true, UINT32_MAX - 1, UINT32_MAX, 1, 0};
+    const luck_literal beyond = {LUCK_UNKNOWN_SPECIFIER, 'y', 0, false, true, UINT32_MAX, UINT32_MAX, 1, 0};
+    const luck_literal not_utf8 = {LUCK_NOT_UTF8, 0, 0, false, false, 0, 0, 2, 0};
+    const luck_literal no_version = {LUCK_UNKNOWN_VERSION, 0, 0, false, false, 0, 0, 0, 0};
+    const luck_literal no_kind = {LUCK_UNKNOWN_KIND, 0, 0, false, false, 0, 0, 0, 0};
+
+    same_literal("nothing", check_text('F', 4, 100, NULL, 0), skipped);
+    same_literal("one quote", check_text('F', 4, 100, TEXT("'")), skipped);
+    same_literal("two quotes", check_text('F', 4, 100, TEXT("''")), none);
+    same_literal("two different quotes", check_text('F', 4, 100, TEXT("'%y\"")), skipped);
+    same_literal("long brackets", check_text('F', 4, 100, TEXT("[[%y]]")), skipped);
+    same_literal("a number escape", check_text('F', 4, 100, TEXT("'%y\\65'")), skipped);
+    same_literal("a captures' count that is not known", check_text('G', 4, 100, TEXT("'%9'")), none);
+    same_literal("two bytes wide", check_text('F', 4, 100, TEXT("'%\xC3\xA9'")), wide);
+    same_literal("the last place", check_text('F', 4, UINT32_MAX - 3, TEXT("'%y'")), last);
+    same_literal("one place too far", check_text('F', 4, UINT32_MAX - 2, TEXT("'%y'")), beyond);
+    same_literal("the start too far", check_text('F', 4, UINT32_MAX, TEXT("'%y'")), beyond);
+    same_literal("a literal, not UTF-8", check_text('F', 4, 100, TEXT("'%\xFF'")), not_utf8);
+    same_literal("long brackets, not UTF-8", check_text('F', 4, 100, TEXT("[[\xFF]]")), not_utf8);
+    for (size_t i = 0; i < NO_VERSIONS; i++) {
+        same_literal("a literal of no version", check_text('F', no_versions[i], 100, TEXT("'\xFF'")), no_version);
+        same_literal("a literal of no kind and no version", check_text('Z', no_versions[i], 100, TEXT("'\xFF'")), no_kind);
+    }
+    for (int kind = 0; kind <= UINT8_MAX; kind++) {
+        if (kind == 0 || strchr(kinds, kind) == NULL) {
+            same_literal("a literal of no kind", luck_check_literal((uint8_t)kind, 4, true, 1, 100, bytes("'%y'"), 4), no_kind);
+        }
+    }
+}
+
+/* ---- outputs ---- */
+
+/* The inner ROOM bytes are lent. */
+static uint8_t buffer[AROUND + ROOM + AROUND];
+
+static uint8_t *untouched(void)
+{
+    memset(buffer, UNTOUCHED, sizeof buffer);
+    return buffer + AROUND;
+}
+
+/* The written bytes stand at the front of what was lent, and all others are as they were. */
+static void same_output(const char *what, const char *written, size_t len)
+{
+    uint8_t wanted[sizeof buffer];
+    memset(wanted, UNTOUCHED, sizeof wanted);
+    memcpy(wanted + AROUND, written, len);
+    same(what, "output, by memcmp,", (unsigned long long)(memcmp(buffer, wanted, sizeof buffer) != 0), 0);
+}
+
+static void decode(uint32_t version, const char *text, size_t len, size_t room, luck_decoded wanted, const char *value)
+{
+    const luck_decoded found = luck_decode_string(version, bytes(text), len, untouched(), room);
+    same(text, "decoded number", found.number, wanted.number);
+    same(text, "decoded offset", found.offset, wanted.offset);
+    same(text, "decoded written", found.written, wanted.written);
+    same_output(text, value, wanted.written);
+}
+
+static void check_decoding(void)
+{
+    const luck_decoded empty = {0, 0, 0};
+    const luck_decoded two = {0, 0, 2};
+    const luck_decoded not_utf8 = {LUCK_NOT_UTF8, 3, 0};
+    const luck_decoded undecodable = {LUCK_UNDECODABLE, 0, 0};
+    const luck_decoded no_version = {LUCK_UNKNOWN_VERSION, 0, 0};
+    const luck_decoded too_short = {LUCK_OUTPUT_TOO_SHORT, 0, 0};
+
+    for (uint32_t version = 1; version <= 6; version++) {
+        decode(version, TEXT("\"a\\n\""), ROOM, two, "a\n");
+        decode(version, TEXT("'\\0\\255'"), ROOM, two, "\0\xFF");
+        decode(version, TEXT("[=[\nab]=]"), ROOM, two, "ab");
+        decode(version, TEXT("'ab'"), 2, two, "ab");
+        decode(version, TEXT("''"), 0, empty, "");
+        decode(version, TEXT("'ab'"), 1, too_short, "");
+        decode(version, TEXT("'ab'"), 0, too_short, "");
+        decode(version, TEXT("'ab"), ROOM, undecodable, "");
+        decode(version, TEXT(""), ROOM, undecodable, "");
+        decode(version, TEXT("'ab\xFF"), 1, not_utf8, "");
+    }
+    decode(2, TEXT("\"ab\\q\""), ROOM, undecodable, "");
+    decode(2, TEXT("\"ab\\q\""), 1, undecodable, "");
+    decode(1, TEXT("\"a\\q\""), ROOM, two, "aq");
+    for (size_t i = 0; i < NO_VERSIONS; i++) {
+        decode(no_versions[i], TEXT("'ab\xFF"), ROOM, no_version, "");
+    }
+    same("nulls", "decoded number", luck_decode_string(4, NULL, 0, NULL, 0).number, LUCK_UNDECODABLE);
+    same("nulls", "decoded number", luck_decode_string(4, bytes("''"), 2, NULL, 0).number, 0);
+}
+
+/* ---- trials ---- */
+
+typedef struct {
+    const char *what;
+    uint32_t version;
+    const char *subject;
+    size_t subject_len;
+    const char *pattern;
+    size_t pattern_len;
+    const char *replacement;
+    size_t replacement_len;
+    uint32_t budget;
+    size_t room;
+    luck_trial answer; /* number, kind, written, replacements, steps */
+    const char *output;
+} trial_row;
+
+static const trial_row trial_rows[] = {
+    {"two matches", 4, TEXT("aba"), TEXT("a"), TEXT("x"), ENOUGH, ROOM, {0, 0, 3, 2, 6}, "xbx"},
+    {"%w*", 4, TEXT("abc"), TEXT("%w*"), TEXT("x"), ENOUGH, ROOM, {0, 0, 1, 1, 7}, "x"},
+    {"a*", 4, TEXT("aaa"), TEXT("a*"), TEXT("x"), ENOUGH, ROOM, {0, 0, 1, 1, 7}, "x"},
+    {"a-b", 4, TEXT("aab"), TEXT("a-b"), TEXT("x"), ENOUGH, ROOM, {0, 0, 1, 1, 8}, "x"},
+    {"nothing", 4, TEXT(""), TEXT(""), TEXT(""), ENOUGH, ROOM, {0, 0, 0, 1, 2}, ""},
+    {"nothing, no room", 4, TEXT(""), TEXT(""), TEXT(""), ENOUGH, 0, {0, 0, 0, 1, 2}, ""},
+    {"any bytes", 4, TEXT("\0\xFF" "a"), TEXT("[%z\xFF]"), TEXT("\xFE\0"), ENOUGH, ROOM, {0, 0, 5, 2, 6}, "\xFE\0\xFE\0a"},
+    {"the exact room", 4, TEXT("a"), TEXT("a"), TEXT("xx"), ENOUGH, 2, {0, 0, 2, 1, 3}, "xx"},
+    {"the exact budget", 4, TEXT("a"), TEXT("a"), TEXT("x"), 3, ROOM, {0, 0, 1, 1, 3}, "x"},
+    {"the largest budget", 4, TEXT("a"), TEXT("a"), TEXT("x"), UINT32_MAX, ROOM, {0, 0, 1, 1, 3}, "x"},
+    {"26", 4, TEXT("a"), TEXT("a"), TEXT("xx"), ENOUGH, 1, {LUCK_OUTPUT_TOO_SHORT, 0, 1, 1, 2}, "x"},
+    {"26, no room", 4, TEXT("a"), TEXT("a"), TEXT("xx"), ENOUGH, 0, {LUCK_OUTPUT_TOO_SHORT, 0, 0, 1, 2}, ""},
+    {"27", 4, TEXT("a"), TEXT("a"), TEXT("x"), 2, ROOM, {LUCK_STEPS_SPENT, 0, 1, 1, 2}, "x"},
+    {"27, budget 0", 4, TEXT("a"), TEXT("a"), TEXT("x"), 0, ROOM, {LUCK_STEPS_SPENT, 0, 0, 0, 0}, ""},
+    {"27 before 29", 4, TEXT(""), TEXT(")"), TEXT(""), 0, ROOM, {LUCK_STEPS_SPENT, 0, 0, 0, 0}, ""},
+    {"28", 4, TEXT(HUNDRED("aa")), TEXT(HUNDRED("a?a?")), TEXT("x"), ENOUGH, ROOM, {LUCK_TOO_DEEP, 0, 0, 0, 200}, ""},
+    {"28, budget 199", 4, TEXT(HUNDRED("aa")), TEXT(HUNDRED("a?a?")), TEXT("x"), 199, ROOM, {LUCK_STEPS_SPENT, 0, 0, 0, 199}, ""},
+    {"29, kind 1", 4, TEXT(""), TEXT("%"), TEXT(""), ENOUGH, ROOM, {LUCK_RAISED, 1, 0, 0, 1}, ""},
+    {"29, kind 2", 4, TEXT(""), TEXT("["), TEXT(""), ENOUGH, ROOM, {LUCK_RAISED, 2, 0, 0, 1}, ""},
+    {"29, kind 3", 4, TEXT(""), TEXT("%f"), TEXT(""), ENOUGH, ROOM, {LUCK_RAISED, 3, 0, 0, 1}, ""},
+    {"29, kind 4", 4, TEXT(""), TEXT("%b"), TEXT(""), ENOUGH, ROOM, {LUCK_RAISED, 4, 0, 0, 1}, ""},
+    {"29, kind 5", 4, TEXT(""), TEXT(")"), TEXT(""), ENOUGH, ROOM, {LUCK_RAISED, 5, 0, 0, 1}, ""},
+    {"29, kind 6", 4, TEXT(""), TEXT("("), TEXT("%1"), ENOUGH, ROOM, {LUCK_RAISED, 6, 0, 1, 2}, ""},
+    {"29, kind 7", 4, TEXT(""), TEXT("%1"), TEXT(""), ENOUGH, ROOM, {LUCK_RAISED, 7, 0, 0, 1}, ""},
+    {"29, kind 8", 4, TEXT(""), TEXT(TEN("(((") "((("), TEXT(""), ENOUGH, ROOM, {LUCK_RAISED, 8, 0, 0, 33}, ""},
+    {"29, kind 9", 4, TEXT(""), TEXT(""), TEXT("%"), ENOUGH, ROOM, {LUCK_RAISED, 9, 0, 1, 1}, ""},
+    {"29, kind 10", 4, TEXT(""), TEXT(""), TEXT("%2"), ENOUGH, ROOM, {LUCK_RAISED, 10, 0, 1, 1}, ""},
+    {"29 after two bytes", 4, TEXT("ab"), TEXT("(b)"), TEXT("x%2"), ENOUGH, ROOM, {LUCK_RAISED, 10, 2, 1, 6}, "ax"},
+    {"a final % of 5.1", 1, TEXT(""), TEXT(""), TEXT("%"), ENOUGH, ROOM, {0, 0, 1, 1, 2}, "\0"},
+    {"version 0", 0, TEXT("a"), TEXT("a"), TEXT("x"), ENOUGH, ROOM, {LUCK_UNKNOWN_VERSION, 0, 0, 0, 0}, ""},
+    {"version 7", 7, TEXT("a"), TEXT(")"), TEXT("x"), 0, 0, {LUCK_UNKNOWN_VERSION, 0, 0, 0, 0}, ""},
+    {"the largest version", UINT32_MAX, TEXT("a"), TEXT("a"), TEXT("x"), ENOUGH, ROOM, {LUCK_UNKNOWN_VERSION, 0, 0, 0, 0}, ""},
+};
+
+static void same_trial(const char *what, luck_trial found, luck_trial wanted)
+{
+    same(what, "trial's number", found.number, wanted.number);
+    same(what, "trial's kind", found.kind, wanted.kind);
+    same(what, "trial's written", found.written, wanted.written);
+    same(what, "trial's replacements", found.replacements, wanted.replacements);
+    same(what, "trial's steps", found.steps, wanted.steps);
+}
+
+static void check_trials(void)
+{
+    const luck_trial nothing = {0, 0, 0, 1, 2};
+    for (size_t i = 0; i < sizeof trial_rows / sizeof trial_rows[0]; i++) {
+        const trial_row *at = &trial_rows[i];
+        same_trial(at->what,
+                   luck_gsub_trial(at->version, bytes(at->pattern), at->pattern_len, bytes(at->replacement), at->replacement_len,
+                                   bytes(at->subject), at->subject_len, at->budget, untouched(), at->room),
+                   at->answer);
+        same_output(at->what, at->output, at->answer.written);
+    }
+    same_trial("nulls", luck_gsub_trial(4, NULL, 0, NULL, 0, NULL, 0, 100, NULL, 0), nothing);
+}
+
 int main(void)
 {
-    answer("format %d%s", luck_check_format(1, bytes("%d%s"), 4), LUCK_ACCEPTED, 0, 0, 0, 2);
-    answer("format %#d", luck_check_format(4, bytes("%#d"), 3), LUCK_BAD_MODIFIER, '#', 'd', 1, 0);
-    answer("pattern ()%1", luck_check_pattern(1, bytes("()%1"), 4), LUCK_ACCEPTED, 0, 0, 0, 1);
-    answer("pattern (a%1)", luck_check_pattern(1, bytes("(a%1)"), 5), LUCK_BAD_BACK_REFERENCE, 0, 0, 3, 0);
-    answer("pack i4s", luck_check_pack(3, bytes("i4s"), 3), LUCK_ACCEPTED, 0, 0, 0, 2);
-    answer("pack !8i3", luck_check_pack(3, bytes("!8i3"), 4), LUCK_BAD_PACK_ALIGNMENT, 0, 0, 2, 0);
-    answer("packsize bz", luck_check_packsize(3, bytes("bz"), 2), LUCK_VARIABLE_LENGTH, 'z', 0, 1, 0);
-    answer("date %Q", luck_check_date(2, bytes("%Q"), 2), LUCK_BAD_DATE_SPECIFIER, 0, 0, 1, 0);
-    answer("replacement %2 of 1", luck_check_replacement(2, true, 1, bytes("%2"), 2), LUCK_CAPTURE_INDEX, 0, 0, 1, 0);
-    answer("replacement %2 of unknown", luck_check_replacement(2, false, 1, bytes("%2"), 2), LUCK_ACCEPTED, 0, 0, 0, 0);
-    answer("no version", luck_check_pattern(7, NULL, 0), LUCK_UNKNOWN_VERSION, 0, 0, 0, 0);
-    answer("not UTF-8", luck_check_pattern(1, bytes("a\xFF"), 2), LUCK_NOT_UTF8, 0, 0, 1, 0);
-
-    luck_literal fault = luck_check_literal('F', 4, false, 0, 100, bytes("'ab%#d'"), 7);
-    same("literal: number", fault.number, LUCK_BAD_MODIFIER);
-    same("literal: first", fault.first, '#');
-    same("literal: second", fault.second, 'd');
-    same("literal: skipped", fault.skipped, false);
-    same("literal: spanned", fault.spanned, true);
-    same("literal: start", fault.start, 104);
-    same("literal: end", fault.end, 105);
-    same("literal: offset", fault.offset, 3);
-    same("literal: count", fault.count, 0);
-    luck_literal skipped = luck_check_literal('F', 4, false, 0, 100, bytes("'\\65'"), 5);
-    same("skipped literal: skipped", skipped.skipped, true);
-    same("skipped literal: spanned", skipped.spanned, false);
-    luck_literal accepted = luck_check_literal('P', 4, false, 0, 100, bytes("'(a)'"), 5);
-    same("accepted literal: count", accepted.count, 1);
-
-    uint8_t output[8];
-    memset(output, 0xAA, sizeof output);
-    luck_decoded value = luck_decode_string(2, bytes("\"a\\n\""), 5, output, sizeof output);
-    same("decoded: number", value.number, 0);
-    same("decoded: offset", value.offset, 0);
-    same("decoded: written", value.written, 2);
-    same("decoded: bytes", (unsigned long long)memcmp(output, "a\n\xAA\xAA\xAA\xAA\xAA\xAA", sizeof output), 0);
-    luck_decoded cut = luck_decode_string(2, bytes("\"\xFF\""), 3, output, sizeof output);
-    same("not decoded: number", cut.number, LUCK_NOT_UTF8);
-    same("not decoded: offset", cut.offset, 1);
-
-    memset(output, 0xAA, sizeof output);
-    luck_trial trial = luck_gsub_trial(4, bytes("a"), 1, bytes("x"), 1, bytes("aba"), 3, 100, output, sizeof output);
-    same("trial: number", trial.number, 0);
-    same("trial: kind", trial.kind, 0);
-    same("trial: written", trial.written, 3);
-    same("trial: replacements", trial.replacements, 2);
-    same("trial: steps", trial.steps, 6);
-    same("trial: bytes", (unsigned long long)memcmp(output, "xbx\xAA\xAA\xAA\xAA\xAA", sizeof output), 0);
-    luck_trial raised = luck_gsub_trial(4, bytes(")"), 1, NULL, 0, NULL, 0, 100, NULL, 0);
-    same("raised trial: number", raised.number, LUCK_RAISED);
-    same("raised trial: kind", raised.kind, 5);
-    same("raised trial: steps", raised.steps, 1);
-
+    check_bodies();
+    check_captures();
+    check_rows_as_literals();
+    check_literals();
+    check_decoding();
+    check_trials();
     printf("include/luck.h: %d values of the library compared, %d differ\n", asked, wrong);
     return wrong == 0 ? 0 : 1;
 }
