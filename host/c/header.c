@@ -19,7 +19,7 @@
 
 enum { UNTOUCHED = 0xAA, ROOM = 8, AROUND = 2, ENOUGH = 1000000 };
 
-static const uint32_t no_versions[] = {0, 7, 256, UINT32_MAX};
+static const uint32_t no_versions[] = {0, 7, 257, UINT32_MAX};
 enum { NO_VERSIONS = sizeof no_versions / sizeof no_versions[0] };
 
 static int wrong = 0;
@@ -112,16 +112,20 @@ static const row refused_rows[] = {
     {"13", 'P', 1, TEXT("%1"), {LUCK_BAD_BACK_REFERENCE, 0, 0, 1, 0}},
     {"14, y", 'K', 3, TEXT("y"), {LUCK_INVALID_PACK_OPTION, 'y', 0, 0, 0}},
     {"14, b1", 'K', 3, TEXT("b1"), {LUCK_INVALID_PACK_OPTION, '1', 0, 1, 0}},
+    {"14, NUL", 'K', 3, TEXT("b\0"), {LUCK_INVALID_PACK_OPTION, 0, 0, 1, 0}},
     {"15", 'K', 3, TEXT("c"), {LUCK_TRUNCATED_PACK_SIZE, 0, 0, 1, 0}},
     {"16", 'K', 3, TEXT("i17"), {LUCK_PACK_SIZE_LIMITS, 0, 0, 1, 0}},
     {"17", 'K', 3, TEXT("!i3"), {LUCK_BAD_PACK_ALIGNMENT, 0, 0, 1, 0}},
     {"18", 'S', 3, TEXT("s"), {LUCK_VARIABLE_LENGTH, 's', 0, 0, 0}},
     {"14 in packsize", 'S', 3, TEXT("by"), {LUCK_INVALID_PACK_OPTION, 'y', 0, 1, 0}},
+    {"14 in packsize, NUL", 'S', 3, TEXT("b\0"), {LUCK_INVALID_PACK_OPTION, 0, 0, 1, 0}},
     {"19 in a replacement", 'G', 2, TEXT("%"), {LUCK_LONE_PERCENT, 0, 0, 0, 0}},
     {"20", 'G', 2, TEXT("%x"), {LUCK_BAD_REPLACEMENT, 0, 0, 1, 0}},
+    {"20 after a NUL", 'G', 2, TEXT("\0%x"), {LUCK_BAD_REPLACEMENT, 0, 0, 2, 0}},
     {"21", 'G', 2, TEXT("%2"), {LUCK_CAPTURE_INDEX, 0, 0, 1, 0}},
     {"19 in a date", 'D', 2, TEXT("%"), {LUCK_LONE_PERCENT, 0, 0, 0, 0}},
     {"22", 'D', 2, TEXT("%Q"), {LUCK_BAD_DATE_SPECIFIER, 0, 0, 1, 0}},
+    {"22 after a NUL", 'D', 2, TEXT("\0%Q"), {LUCK_BAD_DATE_SPECIFIER, 0, 0, 2, 0}},
 };
 
 enum { ACCEPTED_ROWS = sizeof accepted_rows / sizeof accepted_rows[0], REFUSED_ROWS = sizeof refused_rows / sizeof refused_rows[0] };
@@ -231,7 +235,8 @@ static void check_literals(void)
     same_literal("two different quotes", check_text('F', 4, 100, TEXT("'%y\"")), skipped);
     same_literal("long brackets", check_text('F', 4, 100, TEXT("[[%y]]")), skipped);
     same_literal("a number escape", check_text('F', 4, 100, TEXT("'%y\\65'")), skipped);
-    same_literal("a captures' count that is not known", check_text('G', 4, 100, TEXT("'%9'")), none);
+    same_literal("%9 of unknown", check_text('G', 4, 100, TEXT("'%9'")), none);
+    same_literal("%9 of the most", luck_check_literal('G', 4, true, SIZE_MAX, 100, bytes("'%9'"), 4), none);
     same_literal("two bytes wide", check_text('F', 4, 100, TEXT("'%\xC3\xA9'")), wide);
     same_literal("the last place", check_text('F', 4, UINT32_MAX - 3, TEXT("'%y'")), last);
     same_literal("one place too far", check_text('F', 4, UINT32_MAX - 2, TEXT("'%y'")), beyond);
@@ -269,13 +274,13 @@ static void same_output(const char *what, const char *written, size_t len)
     same(what, "output, by memcmp,", (unsigned long long)(memcmp(buffer, wanted, sizeof buffer) != 0), 0);
 }
 
-static void decode(uint32_t version, const char *text, size_t len, size_t room, luck_decoded wanted, const char *value)
+static void decode(const char *what, uint32_t version, const char *text, size_t len, size_t room, luck_decoded wanted, const char *value)
 {
     const luck_decoded found = luck_decode_string(version, bytes(text), len, untouched(), room);
-    same(text, "decoded number", found.number, wanted.number);
-    same(text, "decoded offset", found.offset, wanted.offset);
-    same(text, "decoded written", found.written, wanted.written);
-    same_output(text, value, wanted.written);
+    same(what, "decoded number", found.number, wanted.number);
+    same(what, "decoded offset", found.offset, wanted.offset);
+    same(what, "decoded written", found.written, wanted.written);
+    same_output(what, value, wanted.written);
 }
 
 static void check_decoding(void)
@@ -288,22 +293,23 @@ static void check_decoding(void)
     const luck_decoded too_short = {LUCK_OUTPUT_TOO_SHORT, 0, 0};
 
     for (uint32_t version = 1; version <= 6; version++) {
-        decode(version, TEXT("\"a\\n\""), ROOM, two, "a\n");
-        decode(version, TEXT("'\\0\\255'"), ROOM, two, "\0\xFF");
-        decode(version, TEXT("[=[\nab]=]"), ROOM, two, "ab");
-        decode(version, TEXT("'ab'"), 2, two, "ab");
-        decode(version, TEXT("''"), 0, empty, "");
-        decode(version, TEXT("'ab'"), 1, too_short, "");
-        decode(version, TEXT("'ab'"), 0, too_short, "");
-        decode(version, TEXT("'ab"), ROOM, undecodable, "");
-        decode(version, TEXT(""), ROOM, undecodable, "");
-        decode(version, TEXT("'ab\xFF"), 1, not_utf8, "");
+        decode("an escape", version, TEXT("\"a\\n\""), ROOM, two, "a\n");
+        decode("numbers", version, TEXT("'\\0\\255'"), ROOM, two, "\0\xFF");
+        decode("NUL", version, TEXT("'\0b'"), ROOM, two, "\0b");
+        decode("long brackets", version, TEXT("[=[\nab]=]"), ROOM, two, "ab");
+        decode("the exact room", version, TEXT("'ab'"), 2, two, "ab");
+        decode("an empty value, no room", version, TEXT("''"), 0, empty, "");
+        decode("26", version, TEXT("'ab'"), 1, too_short, "");
+        decode("26, no room", version, TEXT("'ab'"), 0, too_short, "");
+        decode("24, no second quote", version, TEXT("'ab"), ROOM, undecodable, "");
+        decode("24, nothing", version, TEXT(""), ROOM, undecodable, "");
+        decode("23 before 24 and 26", version, TEXT("'ab\xFF"), 1, not_utf8, "");
     }
-    decode(2, TEXT("\"ab\\q\""), ROOM, undecodable, "");
-    decode(2, TEXT("\"ab\\q\""), 1, undecodable, "");
-    decode(1, TEXT("\"a\\q\""), ROOM, two, "aq");
+    decode("24", 2, TEXT("\"ab\\q\""), ROOM, undecodable, "");
+    decode("24 before 26", 2, TEXT("\"ab\\q\""), 1, undecodable, "");
+    decode("an escape that 5.1 takes", 1, TEXT("\"a\\q\""), ROOM, two, "aq");
     for (size_t i = 0; i < NO_VERSIONS; i++) {
-        decode(no_versions[i], TEXT("'ab\xFF"), ROOM, no_version, "");
+        decode("25 before 23", no_versions[i], TEXT("'ab\xFF"), ROOM, no_version, "");
     }
     same("nulls", "decoded number", luck_decode_string(4, NULL, 0, NULL, 0).number, LUCK_UNDECODABLE);
     same("nulls", "decoded number", luck_decode_string(4, bytes("''"), 2, NULL, 0).number, 0);
@@ -334,6 +340,7 @@ static const trial_row trial_rows[] = {
     {"nothing", 4, TEXT(""), TEXT(""), TEXT(""), ENOUGH, ROOM, {0, 0, 0, 1, 2}, ""},
     {"nothing, no room", 4, TEXT(""), TEXT(""), TEXT(""), ENOUGH, 0, {0, 0, 0, 1, 2}, ""},
     {"any bytes", 4, TEXT("\0\xFF" "a"), TEXT("[%z\xFF]"), TEXT("\xFE\0"), ENOUGH, ROOM, {0, 0, 5, 2, 6}, "\xFE\0\xFE\0a"},
+    {"NUL in a pattern", 4, TEXT("a\0b"), TEXT("\0b"), TEXT("x"), ENOUGH, ROOM, {0, 0, 2, 1, 5}, "ax"},
     {"the exact room", 4, TEXT("a"), TEXT("a"), TEXT("xx"), ENOUGH, 2, {0, 0, 2, 1, 3}, "xx"},
     {"the exact budget", 4, TEXT("a"), TEXT("a"), TEXT("x"), 3, ROOM, {0, 0, 1, 1, 3}, "x"},
     {"the largest budget", 4, TEXT("a"), TEXT("a"), TEXT("x"), UINT32_MAX, ROOM, {0, 0, 1, 1, 3}, "x"},
@@ -358,6 +365,7 @@ static const trial_row trial_rows[] = {
     {"a final % of 5.1", 1, TEXT(""), TEXT(""), TEXT("%"), ENOUGH, ROOM, {0, 0, 1, 1, 2}, "\0"},
     {"version 0", 0, TEXT("a"), TEXT("a"), TEXT("x"), ENOUGH, ROOM, {LUCK_UNKNOWN_VERSION, 0, 0, 0, 0}, ""},
     {"version 7", 7, TEXT("a"), TEXT(")"), TEXT("x"), 0, 0, {LUCK_UNKNOWN_VERSION, 0, 0, 0, 0}, ""},
+    {"version 257", 257, TEXT("a"), TEXT("a"), TEXT("x"), ENOUGH, ROOM, {LUCK_UNKNOWN_VERSION, 0, 0, 0, 0}, ""},
     {"the largest version", UINT32_MAX, TEXT("a"), TEXT("a"), TEXT("x"), ENOUGH, ROOM, {LUCK_UNKNOWN_VERSION, 0, 0, 0, 0}, ""},
 };
 

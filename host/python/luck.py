@@ -34,6 +34,9 @@ from typing import Any, List, NamedTuple, Optional, Tuple, Type, Union
 
 Path = Union[str, "os.PathLike[str]"]
 
+# What decoding and the trial write to. A memoryview has to be writable and without gaps.
+Output = Union[bytearray, memoryview]
+
 UINT32_MAX = 2**32 - 1
 SIZE_MAX = 2 ** (8 * ctypes.sizeof(ctypes.c_size_t)) - 1
 
@@ -213,11 +216,12 @@ def _captures(count: Optional[int]) -> Tuple[bool, int]:
     return True, _number("captures", count, SIZE_MAX)
 
 
-def _output(value: bytearray) -> Tuple[Any, int]:
-    """A lent output and its room. While the first is alive, the bytearray can't change its length."""
-    if not isinstance(value, bytearray):
-        raise TypeError(f"output is {type(value).__name__}, not bytearray")
-    return (ctypes.c_uint8 * len(value)).from_buffer(value), len(value)
+def _output(value: Output) -> Tuple[Any, int]:
+    """A lent output and its room. While the first is alive, a bytearray can't change its length."""
+    if not isinstance(value, (bytearray, memoryview)):
+        raise TypeError(f"output is {type(value).__name__}, not bytearray or memoryview")
+    room = memoryview(value).nbytes
+    return (ctypes.c_uint8 * room).from_buffer(value), room
 
 
 def _check(function: Any, version: int, body: bytes) -> Answer:
@@ -295,7 +299,7 @@ class Luck:
         number, offset, written = self.decode_string_into(version, text, output)
         return Decoded(number, offset, bytes(output[:written]))
 
-    def decode_string_into(self, version: int, text: bytes, output: bytearray) -> DecodedInto:
+    def decode_string_into(self, version: int, text: bytes, output: Output) -> DecodedInto:
         """Writes the bytes that a literal stands for to the front of `output`; the rest of it stays as it was."""
         lent, room = _output(output)
         answer = self._library.luck_decode_string(_version(version), *_text("text", text), lent, room)
@@ -308,7 +312,7 @@ class Luck:
         return Trial(answer.number, answer.kind, bytes(output[: answer.written]), answer.replacements, answer.steps)
 
     def gsub_trial_into(
-        self, version: int, pattern: bytes, replacement: bytes, subject: bytes, budget: int, output: bytearray
+        self, version: int, pattern: bytes, replacement: bytes, subject: bytes, budget: int, output: Output
     ) -> TrialInto:
         """The same, to the front of `output`; the rest of it stays as it was.
 

@@ -18,6 +18,7 @@ import tempfile
 import threading
 import unittest
 from pathlib import Path
+from typing import Tuple
 
 import luck as module
 from luck import SIZE_MAX, UINT32_MAX, Answer, Decoded, DecodedInto, Literal, Luck, Number, Trial, TrialInto, make_shared_object
@@ -25,7 +26,7 @@ from luck import SIZE_MAX, UINT32_MAX, Answer, Decoded, DecodedInto, Literal, Lu
 ROOT = Path(__file__).resolve().parent.parent.parent
 ARCHIVE = ROOT / os.environ.get("LUCK_LIB", "target/staticlib") / "libluck.a"
 VERSIONS = range(1, 7)
-NO_VERSIONS = (0, 7, 256, UINT32_MAX)
+NO_VERSIONS = (0, 7, 257, UINT32_MAX)
 ENOUGH = 1_000_000
 UNTOUCHED = b"\xAA"
 
@@ -82,6 +83,17 @@ REFUSALS = [
     (b"D", 2, b"%Q", 22, 1, ""),
     (b"F", 1, b"\xFF", 23, 0, ""),
 ]
+
+
+def lend(room: int) -> Tuple[bytearray, memoryview]:
+    """A buffer, and its inner `room` bytes."""
+    buffer = bytearray(UNTOUCHED * (2 + room + 2))
+    return buffer, memoryview(buffer)[2 : 2 + room]
+
+
+def written(room: int, front: bytes) -> bytes:
+    """The buffer after `front` was written to the inner bytes."""
+    return UNTOUCHED * 2 + front + UNTOUCHED * (room - len(front) + 2)
 
 
 def accepted(count: int) -> Answer:
@@ -208,6 +220,7 @@ class Literals(unittest.TestCase):
             (b"F", 100, b"'ab%#d'", (104, 105)),
             (b"F", 0, "'%é'".encode(), (2, 4)),
             (b"F", 0, "'%\U0001F600'".encode(), (2, 6)),
+            (b"F", 0, b"'\0%\0'", (3, 4)),
             (b"P", 7, b"'('", (9, 10)),
             (b"F", UINT32_MAX - 3, b"'%y'", (UINT32_MAX - 1, UINT32_MAX)),
             (b"F", UINT32_MAX - 2, b"'%y'", (UINT32_MAX, UINT32_MAX)),
@@ -230,12 +243,9 @@ class Literals(unittest.TestCase):
         for kind, version, text, number, offset in [
             (b"F", 4, b"'%\xFF'", 23, 2),
             (b"F", 4, b"[[\xFF]]", 23, 2),
-            (b"F", 7, b"'%\xFF'", 25, 0),
-            (b"F", UINT32_MAX, b"'%y'", 25, 0),
-            (b"Z", 4, b"'%y'", 30, 0),
-            (b"Z", 7, b"'%\xFF'", 30, 0),
-            (b"\0", 4, b"''", 30, 0),
-            (b"\xFF", 4, b"''", 30, 0),
+            *((b"F", version, b"'%\xFF'", 25, 0) for version in NO_VERSIONS),
+            *((b"Z", version, b"'%\xFF'", 30, 0) for version in NO_VERSIONS),
+            *((bytes([kind]), 4, b"'%y'", 30, 0) for kind in range(256) if kind not in b"FPKSGD"),
         ]:
             wanted = Literal(number, 0, 0, False, False, 0, 0, offset, 0)
             self.assertEqual(luck.check_literal(kind, version, None, 100, text), wanted)
@@ -284,15 +294,20 @@ class Decoding(unittest.TestCase):
             (7, b"'ab'", 8, (25, 0, 0), b""),
         ]:
             with self.subTest(text=text, room=room):
-                output = bytearray(UNTOUCHED * room)
+                buffer, output = lend(room)
                 self.assertEqual(luck.decode_string_into(version, text, output), DecodedInto(*answer))
-                self.assertEqual(output, front + UNTOUCHED * (room - len(front)))
+                self.assertEqual(buffer, written(room, front))
 
     def test_output_is_given_back(self) -> None:
         output = bytearray(4)
         luck.decode_string_into(4, b"'a'", output)
         output.extend(b"more")
         self.assertEqual(output, b"a\0\0\0more")
+
+    def test_room_is_in_bytes(self) -> None:
+        output = bytearray(8)
+        luck.decode_string_into(4, b"'12345678'", memoryview(output).cast("I"))
+        self.assertEqual(output, b"12345678")
 
 
 class Trials(unittest.TestCase):
@@ -308,6 +323,7 @@ class Trials(unittest.TestCase):
             ((b"", b"", b"x"), b"x", 1, 2),
             ((b"ab", b"", b"x"), b"xaxbx", 3, 6),
             ((b"", b"", b""), b"", 1, 2),
+            ((b"a\0b", b"\0b", b"x"), b"ax", 1, 5),
             ((b"\0\xFFa\0", b"[%z\xFF]", b"<\xFE\0>"), b"<\xFE\0><\xFE\0>a<\xFE\0>", 3, 8),
         ]:
             subject, pattern, replacement = texts
@@ -335,10 +351,10 @@ class Trials(unittest.TestCase):
         ]:
             subject, pattern, replacement = texts
             with self.subTest(texts=texts, budget=budget, room=room):
-                output = bytearray(UNTOUCHED * room)
+                buffer, output = lend(room)
                 found = luck.gsub_trial_into(version, pattern, replacement, subject, budget, output)
                 self.assertEqual(found, TrialInto(*answer))
-                self.assertEqual(output, front + UNTOUCHED * (room - len(front)))
+                self.assertEqual(buffer, written(room, front))
 
     def test_raised(self) -> None:
         rows = [
@@ -409,7 +425,7 @@ class WrongArguments(unittest.TestCase):
             self.assertRaises(TypeError, luck.decode_string, 4, wrong)
             for texts in [(wrong, b"", b""), (b"", wrong, b""), (b"", b"", wrong)]:
                 self.assertRaises(TypeError, luck.gsub_trial, 4, *texts, 1, 1)
-        for wrong in (b"read only", memoryview(b"read only"), None, 4):
+        for wrong in (b"read only", memoryview(b"read only"), memoryview(bytearray(4))[::2], None, 4):
             self.assertRaises(TypeError, luck.decode_string_into, 4, b"''", wrong)
             self.assertRaises(TypeError, luck.gsub_trial_into, 4, b"", b"", b"", 1, wrong)
         for wrong in (4.0, "4", None):

@@ -4,7 +4,7 @@ use std::ptr::{null, null_mut};
 
 use luck::raw::{self, Answer, Decoded, Literal, Trial};
 
-const NO_VERSIONS: [u32; 4] = [0, 7, 256, u32::MAX];
+const NO_VERSIONS: [u32; 4] = [0, 7, 257, u32::MAX];
 
 fn refused(number: u32) -> Answer {
     Answer { number, first: 0, second: 0, offset: 0, count: 0 }

@@ -56,6 +56,7 @@ fn any_bytes() {
     let (found, output) = run(Lua54, [b"\0\xFFa\0", b"[%z\xFF]", b"<\xFE\0>"], ENOUGH, 20);
     assert_eq!((found.ending, found.replacements), (Done, 3));
     assert_eq!(output, b"<\xFE\0><\xFE\0>a<\xFE\0>");
+    assert_eq!(run(Lua54, [b"a\0b", b"\0b", b"x"], ENOUGH, 20), (trial(Done, 2, 1, 5), b"ax".to_vec()));
 }
 
 #[test]
