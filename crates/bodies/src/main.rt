@@ -1,7 +1,12 @@
 // Reads lines from standard input and writes a row for each: what the checks answer for its body. The work is luck_lines'; this is the reading
 // and the writing, with two buffers and nothing else kept, so that the input may be of any length.
-ghost use lib.ListN.{length};
-ghost use Rattle.bodies.specs.Held.{Within};
+ghost use mathlib.Core.Path.{_≡_};
+ghost use mathlib.Core.Bool.{false};
+ghost use Prim.Native.Nat.{_≤_, _<_};
+ghost use lib.ListN.{length, drop};
+ghost use Rattle.luck_token.specs.Bytes.{part};
+ghost use Rattle.luck_lines.specs.Stream.{lineLength, feed};
+ghost use Rattle.bodies.specs.Held.{Within, Unended, heldIn, GoesOn};
 use libc::STDIN_FILENO;
 use libc::STDOUT_FILENO;
 use luck_lines::buffer;
@@ -18,6 +23,7 @@ struct Held {
 // An error was said, or the input has ended.
 fn stop() -> Held
     ensures { λ r. ⌜ Within r 0 ⌝ }
+    ensures { λ r. ⌜ r .more ≡ false ⌝ }
 {
     Held {
         at: 0,
@@ -35,14 +41,21 @@ fn write_rows(rows: &[u8]) -> bool {
     is_written
 }
 
-fn finish(left: &[u8], output: &mut [u8], long: bool) {
+// The input has ended, with a last line that lacks its newline, or with nothing.
+fn finish(left: &[u8], output: &mut [u8], long: bool)
+    requires { ⌜ lineLength (now left) ≡ length (now left) ⌝ }
+    requires { ⌜ 19 ≤ length (now output) ⌝ }
+{
     let wrote = stream::finish(left, output, long);
     write_rows(&output[0..wrote]);
 }
 
 // No whole line is left: what there is moves to the front, and more is read after it.
 fn read_more(input: &mut [u8], output: &mut [u8], at: usize, end: usize, long: bool) -> Held
+    requires { ⌜ Unended (part (now input) at end) (length (now input)) ⌝ }
+    requires { ⌜ 19 ≤ length (now output) ⌝ }
     ensures { λ r. ⌜ Within r (length (now (input .exit))) ⌝ }
+    ensures { λ r. ⌜ GoesOn (part (now (input .entry)) at end) long r (now (input .exit)) ⌝ }
 {
     let kept = buffer::keep(input, at, end);
     let got = libc::read(STDIN_FILENO, &mut input[kept..]);
@@ -66,7 +79,13 @@ fn read_more(input: &mut [u8], output: &mut [u8], at: usize, end: usize, long: b
 // Takes what the output has room for, and reads more where nothing can be taken.
 fn list_some(input: &mut [u8], output: &mut [u8], held: Held) -> Held
     requires { ⌜ Within held (length (now input)) ⌝ }
+    requires { ⌜ 4005 < length (now input) ⌝ }
+    requires { ⌜ 19 ≤ length (now output) ⌝ }
     ensures { λ r. ⌜ Within r (length (now (input .exit))) ⌝ }
+    ensures { λ r. ⌜
+        GoesOn (drop (feed (heldIn held (now (input .entry))) (length (now (output .entry))) (held .long) .used) (heldIn held (now (input .entry))))
+        (feed (heldIn held (now (input .entry))) (length (now (output .entry))) (held .long) .long) r (now (input .exit))
+        ⌝ }
 {
     let at = held.at;
     let end = held.end;
@@ -86,7 +105,10 @@ fn list_some(input: &mut [u8], output: &mut [u8], held: Held) -> Held
 }
 
 // A proved loop has to end, and nothing says that an input does: it counts its turns down, from a number that no run uses up.
-fn list(input: &mut [u8], output: &mut [u8]) {
+fn list(input: &mut [u8], output: &mut [u8])
+    requires { ⌜ 4005 < length (now input) ⌝ }
+    requires { ⌜ 19 ≤ length (now output) ⌝ }
+{
     let mut held = Held {
         at: 0,
         end: 0,

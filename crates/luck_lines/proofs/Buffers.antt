@@ -1,13 +1,13 @@
 -- Laws of a buffer whose bytes from `at` on move to its front: `to` of them are moved.
 -- Assumes nothing.
 use mathlib.Core.Path.{_≡_, refl, sym, ap, ap₂, subst, _∙_}
-use Prim.Native.Nat.{ℕ, suc, _+_, _-_, _<_, _≤_}
-use native.Mathlib.Nat.{le-of-eq}
+use Prim.Native.Nat.{ℕ, zero, suc, _+_, _-_, _<_, _≤_}
+use native.Mathlib.Nat.{sub-zero, zero-sub, suc-sub-suc}
 use native.Mathlib.Numerals.{add-one}
 use native.Mathlib.Omega.{arith}
 use mathlib.Core.List.{List, [], _∷_, _++_}
 use lib.ListN.{length, getD, set, take, drop, take-append-drop, length-set, length-drop}
-use lib.Seq.{take-suc, take-all, take-suc-set, drop-set-lt, drop-drop, getD-drop, length-take-le}
+use lib.Seq.{take-nil, take-suc, take-all, take-suc-set, drop-set-lt, drop-drop, getD-drop, length-take-le}
 use Rattle.luck_token.specs.Bytes.{part}
 use Rattle.luck_lines.specs.Stream.{inFront}
 
@@ -53,3 +53,16 @@ all-moved first at to end h g = let e : to ≡ end - at = omega arith in ap (λ 
 pub buffer-ends : (first : List ℕ) (at to end : ℕ) → to ≤ end - at → length first ≤ at + to → take to (drop at first) ≡ part first at end
 buffer-ends first at to end h g =
     take-all to (drop at first) (omega (arith, length-drop at first)) ∙ sym (take-all (end - at) (drop at first) (omega (arith, length-drop at first)))
+
+-- ---- What is left of a part
+
+drop-take : (u n : ℕ) (l : List ℕ) → drop u (take n l) ≡ take (n - u) (drop u l)
+drop-take zero n l = ap (λ (k : ℕ). take k l) (sym (sub-zero n))
+drop-take (suc u) zero l = ap (λ (k : ℕ). take k (drop (suc u) l)) (sym (zero-sub (suc u)))
+drop-take (suc u) (suc n) [] = sym (take-nil (suc n - suc u))
+drop-take (suc u) (suc n) (b ∷ l) = drop-take u n l ∙ ap (λ (k : ℕ). take k (drop u l)) (sym (suc-sub-suc n u))
+
+pub part-left : (l : List ℕ) (at end u : ℕ) → drop u (part l at end) ≡ part l (at + u) end
+part-left l at end u =
+    let e : end - at - u ≡ end - (at + u) = omega arith in
+    drop-take u (end - at) (drop at l) ∙ ap (take (end - at - u)) (drop-drop u at l) ∙ ap (λ (k : ℕ). take k (drop (at + u) l)) e

@@ -2,7 +2,7 @@
 -- Assumes nothing.
 use mathlib.Core.Path.{_≡_, refl, sym, ap, subst, _∙_}
 use mathlib.Core.Logic.{_⊎_, inl, inr}
-use Prim.Native.Nat.{ℕ, zero, suc, _+_, _-_, _<_, _≤_}
+use Prim.Native.Nat.{ℕ, zero, suc, _+_, _*_, _-_, _<_, _≤_}
 use native.Mathlib.Numerals.{add-one}
 use native.Mathlib.Omega.{arith}
 use mathlib.Core.Bool.{Bool, true, false, _||_}
@@ -14,7 +14,7 @@ use borrow.Author.Tests.{ltb-true, ltb-false, eqb-true, eqb-false}
 use Rattle.luck_token.specs.Bytes.{part}
 use Rattle.luck_token.proofs.Cases.{by-test, order}
 use Rattle.luck_lines.specs.Line.{longest}
-use Rattle.luck_lines.specs.Stream.{lineLength, rowOf, Taken, taken, State, state, unended, feed, listingAfter}
+use Rattle.luck_lines.specs.Stream.{lineLength, rowOf, Taken, taken, State, state, unended, feed, rowsAfter}
 use Rattle.luck_lines.proofs.Listings.{after-line, after-long}
 use Rattle.luck_lines.proofs.Streams.{on, starts, at-end, no-newline, no-room, after, line-taken, line-inside, input-ends, rowOf-length}
 
@@ -38,7 +38,7 @@ same a b = go (eqb a b) refl
 
 -- What each turn hands back from the state after it to the state before it, a call has of the state that it begins in.
 module _ (input : List ℕ) (room : ℕ) (R : ℕ → State → Taken → Type 0)
-    (ended : (p : ℕ) (s : State) → p ≤ length input → p + lineLength (drop p input) ≡ length input → R p s (unended input room p s))
+    (ended : (p : ℕ) (s : State) → p ≤ length input → p + lineLength (drop p input) ≡ length input → R p s (unended input p s))
     (full : (p : ℕ) (written : List ℕ) (long : Bool) → room - length written < 19 → R p (state written long) (taken p written long))
     (line : (p : ℕ) (written : List ℕ) (long : Bool) (h : p < length input) (n : p + lineLength (drop p input) ≡ length input → ⊥) (t : Taken)
     → 19 ≤ room - length written → R (p + (lineLength (drop p input) + 1)) (after input room p written long h n) t → R p (state written long) t) where
@@ -73,7 +73,7 @@ module _ (input : List ℕ) (room : ℕ) (R : ℕ → State → Taken → Type 0
 module _ (input rest : List ℕ) (room : ℕ) where
   -- the rows so far, and what is due from a place on
   abbrev due : List ℕ → Bool → ℕ → List ℕ
-  due written long p = written ++ listingAfter long (drop p input ++ rest)
+  due written long p = written ++ rowsAfter long (drop p input ++ rest)
 
   -- a state, and the answer that it leads to
   abbrev Leads : ℕ → State → Taken → Type 0
@@ -84,12 +84,12 @@ module _ (input rest : List ℕ) (room : ℕ) where
   ends-long p s h e t =
       ap (λ (x : List ℕ). s .written ++ x)
       (after-long (s .long) (drop p input) rest (omega (arith, e, length-drop p input)) (λ f. omega (arith, ltb-true longest (length input - p) (or-true _ _ t f), length-drop p input))
-      ∙ ap (λ (x : List ℕ). listingAfter true (x ++ rest)) (sym (drop-length input)))
+      ∙ ap (λ (x : List ℕ). rowsAfter true (x ++ rest)) (sym (drop-length input)))
 
   ends-short : (p : ℕ) (s : State) → (s .long || ltb longest (length input - p)) ≡ false → Leads p s (taken p (s .written) false)
   ends-short p s t = ap (λ (x : Bool). due (s .written) x p) (or-false _ _ t .0)
 
-  ends-there : (p : ℕ) (s : State) → p ≤ length input → p + lineLength (drop p input) ≡ length input → Leads p s (unended input room p s)
+  ends-there : (p : ℕ) (s : State) → p ≤ length input → p + lineLength (drop p input) ≡ length input → Leads p s (unended input p s)
   unfolding unended
   ends-there p s h e = by-test (Leads p s) (s .long || ltb longest (length input - p)) _ _ (ends-long p s h e) (ends-short p s)
 
@@ -101,29 +101,41 @@ module _ (input rest : List ℕ) (room : ℕ) where
       let line : m ≡ p + m - p = omega arith in
       let on-at : p + suc m ≡ p + (m + 1) = omega arith in
       ap (λ (x : List ℕ). written ++ x) (after-line long (drop p input) rest shorter)
-      ∙ sym (append-assoc written (rowOf long (take m (drop p input))) (listingAfter false (drop (suc m) (drop p input) ++ rest)))
-      ∙ ap (λ (x : ℕ). (written ++ rowOf long (take x (drop p input))) ++ listingAfter false (drop (suc m) (drop p input) ++ rest)) line
-      ∙ ap (λ (x : List ℕ). (written ++ rowOf long (take (p + m - p) (drop p input))) ++ listingAfter false (x ++ rest)) (drop-drop (suc m) p input ∙ ap (λ (k : ℕ). drop k input) on-at)
+      ∙ sym (append-assoc written (rowOf long (take m (drop p input))) (rowsAfter false (drop (suc m) (drop p input) ++ rest)))
+      ∙ ap (λ (x : ℕ). (written ++ rowOf long (take x (drop p input))) ++ rowsAfter false (drop (suc m) (drop p input) ++ rest)) line
+      ∙ ap (λ (x : List ℕ). (written ++ rowOf long (take (p + m - p) (drop p input))) ++ rowsAfter false (x ++ rest)) (drop-drop (suc m) p input ∙ ap (λ (k : ℕ). drop k input) on-at)
 
-  pub cut : (long : Bool) → listingAfter long (input ++ rest) ≡ feed input room long .written ++ listingAfter (feed input room long .long) (drop (feed input room long .used) input ++ rest)
+  pub cut : (long : Bool) → rowsAfter long (input ++ rest) ≡ feed input room long .written ++ rowsAfter (feed input room long .long) (drop (feed input room long .used) input ++ rest)
   cut long = every-call input room Leads ends-there (λ p written l r. refl) (λ p written l h n t r e. line-due p written l h n ∙ e) long
 
 -- ---- What is left
 
 module _ (input : List ℕ) (room : ℕ) where
-  -- rows are only added; and where there was room for one and none was added, what is left is short
+  -- after place p no newline is left
+  abbrev pub NoNewline : ℕ → Type 0
+  NoNewline p = lineLength (drop p input) ≡ length (drop p input)
+
+  at-the-end : NoNewline (length input)
+  at-the-end = omega (arith, input-ends input (length input) (omega arith), length-drop (length input) input)
+
+  -- rows are only added; and where there was room for one and none was added, what is left is short and has no newline
   abbrev Leaves : ℕ → State → Taken → Type 0
   Leaves p s t =
-      (length (s .written) ≤ length (t .written)) × (19 ≤ room - length (s .written) → length (t .written) ≡ length (s .written) → length input - t .used ≤ 4005)
+      (length (s .written) ≤ length (t .written))
+      × (19 ≤ room - length (s .written) → length (t .written) ≡ length (s .written) → (length input - t .used ≤ 4005) × NoNewline (t .used))
 
-  short-left : (p : ℕ) (s : State) → p ≤ length input → p + lineLength (drop p input) ≡ length input → Leaves p s (unended input room p s)
+  short-left : (p : ℕ) (s : State) → p ≤ length input → p + lineLength (drop p input) ≡ length input → Leaves p s (unended input p s)
   unfolding unended
   short-left p s h e =
       by-test (Leaves p s) (s .long || ltb longest (length input - p)) _ _
-      (λ t. (omega arith, λ r q. omega arith))
-      (λ t. (omega arith, λ r q. ltb-false longest (length input - p) (or-false (s .long) (ltb longest (length input - p)) t .1)))
+      (λ t. (omega arith, λ r q. (omega arith, at-the-end)))
+      (λ t. (
+        omega arith,
+        λ r q. (ltb-false longest (length input - p) (or-false (s .long) (ltb longest (length input - p)) t .1), omega (arith, e, length-drop p input)),
+      ))
 
-  pub left-short : (long : Bool) → 19 ≤ room → feed input room long .written ≡ [] → length input - feed input room long .used ≤ 4005
+  pub left-short : (long : Bool) → 19 ≤ room → feed input room long .written ≡ []
+      → (length input - feed input room long .used ≤ 4005) × NoNewline (feed input room long .used)
   left-short long h e =
       every-call input room Leaves short-left (λ p written l r. (omega arith, λ q z. absurd (omega arith)))
       (λ p written l g n t r more.
@@ -131,3 +143,21 @@ module _ (input : List ℕ) (room : ℕ) where
       let row = rowOf-length l (part input p (p + lineLength (drop p input))) in
       (omega (arith, longer, row, more .0), λ q z. absurd (omega (arith, longer, row, more .0, z))))
       long .1 (omega arith) (ap length e)
+
+  -- with room for a row for every byte, every line is taken
+  abbrev Clear : ℕ → State → Taken → Type 0
+  Clear p s t = 19 * (length input - p) + length (s .written) ≤ room → NoNewline (t .used)
+
+  clear-there : (p : ℕ) (s : State) → p ≤ length input → p + lineLength (drop p input) ≡ length input → Clear p s (unended input p s)
+  unfolding unended
+  clear-there p s h e =
+      by-test (Clear p s) (s .long || ltb longest (length input - p)) _ _ (λ t r. at-the-end) (λ t r. omega (arith, e, length-drop p input))
+
+  pub all-taken : (long : Bool) → 19 * length input ≤ room → NoNewline (feed input room long .used)
+  all-taken long h =
+      every-call input room Clear clear-there (λ p written l r q. omega (arith, input-ends input p (omega arith), length-drop p input))
+      (λ p written l g n t r more q.
+      let longer = length-append written (rowOf l (part input p (p + lineLength (drop p input)))) in
+      let row = rowOf-length l (part input p (p + lineLength (drop p input))) in
+      more (omega (arith, longer, row, g, q)))
+      long (omega arith)

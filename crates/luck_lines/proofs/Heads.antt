@@ -12,8 +12,8 @@ use lib.Seq.{take-all}
 use borrow.Author.Tests.{le-leb, lt-leb, eq-eqb, ne-eqb, lt-ltb, le-ltb}
 use Rattle.luck_token.specs.Bytes.{if_then_else_, byteAt, isDigit}
 use Rattle.luck_linter.specs.Answer.{Answer, refused}
-use Rattle.luck_linter.specs.Checks.{Check, replacement, answer}
-use Rattle.luck_lines.specs.Line.{twoDigits, replacementBy, plainCheck, checkBy, checkOf, bodyAnswer, lineAnswer}
+use Rattle.luck_linter.specs.Checks.{Check, answer}
+use Rattle.luck_lines.specs.Line.{twoDigits, capturesIn, replacementWith, plainCheck, checkBy, checkOf, bodyAnswer, lineAnswer}
 
 pub part-whole : (l : List ℕ) (a : ℕ) → take (length l - a) (drop a l) ≡ drop a l
 part-whole l a = take-all (length l - a) (drop a l) (le-of-eq (length-drop a l))
@@ -40,7 +40,7 @@ module _ (tens units : ℕ) where
       above-32 l h = rw (e, f, le-leb 10 ((tens - 48) * 10 + (units - 48)) l, lt-leb ((tens - 48) * 10 + (units - 48)) 32 h)
 
       pub counted : 10 ≤ (tens - 48) * 10 + (units - 48) → (tens - 48) * 10 + (units - 48) ≤ 32
-          → some (replacement (some ((tens - 48) * 10 + (units - 48)))) ≡ twoDigits tens units
+          → some (some ((tens - 48) * 10 + (units - 48))) ≡ twoDigits tens units
       unfolding twoDigits if_then_else_
       counted l h = rw (e, f, le-leb 10 ((tens - 48) * 10 + (units - 48)) l, le-leb ((tens - 48) * 10 + (units - 48)) 32 h)
 
@@ -48,27 +48,27 @@ module _ (tens units : ℕ) where
   unfolding isDigit
   blank-no-digit e = rw e
 
-  pub blank : tens ≡ 32 → units ≡ 32 → some (replacement none) ≡ replacementBy tens units
-  unfolding replacementBy if_then_else_
+  pub blank : tens ≡ 32 → units ≡ 32 → some none ≡ capturesIn tens units
+  unfolding capturesIn if_then_else_
   blank e f = rw (eq-eqb tens 32 e, eq-eqb units 32 f)
 
   module _ (e : tens ≡ 32) (f : units ≡ 32 → ⊥) where
-    pub one-digit : isDigit units ≡ true → some (replacement (some (units - 48))) ≡ replacementBy tens units
-    unfolding replacementBy if_then_else_
+    pub one-digit : isDigit units ≡ true → some (some (units - 48)) ≡ capturesIn tens units
+    unfolding capturesIn if_then_else_
     one-digit d = rw (eq-eqb tens 32 e, ne-eqb units 32 f, d)
 
-    pub no-digit : isDigit units ≡ false → none ≡ replacementBy tens units
-    unfolding replacementBy if_then_else_
+    pub no-digit : isDigit units ≡ false → none ≡ capturesIn tens units
+    unfolding capturesIn if_then_else_
     no-digit d = rw (eq-eqb tens 32 e, ne-eqb units 32 f, d) (tens-no-digit (blank-no-digit e))
 
-  pub two : (tens ≡ 32 → ⊥) → twoDigits tens units ≡ replacementBy tens units
-  unfolding replacementBy if_then_else_
+  pub two : (tens ≡ 32 → ⊥) → twoDigits tens units ≡ capturesIn tens units
+  unfolding capturesIn if_then_else_
   two e = rw (ne-eqb tens 32 e)
 
 -- ---- The kind
 
 module _ (kind tens units : ℕ) where
-  pub of-replacement : kind ≡ 71 → replacementBy tens units ≡ checkBy kind tens units
+  pub of-replacement : kind ≡ 71 → replacementWith (capturesIn tens units) ≡ checkBy kind tens units
   unfolding checkBy if_then_else_
   of-replacement e = rw (eq-eqb kind 71 e)
 

@@ -5,4 +5,5 @@ pub mod Streams
 pub mod Buffers
 pub mod Cuts
 pub mod Answers
+pub mod Runs
 pub mod Promises

@@ -14,7 +14,7 @@ use Rattle.luck_linter.specs.Answer.{refused}
 use Rattle.luck_lines.specs.Line.{lineAnswer}
 use Rattle.luck_lines.specs.Row.{answerRow}
 use Rattle.luck_lines.specs.Lines.{lastLine, linesFrom, rows}
-use Rattle.luck_lines.specs.Stream.{lineLength, rowOf, passed, listingAfter}
+use Rattle.luck_lines.specs.Stream.{lineLength, rowOf, passed, rowsAfter}
 use Rattle.luck_lines.proofs.Heads.{too-long}
 
 -- ---- A newline among the bytes that are there
@@ -87,8 +87,8 @@ many-alone = omega (arith, length-replicate {A = ℕ} 4006 0)
 -- ---- The listing after what was passed
 
 pub after-line : (long : Bool) (s rest : List ℕ) → lineLength s < length s
-    → listingAfter long (s ++ rest) ≡ rowOf long (take (lineLength s) s) ++ listingAfter false (drop (suc (lineLength s)) s ++ rest)
-unfolding listingAfter rowOf rows passed
+    → rowsAfter long (s ++ rest) ≡ rowOf long (take (lineLength s) s) ++ rowsAfter false (drop (suc (lineLength s)) s ++ rest)
+unfolding rowsAfter rowOf rows passed
 after-line false s rest h = ap rows (lines-newline [] s rest h)
 after-line true s rest h =
     ap rows (lines-newline (passed true) s rest h)
@@ -98,8 +98,8 @@ none-passed : (s rest : List ℕ) → 4005 < length s → rows (linesFrom (passe
 unfolding passed
 none-passed s rest h = rows-long s (passed true) rest h many-alone
 
-pub after-long : (long : Bool) (s rest : List ℕ) → lineLength s ≡ length s → (long ≡ false → 4005 < length s) → listingAfter long (s ++ rest) ≡ listingAfter true rest
-unfolding listingAfter
+pub after-long : (long : Bool) (s rest : List ℕ) → lineLength s ≡ length s → (long ≡ false → 4005 < length s) → rowsAfter long (s ++ rest) ≡ rowsAfter true rest
+unfolding rowsAfter
 after-long false s rest e h = ap rows (lines-none (passed false) s rest e) ∙ none-passed s rest (h refl)
 after-long true s rest e h = ap rows (lines-none (passed true) s rest e) ∙ rows-long (passed true ++ s) (passed true) rest (many s) many-alone
 
@@ -111,12 +111,12 @@ due false [] n = absurd (n refl refl)
 due false (b ∷ s) n = append-nil (answerRow (lineAnswer (b ∷ s)))
 due true s n = last-long (passed true ++ s) (many s) ∙ append-nil (answerRow (refused 31 0))
 
-pub last-row : (long : Bool) (s : List ℕ) → lineLength s ≡ length s → (long ≡ false → length s ≡ 0 → ⊥) → rowOf long s ≡ listingAfter long s
-unfolding listingAfter
+pub last-row : (long : Bool) (s : List ℕ) → lineLength s ≡ length s → (long ≡ false → length s ≡ 0 → ⊥) → rowOf long s ≡ rowsAfter long s
+unfolding rowsAfter
 last-row long s e h =
     sym (ap (λ (x : List ℕ). rows (linesFrom (passed long) x)) (sym (append-nil s)) ∙ ap rows (lines-none (passed long) s [] e) ∙ due long s h)
 
-pub last-none : (s : List ℕ) → length s ≡ 0 → [] ≡ listingAfter false s
-unfolding listingAfter linesFrom rows lastLine passed
+pub last-none : (s : List ℕ) → length s ≡ 0 → [] ≡ rowsAfter false s
+unfolding rowsAfter linesFrom rows lastLine passed
 last-none [] e = refl
 last-none (b ∷ s) e = absurd (suc-ne-zero (length s) e)

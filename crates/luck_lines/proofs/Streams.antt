@@ -7,7 +7,7 @@ use native.Mathlib.Omega.{arith}
 use mathlib.Core.Bool.{Bool, true, false, not, _||_}
 use mathlib.Core.List.{List, [], _∷_, _++_, append-nil, append-assoc}
 use lib.ListN.{length, take, drop, take-append-drop, length-append, length-drop, drop-of-length-le}
-use lib.Seq.{take-at, drop-at, take-all, length-take-le, take-append-add, take-append-le, drop-append-add, drop-append-le, drop-drop}
+use lib.Seq.{getD-take, getD-drop, take-at, drop-at, take-all, length-take-le, take-append-add, take-append-le, drop-append-add, drop-append-le, drop-drop}
 use lib.Dec.{eqb, ltb}
 use borrow.Author.Tests.{lt-ltb, le-ltb, ne-eqb, eq-eqb}
 use borrow.Rule.Slice.PartMut.{putMid}
@@ -43,6 +43,28 @@ module _ (input : List ℕ) (p : ℕ) where
   unfolding lineLength
   input-ends h = run-end (λ b. not (eqb b 10)) input p h
 
+-- a block with no newline
+pub line-block : (input : List ℕ) (n p : ℕ) → p + n ≤ length input → ((k : ℕ) → k < n → byteAt input (p + k) ≡ 10 → ⊥)
+    → lineLength (drop p input) ≡ n + lineLength (drop (p + n) input)
+line-block input zero p h f = let e : p ≡ p + 0 = omega arith in ap (λ (q : ℕ). lineLength (drop q input)) e ∙ omega arith
+line-block input (suc n) p h f =
+    let e : p + 1 + n ≡ p + suc n = omega arith in
+    let here : byteAt input p ≡ 10 → ⊥ = λ g. let z : p + 0 ≡ p = omega arith in f 0 (omega arith) (ap (byteAt input) z ∙ g) in
+    let more = line-block input n (p + 1) (omega arith) (λ k l g. let z : p + suc k ≡ p + 1 + k = omega arith in f (suc k) (omega arith) (ap (byteAt input) z ∙ g)) in
+    let all : lineLength (drop p input) ≡ suc n + lineLength (drop (p + 1 + n) input) = omega (arith, line-more input p (omega arith) here, more) in
+    all ∙ ap (λ (q : ℕ). suc n + lineLength (drop q input)) e
+
+-- the bytes of a part, as bytes of the whole
+pub byte-of-part : (input : List ℕ) (p n k : ℕ) → k < n → byteAt (take n (drop p input)) k ≡ byteAt input (p + k)
+byte-of-part input p n k h = getD-take n (drop p input) k 0 h ∙ getD-drop p input k 0
+
+pub block-passed : (input : List ℕ) (p : ℕ) → p + 16 ≤ length input
+    → ((k : ℕ) → k < length (take (p + 16 - p) (drop p input)) → byteAt (take (p + 16 - p) (drop p input)) k ≡ 10 → ⊥)
+    → lineLength (drop p input) ≡ 16 + lineLength (drop (p + 16) input)
+block-passed input p h f =
+    let size = length-take-le (p + 16 - p) (drop p input) (omega (arith, length-drop p input)) in
+    line-block input 16 p h (λ k l g. f k (omega (arith, size)) (byte-of-part input p (p + 16 - p) k (omega arith) ∙ g))
+
 pub rowOf-length : (long : Bool) (line : List ℕ) → length (rowOf long line) ≡ 19
 unfolding rowOf
 rowOf-length true line = row-length 31 0 0
@@ -66,21 +88,21 @@ fed-if false x y = refl
 module _ (input : List ℕ) (room : ℕ) where
   -- what the whole call gives, from place p on
   abbrev pub on : ℕ → State → Taken
-  on p s = walkFrom (feedTurn input room) (unended input room) (length input) p s
+  on p s = walkFrom (feedTurn input room) (unended input) (length input) p s
 
   pub starts : (long : Bool) → on 0 (state [] long) ≡ feed input room long
   unfolding feed
   starts long = refl
 
-  pub at-end : (p : ℕ) (s : State) → length input ≤ p → on p s ≡ unended input room p s
-  at-end p s h = walk-end (feedTurn input room) (unended input room) (length input) p s h
+  pub at-end : (p : ℕ) (s : State) → length input ≤ p → on p s ≡ unended input p s
+  at-end p s h = walk-end (feedTurn input room) (unended input) (length input) p s h
 
-  turn-none : (p : ℕ) (s : State) → p + lineLength (drop p input) ≡ length input → feedTurn input room p s ≡ stop (unended input room p s)
+  turn-none : (p : ℕ) (s : State) → p + lineLength (drop p input) ≡ length input → feedTurn input room p s ≡ stop (unended input p s)
   unfolding feedTurn if_then_else_
   turn-none p s e = rw (eq-eqb (p + lineLength (drop p input)) (length input) e)
 
-  pub no-newline : (p : ℕ) (s : State) → p < length input → p + lineLength (drop p input) ≡ length input → on p s ≡ unended input room p s
-  no-newline p s h e = walk-stop (feedTurn input room) (unended input room) (length input) p s (unended input room p s) h (turn-none p s e)
+  pub no-newline : (p : ℕ) (s : State) → p < length input → p + lineLength (drop p input) ≡ length input → on p s ≡ unended input p s
+  no-newline p s h e = walk-stop (feedTurn input room) (unended input) (length input) p s (unended input p s) h (turn-none p s e)
 
   module _ (p : ℕ) (written : List ℕ) (long : Bool) (h : p < length input) (n : p + lineLength (drop p input) ≡ length input → ⊥) where
     turn-full : room - length written < 19 → feedTurn input room p (state written long) ≡ stop (taken p written long)
@@ -88,7 +110,7 @@ module _ (input : List ℕ) (room : ℕ) where
     turn-full r = rw (ne-eqb (p + lineLength (drop p input)) (length input) n, lt-ltb (room - length written) 19 r)
 
     pub no-room : room - length written < 19 → on p (state written long) ≡ taken p written long
-    no-room r = walk-stop (feedTurn input room) (unended input room) (length input) p (state written long) _ h (turn-full r)
+    no-room r = walk-stop (feedTurn input room) (unended input) (length input) p (state written long) _ h (turn-full r)
 
     -- the state after a line that is taken
     abbrev pub after : State
@@ -101,13 +123,13 @@ module _ (input : List ℕ) (room : ℕ) where
     pub line-taken : 19 ≤ room - length written → on p (state written long) ≡ on (p + (lineLength (drop p input) + 1)) after
     line-taken r =
         let i = line-inside input p (omega arith) in
-        walk-goes (feedTurn input room) (unended input room) (length input) p (state written long) (lineLength (drop p input) + 1) after (omega arith) (omega (arith, i, n)) (turn-line r)
+        walk-goes (feedTurn input room) (unended input) (length input) p (state written long) (lineLength (drop p input) + 1) after (omega arith) (omega (arith, i, n)) (turn-line r)
 
-  pub unended-written : (p : ℕ) (s : State) → unended input room p s .written ≡ s .written
+  pub unended-written : (p : ℕ) (s : State) → unended input p s .written ≡ s .written
   unfolding unended
   unended-written p s = by-test (λ (t : Taken). t .written ≡ s .written) (s .long || ltb longest (length input - p)) _ _ (λ e. refl) (λ e. refl)
 
-  pub unended-fed : (p w : ℕ) (s : State) → w ≡ length (s .written) → unendedAt (length input) p w (s .long) ≡ fedOf (unended input room p s)
+  pub unended-fed : (p w : ℕ) (s : State) → w ≡ length (s .written) → unendedAt (length input) p w (s .long) ≡ fedOf (unended input p s)
   unfolding unended
   unended-fed p w s e = ap (λ (x : ℕ). unendedAt (length input) p x (s .long)) e ∙ fed-if (s .long || ltb longest (length input - p)) _ _
 
@@ -159,9 +181,9 @@ module _ (input first out : List ℕ) (p w : ℕ) (start long : Bool)
   wrote-inside : unendedAt (length input) p w long .wrote ≤ length first
   wrote-inside = by-test (λ (x : Fed). x .wrote ≤ length first) (long || ltb longest (length input - p)) _ _ (λ e. omega arith) (λ e. omega arith)
 
-  pub nothing-ends : (r : Fed) → r ≡ unendedAt (length input) p w long → on input (length first) p (state (take w out) long) ≡ unended input (length first) p (state (take w out) long) → Answered r
+  pub nothing-ends : (r : Fed) → r ≡ unendedAt (length input) p w long → on input (length first) p (state (take w out) long) ≡ unended input p (state (take w out) long) → Answered r
   nothing-ends r e f =
-      answered r (unended input (length first) p (state (take w out) long)) (sym f ∙ whole)
+      answered r (unended input p (state (take w out) long)) (sym f ∙ whole)
       (e ∙ unended-fed input (length first) p w (state (take w out) long) (sym (length-take-le w out fits)))
       (unended-written input (length first) p (state (take w out) long))
       (subst (λ (x : Fed). x .used ≤ length input) (sym e) used-inside)

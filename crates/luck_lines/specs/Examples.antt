@@ -3,31 +3,49 @@
 use Prim.Native.Nat.{ℕ}
 use mathlib.Core.Path.{_≡_, refl}
 use mathlib.Core.List.{List, [], _∷_, _++_}
+use lib.ListN.{replicate}
 use Rattle.luck_token.specs.Bytes.{ascii, if_then_else_, among, isDigit, isXdigit, run, digitValue, numeralFrom, numeral}
 use Rattle.luck_token.specs.Walk.{walk, walkFrom}
 use Rattle.luck_token.specs.Version.{isVersion, versions, has, rulesOf}
 use Rattle.luck_token.specs.Utf8.{rfc3629, tailsOf, follow, widthBy, sequence, sequenceAt, noneIllFormed, illFormed, codePoint, charAt}
-use Rattle.luck_linter.specs.Answer.{afterVersion, afterUtf8, checkText}
+use Rattle.luck_linter.specs.Answer.{refused, afterVersion, afterUtf8, checkText}
 use Rattle.luck_linter.specs.Captures.{closeLatest, isClosed, allClosed}
 use Rattle.luck_linter.specs.Pattern.{headOf, escapeOf, escapeAt, memberAt, memberBy, memberTurn, membersEnd, firstMember, setEnd, isEmptySet, setAs, setRead, escapeAs, escapeRead, onward, afterClose, headTurn, patternTurn, patternEnd, patternWalk, checkPattern}
+use Rattle.luck_linter.specs.Pack.{getnumlimit, fixedString, numberedOption, getoption, kindOf, numberOr, luckSizeof, luckSize, maxalign, isPowerOfTwo, isMisaligned, aligned, variable, alignBy, alignmentOf, alignToNext, kindTurn, optionTurn, packTurn, packEnd, packWalk, checkPack}
 use Rattle.luck_linter.specs.Replacement.{escaped, pieces, allowsDigit, piecesWalk, checkReplacement}
 use Rattle.luck_linter.specs.Format.{isFlag, isModifier, getFormat, scanPrecision, scanWidth, scanFormat, modifiersAt, isConversion, flagsFor, flagsRun, takesPrecision, afterTwoDigits, goodModifiers, conversionTurn, specifierTurn, percentTurn, formatTurn, formatEnd, formatWalk, checkFormat}
-use Rattle.luck_lines.specs.Line.{twoDigits, replacementBy, plainCheck, checkBy, checkOf, bodyAnswer, lineAnswer}
+use Rattle.luck_lines.specs.Line.{twoDigits, capturesIn, replacementWith, plainCheck, checkBy, checkOf, bodyAnswer, lineAnswer}
 use Rattle.luck_lines.specs.Row.{newline, column, justified, fourColumns, sevenColumns, row}
 use Rattle.luck_lines.specs.Lines.{lastLine, linesFrom, lines, rows, listing}
+
+-- what is computed
+unfoldable pub computed : Unit {0}
+unfolding if_then_else_ among isDigit isXdigit run digitValue numeralFrom numeral walk walkFrom isVersion versions has rulesOf rfc3629 tailsOf follow widthBy sequence sequenceAt noneIllFormed illFormed codePoint charAt afterVersion afterUtf8 checkText closeLatest isClosed allClosed headOf escapeOf escapeAt memberAt memberBy memberTurn membersEnd firstMember setEnd isEmptySet setAs setRead escapeAs escapeRead onward afterClose headTurn patternTurn patternEnd patternWalk checkPattern escaped pieces allowsDigit piecesWalk checkReplacement isFlag isModifier getFormat scanPrecision scanWidth scanFormat modifiersAt isConversion flagsFor flagsRun takesPrecision afterTwoDigits goodModifiers conversionTurn specifierTurn percentTurn formatTurn formatEnd formatWalk checkFormat getnumlimit fixedString numberedOption getoption kindOf numberOr luckSizeof luckSize maxalign isPowerOfTwo isMisaligned aligned variable alignBy alignmentOf alignToNext kindTurn optionTurn packTurn packEnd packWalk checkPack twoDigits capturesIn replacementWith plainCheck checkBy checkOf bodyAnswer lineAnswer column justified fourColumns sevenColumns row lastLine linesFrom lines rows listing
+computed = tt
 
 abbrev line : List ℕ → List ℕ → List ℕ
 line text more = text ++ (newline ∷ more)
 
 pub three-lines : listing (line (ascii "F1   %d%s") (line (ascii "G4 1 %2") (line (ascii "P1   [^]") [])))
     ≡ line (ascii "   0      0      2") (line (ascii "  21      1      0") (line (ascii "   9      0      0") []))
-unfolding if_then_else_ among isDigit isXdigit run digitValue numeralFrom numeral walk walkFrom isVersion versions has rulesOf rfc3629 tailsOf follow widthBy sequence sequenceAt noneIllFormed illFormed codePoint charAt afterVersion afterUtf8 checkText closeLatest isClosed allClosed headOf escapeOf escapeAt memberAt memberBy memberTurn membersEnd firstMember setEnd isEmptySet setAs setRead escapeAs escapeRead onward afterClose headTurn patternTurn patternEnd patternWalk checkPattern escaped pieces allowsDigit piecesWalk checkReplacement isFlag isModifier getFormat scanPrecision scanWidth scanFormat modifiersAt isConversion flagsFor flagsRun takesPrecision afterTwoDigits goodModifiers conversionTurn specifierTurn percentTurn formatTurn formatEnd formatWalk checkFormat twoDigits replacementBy plainCheck checkBy checkOf bodyAnswer lineAnswer column justified fourColumns sevenColumns row lastLine linesFrom lines rows listing
+unfolding computed
 three-lines = refl
 
--- no line, an empty one, and heads: `F7 1 x` and `00` are 30, ` 0`, `32` and the blank are accepted, `33` is 30, version 7 is 25; the last line lacks its newline
-pub heads : (listing [] ≡ []) × (listing (line [] []) ≡ line (ascii "  30      0      0") [])
-    × (listing (line (ascii "F7 1 x") (line (ascii "G4 0 x") (line (ascii "G400 x") (line (ascii "G432 x") (line (ascii "G433 x") (line (ascii "G4   %9") (ascii "F7   x")))))))
+-- no line, and an empty one
+pub none-and-empty : (listing [] ≡ []) × (listing (line [] []) ≡ line (ascii "  30      0      0") [])
+unfolding computed
+none-and-empty = (refl, refl)
+
+-- heads: `F7 1 x` and `00` are 30, ` 0`, `32` and the blank are accepted, `33` is 30, version 7 is 25; CR and NUL are bytes of the body; the last line lacks its newline
+pub heads : listing
+    (line (ascii "F7 1 x") (line (ascii "G4 0 x") (line (ascii "G400 x") (line (ascii "G432 x") (line (ascii "G433 x") (line (ascii "G4   %9")
+    (line (ascii "F1   %" ++ (13 ∷ [])) (line (ascii "K3   b" ++ (0 ∷ [])) (ascii "F7   x")))))))))
     ≡ line (ascii "  30      0      0") (line (ascii "   0      0      0") (line (ascii "  30      0      0") (line (ascii "   0      0      0")
-    (line (ascii "  30      0      0") (line (ascii "   0      0      0") (line (ascii "  25      0      0") [])))))))
-unfolding if_then_else_ among isDigit isXdigit run digitValue numeralFrom numeral walk walkFrom isVersion versions has rulesOf rfc3629 tailsOf follow widthBy sequence sequenceAt noneIllFormed illFormed codePoint charAt afterVersion afterUtf8 checkText closeLatest isClosed allClosed headOf escapeOf escapeAt memberAt memberBy memberTurn membersEnd firstMember setEnd isEmptySet setAs setRead escapeAs escapeRead onward afterClose headTurn patternTurn patternEnd patternWalk checkPattern escaped pieces allowsDigit piecesWalk checkReplacement isFlag isModifier getFormat scanPrecision scanWidth scanFormat modifiersAt isConversion flagsFor flagsRun takesPrecision afterTwoDigits goodModifiers conversionTurn specifierTurn percentTurn formatTurn formatEnd formatWalk checkFormat twoDigits replacementBy plainCheck checkBy checkOf bodyAnswer lineAnswer column justified fourColumns sevenColumns row lastLine linesFrom lines rows listing
-heads = (refl, refl, refl)
+    (line (ascii "  30      0      0") (line (ascii "   0      0      0") (line (ascii "   2      1      0") (line (ascii "  14      1      0") (line (ascii "  25      0      0") []))))))))
+unfolding computed
+heads = refl
+
+-- 4,005 bytes, whose head does not fit, and 4,006
+pub longest-line : (lineAnswer (replicate 4005 0) ≡ refused 30 0) × (lineAnswer (replicate 4006 0) ≡ refused 31 0)
+unfolding computed
+longest-line = (refl, refl)

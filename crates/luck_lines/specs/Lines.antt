@@ -12,7 +12,7 @@ unfoldable pub lastLine : List ℕ → List (List ℕ)
 lastLine [] = []
 lastLine (b ∷ line) = (b ∷ line) ∷ []
 
--- the lines of an input of whose first line `line` was read already; they end at a newline, which is not counted
+-- the lines of `line` and then `input`, where `line` has no newline; a line ends at a newline, which is not counted
 unfoldable pub linesFrom : List ℕ → List ℕ → List (List ℕ)
 linesFrom line [] = lastLine line
 linesFrom line (b ∷ input) =

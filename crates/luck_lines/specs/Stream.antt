@@ -15,7 +15,7 @@ use Rattle.luck_lines.specs.Row.{newline, answerRow}
 use Rattle.luck_lines.specs.Lines.{linesFrom, rows}
 use Rattle.luck_lines.specs.declared.stream.Fed.{Fed}
 
--- a row's bytes
+-- the bytes of a row, its newline included (proofs/Rows.antt)
 abbrev pub rowLength : ℕ
 rowLength = 19
 
@@ -44,12 +44,12 @@ pub record State : Type 0 where
 abbrev pub state : List ℕ → Bool → State
 state written long = record { written = written; long = long }
 
-module _ (input : List ℕ) (room : ℕ) where
-  -- no newline is left: what there is stays for the next call, unless the line is too long already
-  unfoldable pub unended : ℕ → State → Taken
-  unended p s =
-      if s .long || ltb longest (length input - p) then taken (length input) (s .written) true else taken p (s .written) false
+-- no newline is left after place p: what there is stays for the next call, unless the line is too long already
+unfoldable pub unended : List ℕ → ℕ → State → Taken
+unended input p s =
+    if s .long || ltb longest (length input - p) then taken (length input) (s .written) true else taken p (s .written) false
 
+module _ (input : List ℕ) (room : ℕ) where
   -- a line of n bytes, which ends in the input: it is taken if there is room for its row
   unfoldable pub lineTurn : ℕ → State → ℕ → Turn State Taken
   lineTurn p s n =
@@ -59,13 +59,13 @@ module _ (input : List ℕ) (room : ℕ) where
   unfoldable pub feedTurn : ℕ → State → Turn State Taken
   feedTurn p s =
       let n = lineLength (drop p input) in
-      if eqb (p + n) (length input) then stop (unended p s) else lineTurn p s n
+      if eqb (p + n) (length input) then stop (unended input p s) else lineTurn p s n
 
   -- whole lines from the front, while there is room
   unfoldable pub feed : Bool → Taken
-  feed long = walkFrom feedTurn unended (length input) 0 (state [] long)
+  feed long = walkFrom feedTurn (unended input) (length input) 0 (state [] long)
 
--- the end of the input: the row of what is left, as a last line that lacks its newline, if there is anything and room for the row
+-- the end of the input: what is left, with no newline in it, is a last line that lacks its newline; its row is written if there is anything and room for it
 unfoldable pub finish : Bool → List ℕ → ℕ → List ℕ
 finish long left room =
     if ltb room rowLength then [] else if long || not (eqb (length left) 0) then rowOf long left else []
@@ -78,17 +78,17 @@ fedOf t = record { used = t .used; wrote = length (t .written); long = t .long }
 abbrev pub inFront : List ℕ → List ℕ → List ℕ
 inFront written output = written ++ drop (length written) output
 
--- what was taken of a line and is not kept: nothing, or too many bytes, for which any 4,006 stand
+-- what was taken of a line and is not kept: nothing, or too many bytes; which ones makes no difference, so that zeros stand for them
 unfoldable pub passed : Bool → List ℕ
 passed false = []
-passed true = replicate 4006 0
+passed true = replicate (longest + 1) 0
 
 -- the rows that are due for an input that goes on after such bytes
-unfoldable pub listingAfter : Bool → List ℕ → List ℕ
-listingAfter long input = rows (linesFrom (passed long) input)
+unfoldable pub rowsAfter : Bool → List ℕ → List ℕ
+rowsAfter long input = rows (linesFrom (passed long) input)
 
--- a run of a program, with what it writes: bytes come in pieces, whole lines are taken whenever it likes and with any room, and at the end of the input,
--- with no newline left, the last line is taken
+-- a run of a program. `Run long held input written`: with `held` read and not taken, and `input` still to come, the rest of the run writes `written`.
+-- Bytes come in pieces; whole lines are taken whenever it likes, with any room; at the end of the input, when no newline is held, the last line is taken
 pub data Run : Bool → List ℕ → List ℕ → List ℕ → Type 0 where
   reads : (long : Bool) (held piece input written : List ℕ) → Run long (held ++ piece) input written → Run long held (piece ++ input) written
   takes : (long : Bool) (held input written : List ℕ) (room : ℕ)

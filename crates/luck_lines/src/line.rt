@@ -1,7 +1,7 @@
 // One line: kind, version digit, two columns of captures, a space, the body.
 ghost use mathlib.Core.Path.{_≡_};
-ghost use Prim.Native.Nat.{_-_};
-ghost use Rattle.luck_lines.specs.Line.{twoDigits, replacementBy, plainCheck, checkBy, bodyAnswer, lineAnswer, columnsOf, lineAnswerOf};
+ghost use Rattle.luck_lines.specs.Line.{digit as digitOf, twoDigits, capturesIn, replacementWith, plainCheck, checkBy, bodyAnswer, lineAnswer, lineAnswerOf};
+ghost use Rattle.luck_lines.specs.Inner.{columnsOf};
 use luck_linter::format_pattern::Checked;
 use luck_linter::format_pattern::date;
 use luck_linter::format_pattern::format;
@@ -28,7 +28,7 @@ pub enum LineChecked {
 }
 
 fn digit(byte: u8) -> u32
-    ensures { λ r. ⌜ r ≡ byte - 48 ⌝ }
+    ensures { λ r. ⌜ r ≡ digitOf byte ⌝ }
 {
     if byte < b'0' {
         return 0;
@@ -56,7 +56,7 @@ fn two_digits(tens: u8, units: u8) -> Columns
 }
 
 fn read_columns(tens: u8, units: u8) -> Columns
-    ensures { λ r. ⌜ columnsOf r ≡ replacementBy tens units ⌝ }
+    ensures { λ r. ⌜ columnsOf r ≡ capturesIn tens units ⌝ }
 {
     if tens == b' ' {
         if units == b' ' {
@@ -71,7 +71,7 @@ fn read_columns(tens: u8, units: u8) -> Columns
 }
 
 fn check_replacement(tens: u8, units: u8, version: u32, body: &[u8]) -> LineChecked
-    ensures { λ r. ⌜ lineAnswerOf r ≡ bodyAnswer (replacementBy tens units) version (now (body .entry)) ⌝ }
+    ensures { λ r. ⌜ lineAnswerOf r ≡ bodyAnswer (replacementWith (capturesIn tens units)) version (now (body .entry)) ⌝ }
 {
     let found = read_columns(tens, units);
     match found {

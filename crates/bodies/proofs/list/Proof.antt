@@ -1,4 +1,4 @@
--- `bodies::list` meets its contract. Assumes nothing.
+-- `bodies::list` is safe and ends. Assumes nothing.
 use mathlib.Core.Path.{_≡_, refl}
 use lib.ListN.{length}
 use native.Mathlib.Omega.{arith}

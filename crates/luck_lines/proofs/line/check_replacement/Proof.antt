@@ -2,7 +2,8 @@
 use mathlib.Core.Path.{_≡_, refl, sym, ap, _∙_}
 use mathlib.Core.Option.{none, some}
 use Rattle.luck_linter.specs.Checks.{replacement}
-use Rattle.luck_lines.specs.Line.{columnsOf}
+use Rattle.luck_lines.specs.Line.{replacementWith}
+use Rattle.luck_lines.specs.Inner.{columnsOf}
 use Rattle.luck_lines.proofs.Heads as heads
 use borrow.Author.Needs.{needs}
 use Rattle.luck_lines.proofs.line.check_replacement.Statement.{statement}
@@ -27,13 +28,16 @@ enum-told-2 : tie.Need-enum-told-2
 enum-told-2 c = search needs
 
 returns : tie.Need-returns
-returns c = let a = c .before .before .before .before .before .args in c .validate-gsub-replacement .ensures ∙ heads.checked _ (replacement none) (a .version) (a .body .now) (ap columnsOf (sym (c .before .enum-told .given .1)) ∙ c .before .before .before .read-columns .ensures)
+unfolding replacementWith
+returns c = let a = c .before .before .before .before .before .args in c .validate-gsub-replacement .ensures ∙ heads.checked _ (replacement none) (a .version) (a .body .now) (ap (λ x. replacementWith (columnsOf x)) (sym (c .before .enum-told .given .1)) ∙ ap replacementWith (c .before .before .before .read-columns .ensures))
 
 returns-2 : tie.Need-returns-2
-returns-2 c = let a = c .before .before .before .before .before .before .args in c .validate-gsub-replacement2 .ensures ∙ heads.checked _ (replacement (some _)) (a .version) (a .body .now) (ap columnsOf (sym (c .before .before .found .given .1)) ∙ c .before .before .before .before .read-columns .ensures)
+unfolding replacementWith
+returns-2 c = let a = c .before .before .before .before .before .before .args in c .validate-gsub-replacement2 .ensures ∙ heads.checked _ (replacement (some _)) (a .version) (a .body .now) (ap (λ x. replacementWith (columnsOf x)) (sym (c .before .before .found .given .1)) ∙ ap replacementWith (c .before .before .before .before .read-columns .ensures))
 
 returns-3 : tie.Need-returns-3
-returns-3 c = let a = c .before .before .before .before .args in heads.misfit _ (a .version) (a .body .now) (ap columnsOf (sym (c .enum-told2 .given .1)) ∙ c .before .before .read-columns .ensures)
+unfolding replacementWith
+returns-3 c = let a = c .before .before .before .before .args in heads.misfit _ (a .version) (a .body .now) (ap (λ x. replacementWith (columnsOf x)) (sym (c .enum-told2 .given .1)) ∙ ap replacementWith (c .before .before .read-columns .ensures))
 
 pub check-replacement-spec : {M : Type 1} → statement M
 check-replacement-spec =

@@ -1,7 +1,6 @@
 -- `luck_lines::line::read_columns` meets its contract. Assumes nothing.
 use mathlib.Core.Path.{_≡_, refl, sym, ap, _∙_}
 use mathlib.Core.Option.{some}
-use Rattle.luck_linter.specs.Checks.{replacement}
 use Rattle.luck_lines.proofs.Heads as heads
 use borrow.Author.Needs.{needs}
 use Rattle.luck_lines.proofs.line.read_columns.Statement.{statement}
@@ -20,7 +19,7 @@ cast-t8 : tie.Need-cast-t8
 cast-t8 c = search needs
 
 returns-2 : tie.Need-returns-2
-returns-2 c = let a = c .before .before .before .before .before .args in ap (λ x. some (replacement (some x))) (c .digit .ensures) ∙ heads.one-digit (a .tens) (a .units) (c .before .before .before .before .if1 .taken) (c .before .before .before .if2 .left) (sym (c .before .before .is-in .ensures) ∙ c .before .if3 .taken)
+returns-2 c = let a = c .before .before .before .before .before .args in ap (λ x. some (some x)) (c .digit .ensures) ∙ heads.one-digit (a .tens) (a .units) (c .before .before .before .before .if1 .taken) (c .before .before .before .if2 .left) (sym (c .before .before .is-in .ensures) ∙ c .before .if3 .taken)
 
 returns-3 : tie.Need-returns-3
 returns-3 c = let a = c .before .before .before .before .args in heads.no-digit (a .tens) (a .units) (c .before .before .before .if1 .taken) (c .before .before .if2 .left) (sym (c .before .is-in .ensures) ∙ c .if3 .left)

@@ -3,7 +3,6 @@ use mathlib.Core.Path.{_≡_, refl, sym, ap, _∙_}
 use Prim.Native.Nat.{_+_, _*_, _-_}
 use native.Mathlib.Omega.{arith}
 use mathlib.Core.Option.{some}
-use Rattle.luck_linter.specs.Checks.{replacement}
 use Rattle.luck_lines.proofs.Heads as heads
 use borrow.Author.Needs.{needs}
 use Rattle.luck_lines.proofs.line.two_digits.Statement.{statement}
@@ -39,7 +38,7 @@ cast-t12 c = search needs
 returns-3 : tie.Need-returns-3
 returns-3 c = let a = c .before .before .before .before .before .before .before .before .args in
     let n : c .before .before .before .digit .result * 10 + c .before .before .digit2 .result ≡ (a .tens - 48) * 10 + (a .units - 48) = omega (arith, c .before .before .digit2 .ensures, c .before .before .before .digit .ensures) in
-    ap (λ x. some (replacement (some x))) n ∙ heads.counted (a .tens) (a .units) (sym (c .before .before .before .before .before .before .before .is-in .ensures) ∙ c .before .before .before .before .before .before .if1 .taken) (sym (c .before .before .before .before .before .is-in2 .ensures) ∙ c .before .before .before .before .if2 .taken) (omega (arith, c .before .if3 .left, c .before .before .digit2 .ensures, c .before .before .before .digit .ensures)) (omega (arith, c .if4 .left, c .before .before .digit2 .ensures, c .before .before .before .digit .ensures))
+    ap (λ x. some (some x)) n ∙ heads.counted (a .tens) (a .units) (sym (c .before .before .before .before .before .before .before .is-in .ensures) ∙ c .before .before .before .before .before .before .if1 .taken) (sym (c .before .before .before .before .before .is-in2 .ensures) ∙ c .before .before .before .before .if2 .taken) (omega (arith, c .before .if3 .left, c .before .before .digit2 .ensures, c .before .before .before .digit .ensures)) (omega (arith, c .if4 .left, c .before .before .digit2 .ensures, c .before .before .before .digit .ensures))
 
 returns-4 : tie.Need-returns-4
 returns-4 c = let a = c .before .before .before .before .args in heads.units-no-digit (a .tens) (a .units) (sym (c .before .before .before .is-in .ensures) ∙ c .before .before .if1 .taken) (sym (c .before .is-in2 .ensures) ∙ c .if2 .left)

@@ -15,14 +15,17 @@ Inv-loop input at end₀ end = (at ≤ end) × (end ≤ length input) × (at + l
 abbrev μ-loop : tie.MeasureT-loop
 μ-loop input at end₀ end = length input - end
 
+line-blocks-requires : tie.Need-line-blocks-requires Inv-loop μ-loop
+line-blocks-requires c κs = search needs
+
 loop-holds : tie.Need-loop-holds Inv-loop μ-loop
-loop-holds c = (omega arith, omega arith, refl)
+loop-holds c = c .line-blocks .ensures
 
 shared-slice-read-if1 : tie.Need-shared-slice-read-if1 Inv-loop μ-loop
 shared-slice-read-if1 c = search needs
 
 returns : tie.Need-returns Inv-loop μ-loop
-returns c = omega (arith, c .before .before .before .loop .inv .2, streams.line-ends (c .before .before .before .before .args .input .now) (c .before .before .before .loop .end) (c .before .before .loop-test .taken) (c .if1 .taken))
+returns c = omega (arith, c .before .before .before .loop .inv .2, streams.line-ends (c .before .before .before .before .before .before .args .input .now) (c .before .before .before .loop .end) (c .before .before .loop-test .taken) (c .if1 .taken))
 
 add-end : tie.Need-add-end Inv-loop μ-loop
 add-end c = search needs
@@ -31,10 +34,10 @@ loop-less : tie.Need-loop-less Inv-loop μ-loop
 loop-less c = search needs
 
 loop-again : tie.Need-loop-again Inv-loop μ-loop
-loop-again c = (omega arith, omega arith, omega (arith, c .before .before .before .loop .inv .2, streams.line-more (c .before .before .before .before .args .input .now) (c .before .before .before .loop .end) (c .before .before .loop-test .taken) (c .if1 .left)))
+loop-again c = (omega arith, omega arith, omega (arith, c .before .before .before .loop .inv .2, streams.line-more (c .before .before .before .before .before .before .args .input .now) (c .before .before .before .loop .end) (c .before .before .loop-test .taken) (c .if1 .left)))
 
 returns-2 : tie.Need-returns-2 Inv-loop μ-loop
-returns-2 c = omega (arith, c .before .loop .inv .2, streams.input-ends (c .before .before .args .input .now) (c .before .loop .end) (c .loop-test .left))
+returns-2 c = omega (arith, c .before .loop .inv .2, streams.input-ends (c .before .before .before .before .args .input .now) (c .before .loop .end) (c .loop-test .left))
 
 pub line-end-spec : {M : Type 1} → statement M
 line-end-spec =
@@ -42,6 +45,7 @@ line-end-spec =
     (tie.spec
     Inv-loop
     μ-loop
+    line-blocks-requires
     loop-holds
     shared-slice-read-if1
     returns

@@ -1,0 +1,47 @@
+-- `luck_lines::stream::has_newline` meets its contract. Assumes nothing.
+use mathlib.Core.Path.{_≡_, refl, sym, ap, _∙_}
+use Prim.Native.Nat.{ℕ, _≤_, _<_, _-_}
+use native.Mathlib.Omega.{arith}
+use mathlib.Core.Logic.{⊎-elim}
+use mathlib.Core.Bool.{false, true≢false}
+use borrow.Author.Count.{below-more}
+use lib.ListN.{length}
+use Rattle.luck_token.specs.Bytes.{byteAt}
+use borrow.Author.Needs.{needs}
+use Rattle.luck_lines.proofs.stream.has_newline.Statement.{statement}
+use Rattle.luck_lines.proofs.stream.has_newline.Tie as tie
+
+abbrev Inv-loop : tie.InvT-loop
+Inv-loop block found₀ i₀ found i = (i ≤ length block) × (found ≡ false → (k : ℕ) → k < i → byteAt block k ≡ 10 → ⊥)
+
+abbrev μ-loop : tie.MeasureT-loop
+μ-loop block found₀ i₀ found i = length block - i
+
+loop-holds : tie.Need-loop-holds Inv-loop μ-loop
+loop-holds c = (omega arith, λ e k l. absurd (omega arith))
+
+shared-slice-read-if1 : tie.Need-shared-slice-read-if1 Inv-loop μ-loop
+shared-slice-read-if1 c = search needs
+
+add-i : tie.Need-add-i Inv-loop μ-loop
+add-i c = search needs
+
+loop-less : tie.Need-loop-less Inv-loop μ-loop
+loop-less c = search needs
+
+loop-again : tie.Need-loop-again Inv-loop μ-loop
+loop-again c = let l = c .before .before .before .loop in
+    let block = c .before .before .before .before .args .block .now in (
+      omega arith,
+      λ e. below-more (λ (k : ℕ). byteAt block k ≡ 10 → ⊥) (l .i)
+          (λ k m. ⊎-elim (λ w. absurd (true≢false (sym (w .1) ∙ e))) (λ w. l .inv .1 (sym (w .1) ∙ e) k m) (c .if1 .came))
+          (⊎-elim (λ w. absurd (true≢false (sym (w .1) ∙ e))) (λ w. w .0 .left) (c .if1 .came)),
+    )
+
+returns : tie.Need-returns Inv-loop μ-loop
+returns c = λ e k l. c .before .loop .inv .1 e k (omega arith)
+
+pub has-newline-spec : {M : Type 1} → statement M
+has-newline-spec =
+    tie.close
+    (tie.spec Inv-loop μ-loop loop-holds shared-slice-read-if1 add-i loop-less loop-again returns)
