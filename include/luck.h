@@ -1,7 +1,7 @@
 /*
  * luck.h: checks of Lua string literals, and a trial of gsub, for Lua 5.1 to 5.5 and Luau.
  *
- * Link libluck.a, which `rt staticlib luck` writes to target/staticlib, for 64-bit x86 on Linux. It needs no other library.
+ * Link libluck.a, which `rt staticlib luck` writes to target/staticlib, for 64-bit x86 on Linux. Of the C library it calls memcpy and memset only.
  * C99 and C++.
  *
  * For every function:
@@ -14,10 +14,10 @@
  *   any number of threads at once, also on the same text. Each takes less than 1 KiB of stack, as measured, but for
  *   luck_gsub_trial, whose 200 levels take up to 450 KiB: give it 512.
  *
- * The refusals, by `number`, with their names behind LUCK_. 0 is none: accepted, decoded, or skipped.
+ * The refusals, by `number`, with their names after LUCK_. 0 is none: accepted, decoded, or skipped.
  *
  *    format
- *    1  TRUNCATED_SPECIFIER   the text ends behind a `%` or its modifiers (patterns too: behind `%`, or inside `%b`); at the `%`
+ *    1  TRUNCATED_SPECIFIER   the text ends after a `%` or its modifiers (patterns too: after `%`, or inside `%b`); at the `%`
  *    2  UNKNOWN_SPECIFIER     no conversion of this version; carries the character
  *    3  BAD_FLAG              the sixth flag of a specifier; carries it (versions 1, 2, 3 and 6)
  *    4  BAD_WIDTH             a width of more than two digits; at its first (versions 1, 2, 3 and 6)
@@ -27,13 +27,13 @@
  *    pattern
  *    8  UNTERMINATED_SET      a set without its `]`; at its `[`
  *    9  EMPTY_SET             a `[]` or `[^]` that ends the text; at its `[`
- *   10  BAD_ESCAPE            a `%f` without a set behind it; at its `%`; carries the `f`
+ *   10  BAD_ESCAPE            a `%f` without a set after it; at its `%`; carries the `f`
  *   11  UNMATCHED_CAPTURE     a `)` without an open capture; or a `(` that is never closed, then at the text's end
  *   12  TOO_MANY_CAPTURES     the 33rd capture
  *   13  BAD_BACK_REFERENCE    `%0`, or `%1` to `%9` of a capture that was not seen or is still open; at the digit
  *    pack and packsize
  *   14  INVALID_PACK_OPTION   no option, or one that `X` can't align to; carries the character
- *   15  TRUNCATED_PACK_SIZE   a `c` without a size, or an `X` at the text's end; at the place behind it
+ *   15  TRUNCATED_PACK_SIZE   a `c` without a size, or an `X` at the text's end; at the place after it
  *   16  PACK_SIZE_LIMITS      a size of `i`, `I`, `s` or `!` that is not 1 to 16; at its first digit (`c` takes any)
  *   17  BAD_PACK_ALIGNMENT    an alignment that is no power of 2; at the option
  *   18  VARIABLE_LENGTH       an `s` or `z` in a packsize format; carries it
@@ -142,7 +142,7 @@ typedef struct {
     bool skipped;    /* not checked; all else is 0 and false */
     bool spanned;    /* `start` and `end` hold the span of a fault in the body; refusals 23, 25 and 30 have none */
     uint32_t start;  /* the source's offset of the character at fault; 4,294,967,295 where it does not fit */
-    uint32_t end;    /* the offset behind that character, or one behind `start` where the fault is at the body's end; likewise */
+    uint32_t end;    /* the offset after that character, or one after `start` where the fault is at the body's end; likewise */
     size_t offset;   /* the fault's place in the body, as in luck_answer; for 23 in the text, its quote included */
     size_t count;    /* as in luck_answer, by the kind */
 } luck_literal;
@@ -167,7 +167,7 @@ typedef struct {
 
 /*
  * The bytes that a literal stands for: short in two equal quotes, or in long brackets. They are written to the front of
- * `output`, which has room for `room` bytes, and no byte behind them is touched; a refusal leaves the whole output untouched.
+ * `output`, which has room for `room` bytes, and no byte after them is touched; a refusal leaves the whole output untouched.
  * A value is never longer than its literal, so a room of `len` bytes is always enough. With a room of 0, `output` may be null.
  * `text` and `output` must not overlap.
  */
@@ -186,8 +186,8 @@ typedef struct {
  * string.gsub(subject, pattern, replacement) by the rules of 5.4 in every version; in a replacement 5.1 writes the byte after
  * a `%` that is neither a digit nor `%`, and a zero byte for a final `%`, where the others raise kind 9. A step is due when an item of
  * the pattern is begun, its end included, and for each test that a repeat makes after its first. The budget bounds the steps, not
- * the time: a step may read the whole pattern (a set) or the whole subject (`%b`), and each replacement reads the whole replacement. The result is written to the front of `output`, which has room for `room` bytes; no byte after the written
- * ones is touched. The texts are any bytes and are not checked first. `output` must overlap none of them.
+ * the time: a step may read the whole pattern (a set) or the whole subject (`%b`), and each replacement reads the whole replacement.
+ * The result is written to the front of `output`, which has room for `room` bytes; no byte after the written ones is touched. The texts are any bytes and are not checked first. `output` must overlap none of them.
  *
  * Kinds, by Lua's message: 1 pattern ends with '%'; 2 missing ']'; 3 missing '[' after '%f'; 4 missing arguments to '%b';
  * 5 invalid pattern capture; 6 unfinished capture; 7 invalid capture index in the pattern; 8 too many captures;
