@@ -348,13 +348,19 @@ static bool is_short(const uint8_t *text, size_t len)
     return len >= 2 && (text[0] == '"' || text[0] == '\'') && text[len - 1] == text[0];
 }
 
+/* Only a literal with an escape by number is one to decode: of another text the pipe would check nothing, or nothing that was asked. */
 static void put_skipped(const question *asked)
 {
-    fputs("skipped: ", stdout);
-    fputs(is_short(asked->text, asked->len) ? "an escape spells a byte by its number (`\\0` to `\\9`, `\\x` or `\\u`)"
-                                            : "no short string, which stands in two equal quotes",
-          stdout);
-    fputs("\n  write `luck decode VERSION TEXT | luck check KIND VERSION -` to check its value\n", stdout);
+    if (!is_short(asked->text, asked->len)) {
+        fputs("skipped: not in two equal quotes, so it is not checked\n"
+              "  write a short string with its quotes, or `luck check` for a body without them\n",
+              stdout);
+        return;
+    }
+    fprintf(stdout,
+            "skipped: an escape spells a byte by its number (`\\0` to `\\9`, `\\x` or `\\u`), so it is not checked\n"
+            "  write `luck decode VERSION TEXT | luck check KIND VERSION -%s` to check its value, unless decode refuses it\n",
+            asked->known ? " CAPTURES" : "");
 }
 
 static int run_literal(int count, char **words)

@@ -14,23 +14,29 @@ enum {
     SCREEN = 72, /* the columns of a text that is shown; of a longer one PART are, with dots */
     DOTS = 3,
     PART = SCREEN - 2 * DOTS,
+    REACH = 4 * (SCREEN + 2), /* bytes that take more than SCREEN columns: a character has at most four bytes and at least one column */
     LONGEST_SHOWN = 16 /* `\u{10FFFF}` and a zero byte fit */
 };
 
 static const size_t nowhere = SIZE_MAX; /* the place of a refusal that has none */
 
 /* Code points that take no column of their own, or turn the order of the text, have 0 columns and are shown by their number; wide ones
- * have 2. All others count 1: the tables of real terminals differ, and these are the blocks on which they agree. */
+ * have 2. All others count 1. The table has common blocks and is not whole, and the tables of real terminals differ: after a code point
+ * that it has wrong, the caret stands off. */
 static const struct {
     uint32_t first;
     uint32_t last;
     unsigned columns;
 } blocks[] = {
-    {0x80, 0x9F, 0},       {0xAD, 0xAD, 0},       {0x300, 0x36F, 0},     {0x61C, 0x61C, 0},     {0x1100, 0x115F, 2},
-    {0x200B, 0x200F, 0},   {0x2028, 0x202E, 0},   {0x2060, 0x206F, 0},   {0x2E80, 0x303E, 2},   {0x3041, 0xA4CF, 2},
-    {0xAC00, 0xD7A3, 2},   {0xF900, 0xFAFF, 2},   {0xFE00, 0xFE0F, 0},   {0xFE30, 0xFE6F, 2},   {0xFEFF, 0xFEFF, 0},
-    {0xFF00, 0xFF60, 2},   {0xFFE0, 0xFFE6, 2},   {0xFFF9, 0xFFFB, 0},   {0x1F300, 0x1F64F, 2}, {0x1F680, 0x1F6FF, 2},
-    {0x1F900, 0x1F9FF, 2}, {0x20000, 0x3FFFD, 2}, {0xE0000, 0xE0FFF, 0}};
+    {0x80, 0x9F, 0},       {0xAD, 0xAD, 0},       {0x300, 0x36F, 0},     {0x591, 0x5BD, 0},     {0x61C, 0x61C, 0},
+    {0xE31, 0xE31, 0},     {0xE34, 0xE3A, 0},     {0xE47, 0xE4E, 0},     {0x1100, 0x115F, 2},   {0x1160, 0x11FF, 0},
+    {0x180E, 0x180E, 0},   {0x200B, 0x200F, 0},   {0x2028, 0x202E, 0},   {0x2060, 0x206F, 0},   {0x20D0, 0x20FF, 0},
+    {0x231A, 0x231B, 2},   {0x23E9, 0x23EC, 2},   {0x23F0, 0x23F0, 2},   {0x23F3, 0x23F3, 2},   {0x2705, 0x2705, 2},
+    {0x2728, 0x2728, 2},   {0x274C, 0x274C, 2},   {0x274E, 0x274E, 2},   {0x2753, 0x2755, 2},   {0x2757, 0x2757, 2},
+    {0x2E80, 0x3029, 2},   {0x302A, 0x302D, 0},   {0x302E, 0x303E, 2},   {0x3041, 0x3098, 2},   {0x3099, 0x309A, 0},
+    {0x309B, 0xA4CF, 2},   {0xAC00, 0xD7A3, 2},   {0xF900, 0xFAFF, 2},   {0xFE00, 0xFE0F, 0},   {0xFE30, 0xFE6F, 2},
+    {0xFEFF, 0xFEFF, 0},   {0xFF00, 0xFF60, 2},   {0xFFE0, 0xFFE6, 2},   {0xFFF9, 0xFFFB, 0},   {0x1F300, 0x1F64F, 2},
+    {0x1F680, 0x1F6FF, 2}, {0x1F900, 0x1F9FF, 2}, {0x1FA70, 0x1FAFF, 2}, {0x20000, 0x3FFFD, 2}, {0xE0000, 0xE0FFF, 0}};
 
 static unsigned columns_of(uint32_t code)
 {
@@ -106,12 +112,23 @@ static void put_word(FILE *out, const char *word)
     put_text(out, (const uint8_t *)word, strlen(word));
 }
 
-/* The columns of the text, and of the characters before the one that holds the byte at `place`. */
-static size_t columns_before(const uint8_t *text, size_t len, size_t place, size_t *all)
+/* A place at most three bytes before `place`, which is inside the text, or `place` itself, where a character begins or a byte is shown
+ * alone: any byte but a continuation byte; and a continuation byte after three others, since no character has four of them. */
+static size_t start_of_character(const uint8_t *text, size_t place)
+{
+    for (size_t back = 0; back <= 3 && back <= place; back++)
+        if ((text[place - back] & 0xC0) != 0x80)
+            return place - back;
+    return place;
+}
+
+/* The columns from the character at `start` to the one that holds the byte at `place`; and in `all` those to the text's end, or, where
+ * more than SCREEN follow, more than SCREEN of them: a long text is not walked to its end. */
+static size_t columns_before(const uint8_t *text, size_t len, size_t start, size_t place, size_t *all)
 {
     size_t before = 0;
     *all = 0;
-    for (size_t at = 0; at < len;) {
+    for (size_t at = start; at < len && *all <= before + SCREEN;) {
         character next = character_at(text + at, len - at);
         at += next.taken;
         *all += next.columns;
@@ -122,16 +139,18 @@ static size_t columns_before(const uint8_t *text, size_t len, size_t place, size
 }
 
 /* A row of the text, and under it a row with a caret; `place` may be the text's end, or nowhere. Of a text longer than SCREEN
- * columns a part is shown that has the place in it. */
+ * columns a part is shown that has the place in it. All columns are counted from `start`, which is the text's, or more than SCREEN
+ * columns before the place. */
 static void put_place(FILE *out, const uint8_t *text, size_t len, size_t place)
 {
     if (len == 0 && place == nowhere)
         return;
+    size_t start = place != nowhere && place > REACH ? start_of_character(text, place - REACH) : 0;
     size_t all = 0;
-    size_t before = columns_before(text, len, place, &all);
+    size_t before = columns_before(text, len, start, place == nowhere ? 0 : place, &all);
     size_t from = 0;
-    size_t column = 0; /* of the text, where the next character begins */
-    size_t at = 0;
+    size_t column = 0; /* where the next character begins */
+    size_t at = start;
     if (all > SCREEN && place != nowhere) {
         from = before > PART / 2 ? before - PART / 2 : 0;
         if (all - from < PART)
