@@ -1,0 +1,22 @@
+//! Links the proved libraries: the one for hosts, and the one of the token crate's functions, which has the UTF-8 test by itself.
+
+use std::env;
+use std::path::Path;
+
+/// Names the folder of the static libraries. A relative name counts from the repository's root.
+const LIBRARY_VARIABLE: &str = "LUCK_LIB";
+const DEFAULT_LIBRARY: &str = "target/staticlib";
+const LIBRARIES: [&str; 2] = ["luck", "luck_token_exports"];
+
+fn main() {
+    println!("cargo:rerun-if-env-changed={LIBRARY_VARIABLE}");
+    let root = Path::new(&env::var("CARGO_MANIFEST_DIR").unwrap()).join("..");
+    let folder = root.join(env::var(LIBRARY_VARIABLE).unwrap_or_else(|_| DEFAULT_LIBRARY.to_owned()));
+    println!("cargo:rustc-link-search=native={}", folder.display());
+    for library in LIBRARIES {
+        let archive = folder.join(format!("lib{library}.a"));
+        println!("cargo:rerun-if-changed={}", archive.display());
+        assert!(archive.is_file(), "{}: no such library (rt staticlib {library}, or set {LIBRARY_VARIABLE})", archive.display());
+        println!("cargo:rustc-link-lib=static={library}");
+    }
+}

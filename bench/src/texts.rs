@@ -1,0 +1,191 @@
+//! The texts that are measured on. They are the same in every run.
+
+use crate::bodies;
+use crate::check_reference::Body;
+use crate::grammar::{self, push};
+use crate::kind::Kind;
+use crate::random::Random;
+use crate::reference;
+
+const SEED: u64 = 20_240_501;
+const VERSION: u32 = 4;
+/// A body's or literal's bytes where it is short.
+const SHORT: std::ops::RangeInclusive<usize> = 5..=40;
+const SHORT_COUNT: usize = 1000;
+
+/// The usual lines of a log: dates, words, numbers and pairs, and no `#`.
+const LOG: [&str; 6] = [
+    "2024-05-01 12:07:17 drive_2 state=run speed=1487 torque=62",
+    "2024-05-01 12:07:18 door_A state=closed cabin=3",
+    "2024-05-01 12:07:19 drive_2 trip=17 cause=overcurrent_phase_u",
+    "2024-05-01 12:07:23 brake (released), supply 24.1 V",
+    "2024-05-01 12:07:24 cabin 3 -> 4, load 412 kg",
+    "2024-05-01 12:07:31 door_B state=opening retries=2",
+];
+const RARE_LINE: &str = "2024-05-01 12:08:00 note #42 by the operator";
+/// One line in so many is the rare one.
+const RARE: usize = 50;
+
+const ASCII_WORDS: [&str; 6] = ["trip ", "drive ", "cabin ", "overcurrent, ", "17 ", "state=run\n"];
+const MIXED_WORDS: [&str; 12] = [
+    "trip ",
+    "Türöffner ",
+    "Überlast ",
+    "κλειδί ",
+    "ошибка ",
+    "门已关闭 ",
+    "😀 ",
+    "cabin ",
+    "17 ",
+    "24,1 °C ",
+    "€ ",
+    "state=run\n",
+];
+
+#[derive(Debug, Clone, Copy, PartialEq, Eq)]
+pub enum Alphabet {
+    Any,
+    Ascii,
+}
+
+/// Pieces in a row, as many as fit, and spaces up to the size.
+fn filled(size: usize, mut piece: impl FnMut() -> Vec<u8>) -> Vec<u8> {
+    let mut text = Vec::with_capacity(size);
+    loop {
+        let next = piece();
+        if text.len() + next.len() > size {
+            text.resize(size, b' ');
+            return text;
+        }
+        text.extend(next);
+    }
+}
+
+fn words(words: &[&str], size: usize) -> Vec<u8> {
+    let mut random = Random::new(SEED);
+    filled(size, || random.pick(words).as_bytes().to_vec())
+}
+
+pub fn ascii(size: usize) -> Vec<u8> {
+    words(&ASCII_WORDS, size)
+}
+
+/// Characters of one to four bytes.
+pub fn mixed(size: usize) -> Vec<u8> {
+    words(&MIXED_WORDS, size)
+}
+
+pub fn log(size: usize) -> Vec<u8> {
+    let mut random = Random::new(SEED);
+    filled(size, || {
+        let line = if random.one_in(RARE) { RARE_LINE } else { random.pick(&LOG) };
+        format!("{line}\n").into_bytes()
+    })
+}
+
+/// Bodies by the grammar, some of them at fault.
+pub fn short_bodies(kind: Kind) -> Vec<Vec<u8>> {
+    let mut random = Random::new(SEED);
+    (0..SHORT_COUNT).map(|_| short(&mut random, |random, text| bodies::body(random, kind, text))).collect()
+}
+
+/// Literals by the grammar, some of them at fault.
+pub fn short_literals() -> Vec<Vec<u8>> {
+    let mut random = Random::new(SEED);
+    (0..SHORT_COUNT).map(|_| short(&mut random, grammar::literal)).collect()
+}
+
+/// The first of the texts that is short.
+fn short(random: &mut Random, make: impl Fn(&mut Random, &mut Vec<u8>)) -> Vec<u8> {
+    first(random, make, |text| SHORT.contains(&text.len()))
+}
+
+fn first(random: &mut Random, make: impl Fn(&mut Random, &mut Vec<u8>), is_wanted: impl Fn(&[u8]) -> bool) -> Vec<u8> {
+    loop {
+        let mut text = Vec::new();
+        make(random, &mut text);
+        if is_wanted(&text) {
+            return text;
+        }
+    }
+}
+
+/// A body without a fault: bodies by the grammar, one after the other.
+pub fn accepted(kind: Kind, alphabet: Alphabet, size: usize) -> Vec<u8> {
+    let mut random = Random::new(SEED);
+    filled(size, || {
+        first(
+            &mut random,
+            |random, text| bodies::body(random, kind, text),
+            |text| SHORT.contains(&text.len()) && (alphabet == Alphabet::Any || text.is_ascii()) && fits_anywhere(kind, text),
+        )
+    })
+}
+
+/// Whether the body is accepted after and before any others that are. Captures have a limit, so a pattern may have none; of pack
+/// formats the alignment goes on to the next, so the body must be fine after the largest and leave one that the largest size fits.
+fn fits_anywhere(kind: Kind, text: &[u8]) -> bool {
+    let count = |text: &[u8]| {
+        let answer = Body::new(text).check(kind, VERSION, Some(1));
+        (answer.number == 0).then_some(answer.count)
+    };
+    match kind {
+        Kind::Pattern => count(text) == Some(0),
+        Kind::Pack | Kind::Packsize => count(text).is_some() && count(&[b"!16", text, b"i16"].concat()).is_some(),
+        Kind::Format | Kind::Replacement | Kind::Date => count(text).is_some(),
+    }
+}
+
+/// A literal in quotes with nothing to decode.
+pub fn plain_literal(size: usize) -> Vec<u8> {
+    quoted(&ascii(size))
+}
+
+/// A literal in quotes with every kind of escape, several in each 40 bytes.
+pub fn escaped_literal(size: usize) -> Vec<u8> {
+    let mut random = Random::new(SEED);
+    quoted(&filled(size, || escaped_piece(&mut random)))
+}
+
+/// What is between the quotes of a literal that can be decoded. The space keeps the next one's digits from an escape's.
+fn escaped_piece(random: &mut Random) -> Vec<u8> {
+    let is_wanted = |text: &[u8]| SHORT.contains(&text.len()) && text[0] != b'[' && reference::value(VERSION, text).is_ok();
+    let literal = first(random, grammar::literal, is_wanted);
+    [&literal[1..literal.len() - 1], b" "].concat()
+}
+
+/// A literal in long brackets, with line breaks that become one byte.
+pub fn long_literal(size: usize) -> Vec<u8> {
+    let lines: Vec<u8> = ascii(size).iter().map(|&byte| if byte == b'\n' { b'\r' } else { byte }).collect();
+    [b"[==[", lines.as_slice(), b"]==]"].concat()
+}
+
+fn quoted(body: &[u8]) -> Vec<u8> {
+    [b"\"", body, b"\""].concat()
+}
+
+/// Lines for the program `bodies`, the last one filled up to the size.
+pub fn lines(size: usize) -> Vec<u8> {
+    let mut random = Random::new(SEED);
+    let mut lines = filled(size, || line(&mut random));
+    if let Some(last) = lines.last_mut() {
+        *last = b'\n';
+    }
+    lines
+}
+
+/// A head, one in fifty that does not fit, and a short body without a newline.
+fn line(random: &mut Random) -> Vec<u8> {
+    let kind = Kind::ALL[random.below(Kind::ALL.len())];
+    let mut line = vec![kind.letter(), b'1' + random.below(6) as u8];
+    let has_count = kind == Kind::Replacement && random.one_in(2);
+    push(&mut line, &if has_count { format!("{:>2}", random.below(4)) } else { "  ".to_owned() });
+    line.push(if random.one_in(50) { b'_' } else { b' ' });
+    line.extend(first(
+        random,
+        |random, text| bodies::body(random, kind, text),
+        |text| SHORT.contains(&text.len()) && !text.contains(&b'\n'),
+    ));
+    line.push(b'\n');
+    line
+}
