@@ -41,6 +41,10 @@ isDigit b = between (code "0") (code "9") b
 unfoldable pub isXdigit : ℕ → Bool
 isXdigit b = isDigit b || between (code "a") (code "f") b || between (code "A") (code "F") b
 
+-- whitespace to Lua's lexers, and C's isspace: space, and HT, LF, VT, FF, CR
+unfoldable pub isLuaWhitespace : ℕ → Bool
+isLuaWhitespace b = eqb b (code " ") || between (code "\t") (code "\r") b
+
 -- how many bytes at the front of a text pass a test, up to the first that does not
 unfoldable pub run : (ℕ → Bool) → List ℕ → ℕ
 run test [] = 0

@@ -3,8 +3,7 @@
 use Prim.Native.Nat.{ℕ, _+_, _*_, min}
 use mathlib.Core.Bool.{Bool}
 use lib.Dec.{eqb}
-use Rattle.luck_token.specs.Bytes.{isDigit, isXdigit, digitValue}
-use Rattle.luck_token.specs.Whitespace.{isLuaWhitespace}
+use Rattle.luck_token.specs.Bytes.{isDigit, isXdigit, isLuaWhitespace, digitValue}
 use Rattle.luck_token.specs.declared.scan.Class.{Class}
 use Rattle.luck_token.specs.declared.scan.Class.the-variants.{Digit, HexDigit, Whitespace, Byte}
 

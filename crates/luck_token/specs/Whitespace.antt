@@ -1,16 +1,12 @@
--- Whitespace and line breaks, as the lexers read them (whitespace.rs of luck).
+-- Line breaks, as the lexers read them (whitespace.rs of luck).
 -- Assumes nothing.
 use Prim.Native.Nat.{ℕ, _+_}
 use Prim.Native.Char.{code}
-use mathlib.Core.Bool.{Bool, true, false, _&&_, _||_}
+use mathlib.Core.Bool.{Bool, _&&_}
 use mathlib.Core.List.{List}
 use lib.ListN.{drop}
 use lib.Dec.{eqb}
-use Rattle.luck_token.specs.Bytes.{if_then_else_, byteAt, between}
-
--- the six bytes of C's isspace: space, and HT, LF, VT, FF, CR
-unfoldable pub isLuaWhitespace : ℕ → Bool
-isLuaWhitespace b = eqb b (code " ") || between (code "\t") (code "\r") b
+use Rattle.luck_token.specs.Bytes.{if_then_else_, byteAt}
 
 -- how many bytes the line break at place p has, 0 where there is none. inclinenumber of llex.c: LF, CR, CR LF and LF CR
 -- are one break each. Luau's lexer (no `lfcr`): LF, and CR LF.

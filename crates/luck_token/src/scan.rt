@@ -4,7 +4,6 @@ ghost use Prim.Native.Nat.{_≤_, min};
 ghost use lib.ListN.{length, drop};
 ghost use Rattle.luck_token.specs.Bytes.{part, among, run as runOf, digitValue, numeral as numeralOf};
 ghost use Rattle.luck_token.specs.Scan.{inClass, most, grown};
-use crate::whitespace;
 
 // What a run is made of.
 pub enum Class {
@@ -34,13 +33,25 @@ fn is_hex_digit(byte: u8) -> bool
     }
 }
 
+fn is_lua_whitespace(byte: u8) -> bool
+    ensures { λ r. ⌜ r ≡ inClass Class.Whitespace byte ⌝ }
+{
+    if byte == b' ' {
+        return true;
+    }
+    if byte < b'\t' {
+        return false;
+    }
+    byte <= b'\r'
+}
+
 pub fn is_in(class: Class, byte: u8) -> bool
     ensures { λ r. ⌜ r ≡ inClass class byte ⌝ }
 {
     match class {
         Class::Digit => is_digit(byte),
         Class::HexDigit => is_hex_digit(byte),
-        Class::Whitespace => whitespace::is_lua_whitespace(byte),
+        Class::Whitespace => is_lua_whitespace(byte),
         Class::Byte(b) => b == byte,
     }
 }

@@ -3,21 +3,17 @@ ghost use mathlib.Core.Path.{_≡_};
 ghost use Prim.Native.Nat.{_+_, _<_};
 ghost use lib.ListN.{length};
 ghost use lib.Dec.{eqb};
-ghost use Rattle.luck_token.specs.Bytes.{byteAt};
+ghost use Rattle.luck_token.specs.Bytes.{byteAt, isLuaWhitespace};
 ghost use Rattle.luck_token.specs.Version.{rulesOf};
-ghost use Rattle.luck_token.specs.Whitespace.{isLuaWhitespace, lineBreak, stripLineBreak};
+ghost use Rattle.luck_token.specs.Whitespace.{lineBreak, stripLineBreak};
+use crate::scan;
+use crate::scan::Class;
 use crate::version;
 
 pub fn is_lua_whitespace(byte: u8) -> bool
     ensures { λ r. ⌜ r ≡ isLuaWhitespace byte ⌝ }
 {
-    if byte == b' ' {
-        return true;
-    }
-    if byte < b'\t' {
-        return false;
-    }
-    byte <= b'\r'
+    scan::is_in(Class::Whitespace, byte)
 }
 
 // Whether this byte stands after `at`.

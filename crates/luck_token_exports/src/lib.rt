@@ -2,11 +2,12 @@
 // The decoding is a function of the library for hosts.
 ghost use mathlib.Core.Path.{_≡_};
 ghost use lib.ListN.{length};
+ghost use Rattle.luck_token.specs.Bytes.{isLuaWhitespace};
 ghost use Rattle.luck_token.specs.Literal.{shortStringBody};
 ghost use Rattle.luck_token.specs.Span.{spanOf, shiftedBy};
 ghost use Rattle.luck_token.specs.Utf8.{illFormed, charAt};
 ghost use Rattle.luck_token.specs.Version.{rulesOf};
-ghost use Rattle.luck_token.specs.Whitespace.{isLuaWhitespace, stripLineBreak};
+ghost use Rattle.luck_token.specs.Whitespace.{stripLineBreak};
 ghost use Rattle.luck_token_exports.specs.Answers.{placeOr, bodyOf};
 use luck_token::span::Span;
 use luck_token::string;

@@ -1,10 +1,10 @@
--- `luck_token::whitespace::is_lua_whitespace` meets its contract. Assumes nothing.
+-- `luck_token::scan::is_lua_whitespace` meets its contract. Assumes nothing.
 use native.Mathlib.Omega.{arith}
 use borrow.Author.Tests.{ltb-true, ltb-false, leb-true, leb-false, eqb-true, eqb-false, not-true, not-false, lt-ltb, le-ltb, le-leb, lt-leb, eq-eqb, ne-eqb}
-use Rattle.luck_token.specs.Whitespace.{isLuaWhitespace}
+use Rattle.luck_token.specs.Bytes.{isLuaWhitespace}
 use Rattle.luck_token.proofs.Bytes.{within, below, above}
-use Rattle.luck_token.proofs.whitespace.is_lua_whitespace.Statement.{statement}
-use Rattle.luck_token.proofs.whitespace.is_lua_whitespace.Tie as tie
+use Rattle.luck_token.proofs.scan.is_lua_whitespace.Statement.{statement}
+use Rattle.luck_token.proofs.scan.is_lua_whitespace.Tie as tie
 
 returns : tie.Need-returns
 unfolding isLuaWhitespace
