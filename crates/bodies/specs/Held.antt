@@ -5,7 +5,7 @@ use mathlib.Core.Path.{_≡_}
 use mathlib.Core.Bool.{Bool, true}
 use mathlib.Core.List.{List}
 use lib.ListN.{length, take}
-use Rattle.luck_token.specs.Bytes.{part}
+use Rattle.luck_text.specs.Bytes.{part}
 use Rattle.luck_lines.specs.Stream.{lineLength}
 use Rattle.bodies.specs.declared.Held.{Held}
 

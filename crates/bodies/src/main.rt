@@ -4,7 +4,7 @@ ghost use mathlib.Core.Path.{_≡_};
 ghost use mathlib.Core.Bool.{false};
 ghost use Prim.Native.Nat.{_≤_, _<_};
 ghost use lib.ListN.{length, drop};
-ghost use Rattle.luck_token.specs.Bytes.{part};
+ghost use Rattle.luck_text.specs.Bytes.{part};
 ghost use Rattle.luck_lines.specs.Stream.{lineLength, feed};
 ghost use Rattle.bodies.specs.Held.{Within, Unended, heldIn, GoesOn};
 use libc::STDIN_FILENO;

@@ -8,8 +8,8 @@ use mathlib.Core.List.{List}
 use mathlib.Core.Option.{Option, none, some}
 use lib.ListN.{length, drop, length-drop}
 use lib.Dec.{ltb}
-use Rattle.luck_token.specs.Bytes.{byteAt, among}
-use Rattle.luck_token.proofs.Cases.{by-test}
+use Rattle.luck_text.specs.Bytes.{byteAt, among}
+use Rattle.luck_text.proofs.Cases.{by-test}
 use Rattle.luck_linter.specs.Answer.{Answer, refused}
 use Rattle.luck_linter.specs.Checks.{Check, pattern, format, date, replacement, pack, literal, answer, numbers}
 use Rattle.luck_linter.proofs.Among.{Every, every-among}

@@ -11,8 +11,8 @@ use lib.ListN.{length, take, drop, length-drop, length-append}
 use lib.Seq.{drop-drop, drop-length}
 use lib.Dec.{eqb, ltb}
 use borrow.Author.Tests.{ltb-true, ltb-false, eqb-true, eqb-false}
-use Rattle.luck_token.specs.Bytes.{part}
-use Rattle.luck_token.proofs.Cases.{by-test, order}
+use Rattle.luck_text.specs.Bytes.{part}
+use Rattle.luck_text.proofs.Cases.{by-test, order}
 use Rattle.luck_lines.specs.Line.{longest}
 use Rattle.luck_lines.specs.Stream.{lineLength, rowOf, Taken, taken, State, state, unended, feed, rowsAfter}
 use Rattle.luck_lines.proofs.Listings.{after-line, after-long}

@@ -10,7 +10,7 @@ use mathlib.Core.Option.{Option, none, some}
 use lib.ListN.{length, take, drop, length-drop, List·getD-eq-default}
 use lib.Seq.{take-all}
 use borrow.Author.Tests.{le-leb, lt-leb, eq-eqb, ne-eqb, lt-ltb, le-ltb}
-use Rattle.luck_token.specs.Bytes.{if_then_else_, byteAt, isDigit}
+use Rattle.luck_text.specs.Bytes.{if_then_else_, byteAt, isDigit}
 use Rattle.luck_linter.specs.Answer.{Answer, refused}
 use Rattle.luck_linter.specs.Checks.{Check, answer}
 use Rattle.luck_lines.specs.Line.{twoDigits, capturesIn, replacementWith, plainCheck, checkBy, checkOf, bodyAnswer, lineAnswer}

@@ -6,7 +6,7 @@ use mathlib.Core.Path.{_≡_}
 use mathlib.Core.Bool.{Bool, true, false}
 use mathlib.Core.List.{List, [], _++_}
 use lib.ListN.{length, drop}
-use Rattle.luck_token.specs.Bytes.{among}
+use Rattle.luck_text.specs.Bytes.{among}
 use Rattle.luck_lines.specs.Line.{longest, lineAnswer, lineNumbers}
 use Rattle.luck_lines.specs.Lines.{lines, listing}
 use Rattle.luck_lines.specs.Stream.{rowLength, lineLength, feed, passed, rowsAfter, Run}

@@ -11,11 +11,11 @@ use lib.Seq.{getD-take, getD-drop, take-at, drop-at, take-all, length-take-le, t
 use lib.Dec.{eqb, ltb}
 use borrow.Author.Tests.{lt-ltb, le-ltb, ne-eqb, eq-eqb}
 use borrow.Rule.Slice.PartMut.{putMid}
-use Rattle.luck_token.specs.Bytes.{if_then_else_, byteAt, part}
-use Rattle.luck_token.specs.Walk.{stop, goes, walkFrom}
-use Rattle.luck_token.proofs.Walk.{walk-end, walk-stop, walk-goes}
-use Rattle.luck_token.proofs.Bytes.{run-more, run-stop, run-end, run-inside}
-use Rattle.luck_token.proofs.Cases.{by-test}
+use Rattle.luck_text.specs.Bytes.{if_then_else_, byteAt, part}
+use Rattle.luck_text.specs.Walk.{stop, goes, walkFrom}
+use Rattle.luck_text.proofs.Walk.{walk-end, walk-stop, walk-goes}
+use Rattle.luck_text.proofs.Bytes.{run-more, run-stop, run-end, run-inside}
+use Rattle.luck_text.proofs.Cases.{by-test}
 use Rattle.luck_linter.specs.Answer.{refused}
 use Rattle.luck_lines.specs.Line.{longest, lineAnswer}
 use Rattle.luck_lines.specs.Row.{answerRow}

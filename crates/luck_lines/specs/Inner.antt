@@ -4,7 +4,7 @@ use Prim.Native.Nat.{ℕ, _-_}
 use mathlib.Core.Bool.{Bool, true, false, _||_}
 use mathlib.Core.Option.{Option, none, some}
 use lib.Dec.{ltb}
-use Rattle.luck_token.specs.Bytes.{if_then_else_}
+use Rattle.luck_text.specs.Bytes.{if_then_else_}
 use Rattle.luck_lines.specs.Line.{longest}
 use Rattle.luck_lines.specs.declared.line.Columns.{Columns}
 use Rattle.luck_lines.specs.declared.line.Columns.the-variants.{Unknown, Count, Misfit}

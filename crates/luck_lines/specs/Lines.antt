@@ -3,7 +3,7 @@
 use Prim.Native.Nat.{ℕ}
 use mathlib.Core.List.{List, [], _∷_, _++_}
 use lib.Dec.{eqb}
-use Rattle.luck_token.specs.Bytes.{if_then_else_}
+use Rattle.luck_text.specs.Bytes.{if_then_else_}
 use Rattle.luck_lines.specs.Line.{lineAnswer}
 use Rattle.luck_lines.specs.Row.{newline, answerRow}
 

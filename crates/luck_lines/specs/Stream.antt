@@ -7,8 +7,8 @@ use mathlib.Core.Bool.{Bool, true, false, not, _||_}
 use mathlib.Core.List.{List, [], _++_}
 use lib.ListN.{length, drop, replicate}
 use lib.Dec.{eqb, ltb}
-use Rattle.luck_token.specs.Bytes.{if_then_else_, part, run}
-use Rattle.luck_token.specs.Walk.{Turn, stop, goes, walkFrom}
+use Rattle.luck_text.specs.Bytes.{if_then_else_, part, run}
+use Rattle.luck_text.specs.Walk.{Turn, stop, goes, walkFrom}
 use Rattle.luck_linter.specs.Answer.{refused}
 use Rattle.luck_lines.specs.Line.{longest, lineAnswer}
 use Rattle.luck_lines.specs.Row.{newline, answerRow}

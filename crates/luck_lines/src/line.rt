@@ -9,8 +9,8 @@ use luck_linter::format_pattern::pack;
 use luck_linter::format_pattern::pattern;
 use luck_linter::format_pattern::replacement;
 use luck_linter::format_pattern::replacement::Captures;
-use luck_token::scan;
-use luck_token::scan::Class;
+use luck_text::scan;
+use luck_text::scan::Class;
 
 // The two columns of captures of a replacement.
 pub enum Columns {

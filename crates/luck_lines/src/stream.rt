@@ -4,7 +4,7 @@ ghost use mathlib.Core.Path.{_≡_};
 ghost use mathlib.Core.List.{_++_};
 ghost use Prim.Native.Nat.{ℕ, _+_, _≤_, _<_};
 ghost use mathlib.Core.Bool.{false};
-ghost use Rattle.luck_token.specs.Bytes.{byteAt};
+ghost use Rattle.luck_text.specs.Bytes.{byteAt};
 ghost use lib.ListN.{length, drop};
 ghost use Rattle.luck_lines.specs.Stream.{lineLength, rowOf, feed, finish, fedOf, inFront};
 ghost use Rattle.luck_lines.specs.Inner.{unendedAt};

@@ -6,7 +6,7 @@ use mathlib.Core.Bool.{Bool, true, false, _||_, true≢false}
 use mathlib.Core.List.{List, [], _∷_, _++_}
 use lib.Dec.{eqb}
 use borrow.Author.Tests.{ne-eqb, eqb-true}
-use Rattle.luck_token.specs.Bytes.{among}
+use Rattle.luck_text.specs.Bytes.{among}
 
 abbrev pub Every : (ℕ → Type 0) → List ℕ → Type 0
 Every P [] = Unit {0}

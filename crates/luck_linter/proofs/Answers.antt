@@ -8,11 +8,11 @@ use mathlib.Core.List.{List}
 use mathlib.Core.Option.{Option, none, some}
 use lib.Dec.{eqb}
 use lib.ListN.{length}
-use Rattle.luck_token.specs.Bytes.{among}
+use Rattle.luck_text.specs.Bytes.{among}
 use Rattle.luck_token.specs.Version.{isVersion}
-use Rattle.luck_token.specs.Utf8.{sequence, sequenceAt, noneIllFormed, illFormed}
-use Rattle.luck_token.specs.Walk.{Turn, stop, goes, walk, walkFrom}
-use Rattle.luck_token.proofs.Cases.{by-test}
+use Rattle.luck_text.specs.Utf8.{sequence, sequenceAt, noneIllFormed, illFormed}
+use Rattle.luck_text.specs.Walk.{Turn, stop, goes, walk, walkFrom}
+use Rattle.luck_text.proofs.Cases.{by-test}
 use Rattle.luck_linter.specs.Answer.{Answer, afterVersion, afterUtf8, checkText}
 
 -- ---- A walk

@@ -7,10 +7,10 @@ use mathlib.Core.Bool.{Bool}
 use mathlib.Core.List.{List}
 use lib.ListN.{length}
 use borrow.Author.Tests.{leb-false}
-use Rattle.luck_token.specs.Bytes.{among}
+use Rattle.luck_text.specs.Bytes.{among}
 use Rattle.luck_token.specs.Version.{rulesOf}
-use Rattle.luck_token.specs.Walk.{Turn}
-use Rattle.luck_token.proofs.Cases.{by-test}
+use Rattle.luck_text.specs.Walk.{Turn}
+use Rattle.luck_text.proofs.Cases.{by-test}
 use Rattle.luck_linter.specs.Answer.{Answer}
 use Rattle.luck_linter.specs.Checks.{date, answer, numbers}
 use Rattle.luck_linter.specs.Date.{checksDates, hasDateOptions, dateTurn, dateEnd, conversionsWalk, dateWalk, checkDate}

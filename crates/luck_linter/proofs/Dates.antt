@@ -9,10 +9,10 @@ use mathlib.Core.List.{List}
 use lib.ListN.{length, List·getD-eq-default}
 use lib.Dec.{eqb, leb}
 use borrow.Author.Tests.{eq-eqb, ne-eqb, lt-leb, le-leb}
-use Rattle.luck_token.specs.Bytes.{if_then_else_, byteAt, among}
-use Rattle.luck_token.specs.Walk.{walkFrom, Turn, stop, goes}
-use Rattle.luck_token.proofs.Walk.{walk-end, walk-stop, walk-goes}
-use Rattle.luck_token.proofs.Cases.{if-true, if-false, both-true, first-false, second-false}
+use Rattle.luck_text.specs.Bytes.{if_then_else_, byteAt, among}
+use Rattle.luck_text.specs.Walk.{walkFrom, Turn, stop, goes}
+use Rattle.luck_text.proofs.Walk.{walk-end, walk-stop, walk-goes}
+use Rattle.luck_text.proofs.Cases.{if-true, if-false, both-true, first-false, second-false}
 use Rattle.luck_linter.specs.Answer.{Answer, accepted, refused}
 use Rattle.luck_linter.specs.Date.{everywhere, withOptions, secondBytes, isPair, conversionWidth, singleWidth, pairWidth, dateTurn, dateEnd, isStarT, isTable, conversionsWalk, dateWalk}
 

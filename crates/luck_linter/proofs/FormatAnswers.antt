@@ -8,12 +8,12 @@ use mathlib.Core.List.{List}
 use lib.ListN.{length, drop}
 use lib.Dec.{eqb, ltb}
 use borrow.Author.Tests.{ltb-true, leb-true, eqb-true, leb-false}
-use Rattle.luck_token.specs.Bytes.{byteAt, among, isDigit, run}
+use Rattle.luck_text.specs.Bytes.{byteAt, among, isDigit, run}
 use Rattle.luck_token.specs.Version.{rulesOf}
-use Rattle.luck_token.specs.Walk.{Turn}
+use Rattle.luck_text.specs.Walk.{Turn}
 use Rattle.luck_token.specs.declared.version.Rules.{Rules}
-use Rattle.luck_token.proofs.Cases.{by-test, and-right, present}
-use Rattle.luck_token.proofs.Bytes.{run-inside}
+use Rattle.luck_text.proofs.Cases.{by-test, and-right, present}
+use Rattle.luck_text.proofs.Bytes.{run-inside}
 use Rattle.luck_linter.specs.Answer.{Answer}
 use Rattle.luck_linter.specs.Checks.{format, answer, numbers}
 use Rattle.luck_linter.specs.Format.{

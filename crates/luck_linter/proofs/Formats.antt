@@ -8,14 +8,14 @@ use mathlib.Core.List.{List}
 use lib.ListN.{length, drop, List·getD-eq-default}
 use lib.Dec.{eqb}
 use borrow.Author.Tests.{lt-ltb, le-ltb, le-leb, lt-leb, eq-eqb, ne-eqb}
-use Rattle.luck_token.specs.Bytes.{if_then_else_, byteAt, ascii, among, isDigit, run}
-use Rattle.luck_token.specs.Utf8.{charAt}
+use Rattle.luck_text.specs.Bytes.{if_then_else_, byteAt, ascii, among, isDigit, run}
+use Rattle.luck_text.specs.Utf8.{charAt}
 use Rattle.luck_token.specs.Version.{rulesOf}
-use Rattle.luck_token.specs.Walk.{Turn, stop, goes, walkFrom}
+use Rattle.luck_text.specs.Walk.{Turn, stop, goes, walkFrom}
 use Rattle.luck_token.specs.declared.version.Rules.{Rules}
-use Rattle.luck_token.proofs.Cases.{second-false}
-use Rattle.luck_token.proofs.Bytes.{run-inside}
-use Rattle.luck_token.proofs.Walk.{walk-end, walk-stop, walk-goes}
+use Rattle.luck_text.proofs.Cases.{second-false}
+use Rattle.luck_text.proofs.Bytes.{run-inside}
+use Rattle.luck_text.proofs.Walk.{walk-end, walk-stop, walk-goes}
 use Rattle.luck_linter.specs.Answer.{Answer, accepted, refused, refusedWith, refusedBoth, checkText, textAnswer}
 use Rattle.luck_linter.specs.Format.{
   isFlag,

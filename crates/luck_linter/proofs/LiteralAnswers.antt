@@ -7,11 +7,11 @@ use mathlib.Core.Bool.{Bool, true, false, true≢false}
 use mathlib.Core.List.{List}
 use mathlib.Core.Option.{Option, none, some}
 use lib.ListN.{length, drop, length-take}
-use Rattle.luck_token.specs.Bytes.{part, among}
+use Rattle.luck_text.specs.Bytes.{part, among}
 use Rattle.luck_token.specs.Version.{rulesOf}
-use Rattle.luck_token.specs.Utf8.{illFormed}
+use Rattle.luck_text.specs.Utf8.{illFormed}
 use Rattle.luck_token.specs.declared.version.Rules.{Rules}
-use Rattle.luck_token.proofs.Cases.{by-test}
+use Rattle.luck_text.proofs.Cases.{by-test}
 use Rattle.luck_linter.specs.Answer.{Answer}
 use Rattle.luck_linter.specs.Pattern.{patternWalk}
 use Rattle.luck_linter.specs.Format.{formatWalk}

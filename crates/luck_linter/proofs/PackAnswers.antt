@@ -8,9 +8,9 @@ use mathlib.Core.List.{List}
 use mathlib.Core.Option.{Option, none, some}
 use lib.ListN.{length}
 use borrow.Author.Tests.{leb-false}
-use Rattle.luck_token.specs.Bytes.{byteAt, among}
-use Rattle.luck_token.specs.Walk.{Turn}
-use Rattle.luck_token.proofs.Cases.{by-test}
+use Rattle.luck_text.specs.Bytes.{byteAt, among}
+use Rattle.luck_text.specs.Walk.{Turn}
+use Rattle.luck_text.proofs.Cases.{by-test}
 use Rattle.luck_linter.specs.Answer.{Answer}
 use Rattle.luck_linter.specs.Checks.{pack, answer, numbers}
 use Rattle.luck_linter.proofs.Answers.{Stops, walk-every, Fits, check-fits}

@@ -11,12 +11,12 @@ use mathlib.Core.List.{List, [], _∷_}
 use mathlib.Core.Option.{Option, none, some}
 use lib.ListN.{length}
 use borrow.Author.Tests.{le-leb, leb-false}
-use Rattle.luck_token.specs.Bytes.{if_then_else_, byteAt, among, isDigit}
-use Rattle.luck_token.specs.Walk.{Turn, walkFrom}
-use Rattle.luck_token.specs.Walk.Turn.{stop, goes}
-use Rattle.luck_token.proofs.Cases.{by-test, if-true, order}
-use Rattle.luck_token.proofs.Bytes.{run-inside}
-use Rattle.luck_token.proofs.Walk.{walk-end, walk-stop, walk-goes}
+use Rattle.luck_text.specs.Bytes.{if_then_else_, byteAt, among, isDigit}
+use Rattle.luck_text.specs.Walk.{Turn, walkFrom}
+use Rattle.luck_text.specs.Walk.Turn.{stop, goes}
+use Rattle.luck_text.proofs.Cases.{by-test, if-true, order}
+use Rattle.luck_text.proofs.Bytes.{run-inside}
+use Rattle.luck_text.proofs.Walk.{walk-end, walk-stop, walk-goes}
 use Rattle.luck_linter.specs.Answer.{Answer, refused}
 use Rattle.luck_linter.specs.Pack.{
   PackOption,

@@ -11,14 +11,14 @@ use mathlib.Core.Option.{Option, none, some}
 use lib.ListN.{length, drop}
 use lib.Dec.{eqb}
 use borrow.Author.Tests.{lt-ltb, le-ltb, le-leb, lt-leb, eq-eqb, ne-eqb}
-use Rattle.luck_token.specs.Bytes.{if_then_else_, byteAt, part, ascii, among, isDigit, run, numeral}
-use Rattle.luck_token.specs.Utf8.{charAt}
-use Rattle.luck_token.specs.Scan.{most}
-use Rattle.luck_token.specs.Walk.{Turn, walkFrom}
-use Rattle.luck_token.specs.Walk.Turn.{stop, goes}
-use Rattle.luck_token.proofs.Cases.{by-test, if-true, if-false}
-use Rattle.luck_token.proofs.Bytes.{within, below, above}
-use Rattle.luck_token.proofs.Walk.{walk-end, walk-stop, walk-goes}
+use Rattle.luck_text.specs.Bytes.{if_then_else_, byteAt, part, ascii, among, isDigit, run, numeral}
+use Rattle.luck_text.specs.Utf8.{charAt}
+use Rattle.luck_text.specs.Scan.{most}
+use Rattle.luck_text.specs.Walk.{Turn, walkFrom}
+use Rattle.luck_text.specs.Walk.Turn.{stop, goes}
+use Rattle.luck_text.proofs.Cases.{by-test, if-true, if-false}
+use Rattle.luck_text.proofs.Bytes.{within, below, above}
+use Rattle.luck_text.proofs.Walk.{walk-end, walk-stop, walk-goes}
 use Rattle.luck_linter.proofs.Among.{every-among, none-among, not-among}
 use Rattle.luck_linter.specs.Answer.{Answer, accepted, refused, refusedWith, refusal}
 use Rattle.luck_linter.specs.Pack.{

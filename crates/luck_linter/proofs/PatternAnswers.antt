@@ -9,8 +9,8 @@ use mathlib.Core.Option.{Option, none, some}
 use lib.Dec.{eqb, ltb}
 use lib.ListN.{length}
 use borrow.Author.Tests.{eqb-true}
-use Rattle.luck_token.specs.Bytes.{byteAt, among}
-use Rattle.luck_token.proofs.Cases.{by-test, present}
+use Rattle.luck_text.specs.Bytes.{byteAt, among}
+use Rattle.luck_text.proofs.Cases.{by-test, present}
 use Rattle.luck_linter.specs.Answer.{Answer}
 use Rattle.luck_linter.specs.Checks.{pattern, answer, numbers}
 use Rattle.luck_linter.proofs.Answers.{Stops, walk-every, Fits, check-fits}

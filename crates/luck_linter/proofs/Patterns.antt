@@ -9,11 +9,11 @@ use mathlib.Core.Option.{none, some}
 use lib.ListN.{length, List·getD-eq-default}
 use lib.Dec.{eqb}
 use borrow.Author.Tests.{lt-ltb, le-ltb, eq-eqb, ne-eqb}
-use Rattle.luck_token.specs.Bytes.{if_then_else_, byteAt, isDigit}
-use Rattle.luck_token.specs.Walk.{stop, goes, walkFrom}
-use Rattle.luck_token.proofs.Cases.{if-true, if-false, first-false, second-false}
-use Rattle.luck_token.proofs.Bytes.{within, below, above}
-use Rattle.luck_token.proofs.Walk.{walk-end, walk-stop, walk-goes}
+use Rattle.luck_text.specs.Bytes.{if_then_else_, byteAt, isDigit}
+use Rattle.luck_text.specs.Walk.{stop, goes, walkFrom}
+use Rattle.luck_text.proofs.Cases.{if-true, if-false, first-false, second-false}
+use Rattle.luck_text.proofs.Bytes.{within, below, above}
+use Rattle.luck_text.proofs.Walk.{walk-end, walk-stop, walk-goes}
 use Rattle.luck_linter.specs.Answer.{Answer, accepted, refused, refusedWith, refusal}
 use Rattle.luck_linter.specs.Captures.{closeLatest, isClosed, allClosed}
 use Rattle.luck_linter.specs.Pattern.{

@@ -6,7 +6,7 @@ use mathlib.Core.Bool.{true}
 use mathlib.Core.List.{List}
 use mathlib.Core.Option.{Option}
 use lib.ListN.{length}
-use Rattle.luck_token.specs.Bytes.{among}
+use Rattle.luck_text.specs.Bytes.{among}
 use Rattle.luck_linter.specs.StringLiteral.{checkLiteral}
 use Rattle.luck_linter.specs.Checks.{Check, pattern, format, date, replacement, pack, literal, answer, numbers}
 use Rattle.luck_linter.proofs.PatternAnswers.{check-pattern}

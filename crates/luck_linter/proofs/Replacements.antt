@@ -11,8 +11,8 @@ use lib.ListN.{length, drop, drop-of-length-le}
 use lib.Seq.{drop-cons}
 use lib.Dec.{eqb, leb}
 use borrow.Author.Tests.{eq-eqb, ne-eqb}
-use Rattle.luck_token.specs.Bytes.{if_then_else_, byteAt, isDigit}
-use Rattle.luck_token.proofs.Cases.{if-true, if-false}
+use Rattle.luck_text.specs.Bytes.{if_then_else_, byteAt, isDigit}
+use Rattle.luck_text.proofs.Cases.{if-true, if-false}
 use Rattle.luck_linter.specs.Answer.{Answer, accepted, refused}
 use Rattle.luck_linter.specs.Replacement.{Piece, literal, digit, percent, other, lone, escaped, pieces, allowsDigit, piecesWalk}
 

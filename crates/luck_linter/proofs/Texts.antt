@@ -6,8 +6,8 @@ use mathlib.Core.Bool.{Bool, true, false}
 use mathlib.Core.List.{List}
 use mathlib.Core.Option.{Option, none, some}
 use Rattle.luck_token.specs.Version.{isVersion}
-use Rattle.luck_token.specs.Utf8.{illFormed}
-use Rattle.luck_token.proofs.Cases.{if-true, if-false}
+use Rattle.luck_text.specs.Utf8.{illFormed}
+use Rattle.luck_text.proofs.Cases.{if-true, if-false}
 use Rattle.luck_linter.specs.Answer.{Answer, refused, afterVersion, afterUtf8, checkText}
 
 module _ (version : ℕ) (text : List ℕ) (walked : Answer) where

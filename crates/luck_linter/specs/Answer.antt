@@ -3,9 +3,9 @@
 use Prim.Native.Nat.{ℕ}
 use mathlib.Core.List.{List}
 use mathlib.Core.Option.{Option, none, some}
-use Rattle.luck_token.specs.Bytes.{if_then_else_}
+use Rattle.luck_text.specs.Bytes.{if_then_else_}
 use Rattle.luck_token.specs.Version.{isVersion}
-use Rattle.luck_token.specs.Utf8.{illFormed}
+use Rattle.luck_text.specs.Utf8.{illFormed}
 use Rattle.luck_linter.specs.declared.format_pattern.PatternError.{PatternError}
 use Rattle.luck_linter.specs.declared.format_pattern.PatternError.the-variants as error
 use Rattle.luck_linter.specs.declared.format_pattern.Text.{Text}

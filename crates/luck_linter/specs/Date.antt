@@ -6,10 +6,10 @@ use mathlib.Core.Bool.{Bool, true, false, not, _&&_, _||_}
 use mathlib.Core.List.{List, []}
 use lib.ListN.{length}
 use lib.Dec.{eqb, leb}
-use Rattle.luck_token.specs.Bytes.{if_then_else_, byteAt, ascii, among}
+use Rattle.luck_text.specs.Bytes.{if_then_else_, byteAt, ascii, among}
 use Rattle.luck_token.specs.Version.{rulesOf}
 use Rattle.luck_token.specs.declared.version.Rules.{Rules}
-use Rattle.luck_token.specs.Walk.{Turn, stop, goes, walkFrom}
+use Rattle.luck_text.specs.Walk.{Turn, stop, goes, walkFrom}
 use Rattle.luck_linter.specs.Answer.{Answer, accepted, refused, checkText}
 
 -- the rows "strict replacement, checked date" and "date options" of document 01

@@ -7,8 +7,8 @@ use mathlib.Core.Bool.{Bool, true, false}
 use mathlib.Core.List.{List}
 use mathlib.Core.Option.{Option, none, some}
 use lib.Dec.{eqb}
-use Rattle.luck_token.specs.Bytes.{if_then_else_, among}
-use Rattle.luck_token.specs.Walk.{Turn, stop, goes}
+use Rattle.luck_text.specs.Bytes.{if_then_else_, among}
+use Rattle.luck_text.specs.Walk.{Turn, stop, goes}
 use Rattle.luck_linter.specs.Answer.{Answer, refusal}
 use Rattle.luck_linter.specs.Captures.{flagsOf}
 use Rattle.luck_linter.specs.Pattern.{Read, past, fault}

@@ -7,7 +7,7 @@ use mathlib.Core.Bool.{Bool, _&&_}
 use mathlib.Core.List.{List, [], _∷_}
 use lib.ListN.{length}
 use lib.Dec.{eqb, leb, ltb}
-use Rattle.luck_token.specs.Bytes.{if_then_else_, byteAt}
+use Rattle.luck_text.specs.Bytes.{if_then_else_, byteAt}
 use Rattle.luck_linter.specs.Pattern.{
   Head,
   at-open,

@@ -9,8 +9,8 @@ use mathlib.Core.List.{List, [], _∷_, _++_}
 use mathlib.Core.Option.{Option, none, some}
 use lib.ListN.{length}
 use lib.Dec.{eqb, ltb}
-use Rattle.luck_token.specs.Bytes.{if_then_else_, byteAt, isDigit}
-use Rattle.luck_token.specs.Walk.{Turn, stop, goes, walkFrom}
+use Rattle.luck_text.specs.Bytes.{if_then_else_, byteAt, isDigit}
+use Rattle.luck_text.specs.Walk.{Turn, stop, goes, walkFrom}
 use Rattle.luck_linter.specs.Answer.{Answer, accepted, refused, refusedWith, checkText}
 use Rattle.luck_linter.specs.Captures.{closeLatest, isClosed, allClosed}
 

@@ -6,7 +6,7 @@ use mathlib.Core.Bool.{Bool, true}
 use mathlib.Core.List.{List, [], _∷_}
 use mathlib.Core.Option.{Option, none, some}
 use lib.Dec.{eqb, leb}
-use Rattle.luck_token.specs.Bytes.{if_then_else_, isDigit}
+use Rattle.luck_text.specs.Bytes.{if_then_else_, isDigit}
 use Rattle.luck_token.specs.Version.{rulesOf}
 use Rattle.luck_token.specs.declared.version.Rules.{Rules}
 use Rattle.luck_linter.specs.Answer.{Answer, accepted, refused, checkText}

@@ -9,8 +9,8 @@ pub mod pack;
 pub mod pattern;
 pub mod replacement;
 
-use luck_token::utf8;
-use luck_token::utf8::Utf8;
+use luck_text::utf8;
+use luck_text::utf8::Utf8;
 use luck_token::version;
 
 // luck's PatternError. Each `offset` is a byte index into the text, each character a code point.

@@ -8,9 +8,9 @@ use mathlib.Core.List.{List}
 use lib.ListN.{length, List·getD-eq-default}
 use lib.Dec.{eqb}
 use borrow.Author.Tests.{eqb-true, ne-eqb}
-use Rattle.luck_token.specs.Bytes.{if_then_else_, byteAt}
+use Rattle.luck_text.specs.Bytes.{if_then_else_, byteAt}
 use Rattle.luck_token.specs.Whitespace.{lineBreak}
-use Rattle.luck_token.proofs.Cases.{by-test, and-left, and-right, present}
+use Rattle.luck_text.proofs.Cases.{by-test, and-left, and-right, present}
 
 module _ (lfcr : Bool) (text : List ℕ) (p : ℕ) where
   pub cr-lf : byteAt text p ≡ 13 → eqb (byteAt text (p + 1)) 10 ≡ true → 2 ≡ lineBreak lfcr text p

@@ -1,7 +1,3 @@
-pub mod Cases
-pub mod Walk
-pub mod Bytes
-pub mod Sequences
 pub mod Breaks
 pub mod Literals
 pub mod Values

@@ -10,10 +10,10 @@ use lib.Seq.{take-all}
 use lib.Dec.{eqb, leb, ltb}
 use borrow.Author.Tests.{lt-ltb, le-ltb, le-leb, lt-leb, eq-eqb, ne-eqb, leb-true, leb-false}
 use mathlib.Core.Logic.{inl, inr, ⊎-elim}
-use Rattle.luck_token.specs.Bytes.{if_then_else_, byteAt, between, part, isDigit, isXdigit, run, digitValue, numeralFrom, numeral}
-use Rattle.luck_token.specs.Utf8.{isChar, utf8Bytes}
+use Rattle.luck_text.specs.Bytes.{if_then_else_, byteAt, between, part, isDigit, isXdigit, run, digitValue, numeralFrom, numeral}
+use Rattle.luck_text.specs.Utf8.{isChar, utf8Bytes}
 use Rattle.luck_token.specs.Whitespace.{lineBreak, stripLineBreak}
-use Rattle.luck_token.specs.Scan.{most}
+use Rattle.luck_text.specs.Scan.{most}
 use Rattle.luck_token.specs.Literal.{
   isShort,
   equals,
@@ -40,8 +40,8 @@ use Rattle.luck_token.specs.declared.version.Rules.{Rules}
 use Rattle.luck_token.specs.declared.string.Piece.{Piece as Found}
 use Rattle.luck_token.specs.declared.string.Escape.{Escape}
 use Rattle.luck_token.specs.declared.string.Escape.the-variants.{Decimal}
-use Rattle.luck_token.proofs.Cases.{by-test, if-true, if-false, and-left, and-right, both-true, first-false, second-false, order}
-use Rattle.luck_token.proofs.Bytes.{within, below, above, digit-more, digit-end, hex-value}
+use Rattle.luck_text.proofs.Cases.{by-test, if-true, if-false, and-left, and-right, both-true, first-false, second-false, order}
+use Rattle.luck_text.proofs.Bytes.{within, below, above, digit-more, digit-end, hex-value}
 
 -- ---- The text
 

@@ -13,11 +13,11 @@ use lib.ListN.{length, drop, set, length-append, length-set}
 use lib.Seq.{drop-cons, set-append-seam, sets}
 use lib.Dec.{leb, ltb}
 use borrow.Author.Tests.{lt-ltb, le-ltb, le-leb, lt-leb, leb-true, ltb-true}
-use Rattle.luck_token.specs.Bytes.{if_then_else_, part}
-use Rattle.luck_token.specs.Walk.{Turn, walkFrom}
-use Rattle.luck_token.specs.Walk.Turn.{stop, goes}
+use Rattle.luck_text.specs.Bytes.{if_then_else_, part}
+use Rattle.luck_text.specs.Walk.{Turn, walkFrom}
+use Rattle.luck_text.specs.Walk.Turn.{stop, goes}
 use Rattle.luck_token.specs.Version.{isVersion, rulesOf}
-use Rattle.luck_token.specs.Utf8.{utf8Bytes, illFormed}
+use Rattle.luck_text.specs.Utf8.{utf8Bytes, illFormed}
 use Rattle.luck_token.specs.Whitespace.{stripLineBreak}
 use Rattle.luck_token.specs.Literal.{
   Piece,
@@ -40,8 +40,8 @@ use Rattle.luck_token.specs.declared.version.Rules.{Rules}
 use Rattle.luck_token.specs.declared.string.Piece.{Piece as Found}
 use Rattle.luck_token.specs.declared.string.Size.the-variants as size
 use Rattle.luck_token.specs.declared.string.Decoded.the-variants as decoded
-use Rattle.luck_token.proofs.Cases.{by-test, if-true, if-false, and-left}
-use Rattle.luck_token.proofs.Walk.{walk-end, walk-stop, walk-goes, walk-related}
+use Rattle.luck_text.proofs.Cases.{by-test, if-true, if-false, and-left}
+use Rattle.luck_text.proofs.Walk.{walk-end, walk-stop, walk-goes, walk-related}
 
 -- ---- The walk over the pieces
 

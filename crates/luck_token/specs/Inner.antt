@@ -5,7 +5,7 @@ use mathlib.Core.Path.{_≡_}
 use mathlib.Core.List.{List, [], _∷_}
 use mathlib.Core.Option.{Option, none, some}
 use lib.ListN.{length}
-use Rattle.luck_token.specs.Utf8.{utf8Bytes}
+use Rattle.luck_text.specs.Utf8.{utf8Bytes}
 use Rattle.luck_token.specs.Literal.{Piece, piece, malformed}
 use Rattle.luck_token.specs.declared.string.Piece.{Piece as Found}
 use Rattle.luck_token.specs.declared.string.Piece.the-variants.{Byte, Character, Nothing, Malformed}

@@ -1,9 +1,5 @@
-pub mod Bytes
-pub mod Walk
 pub mod Version
-pub mod Utf8
 pub mod Whitespace
-pub mod Scan
 pub mod Literal
 pub mod Decode
 pub mod Inner

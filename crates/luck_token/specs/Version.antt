@@ -3,7 +3,7 @@
 use Prim.Native.Nat.{ℕ}
 use mathlib.Core.Bool.{Bool, _&&_}
 use mathlib.Core.List.{List, [], _∷_}
-use Rattle.luck_token.specs.Bytes.{between, among}
+use Rattle.luck_text.specs.Bytes.{between, among}
 use Rattle.luck_token.specs.declared.version.Rules.{Rules}
 
 -- 1 to 5 are Lua 5.1 to 5.5, 6 is Luau

@@ -6,7 +6,7 @@ use mathlib.Core.Bool.{Bool, _&&_}
 use mathlib.Core.List.{List}
 use lib.ListN.{drop}
 use lib.Dec.{eqb}
-use Rattle.luck_token.specs.Bytes.{if_then_else_, byteAt}
+use Rattle.luck_text.specs.Bytes.{if_then_else_, byteAt}
 
 -- how many bytes the line break at place p has, 0 where there is none. inclinenumber of llex.c: LF, CR, CR LF and LF CR
 -- are one break each. Luau's lexer (no `lfcr`): LF, and CR LF.

@@ -2,18 +2,18 @@
 ghost use mathlib.Core.Path.{_≡_};
 ghost use Prim.Native.Nat.{_+_, _-_, _<_, _≤_};
 ghost use lib.ListN.{length};
-ghost use Rattle.luck_token.specs.Bytes.{part};
+ghost use Rattle.luck_text.specs.Bytes.{part};
 ghost use Rattle.luck_token.specs.Whitespace.{stripLineBreak};
 ghost use Rattle.luck_token.specs.Literal.{isShort, shortStringBody, placesOf, bracketAt, bracketWidth, otherEscape, escapeOf, lineBreakEscape, hexEscape, decimalEscape, allowsDigits, allowsCodePoint, unicodeEscape, escapeAt, longPiece, pieceAt, valueOf, literalValue};
 ghost use Rattle.luck_token.specs.Decode.{withRoom, decodeString, answerOf, numbered, outputOf};
 ghost use Rattle.luck_token.specs.Inner.{IsPiece, sizeOf, HasRoom};
-use crate::scan;
-use crate::scan::Class;
-use crate::utf8;
-use crate::utf8::Utf8;
 use crate::version;
 use crate::version::Rules;
 use crate::whitespace;
+use luck_text::scan;
+use luck_text::scan::Class;
+use luck_text::utf8;
+use luck_text::utf8::Utf8;
 
 // Where the text between a quoted literal's quotes stands. Any other text has none.
 pub enum ShortString {

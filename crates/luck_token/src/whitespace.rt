@@ -3,12 +3,12 @@ ghost use mathlib.Core.Path.{_≡_};
 ghost use Prim.Native.Nat.{_+_, _<_};
 ghost use lib.ListN.{length};
 ghost use lib.Dec.{eqb};
-ghost use Rattle.luck_token.specs.Bytes.{byteAt, isLuaWhitespace};
+ghost use Rattle.luck_text.specs.Bytes.{byteAt, isLuaWhitespace};
 ghost use Rattle.luck_token.specs.Version.{rulesOf};
 ghost use Rattle.luck_token.specs.Whitespace.{lineBreak, stripLineBreak};
-use crate::scan;
-use crate::scan::Class;
 use crate::version;
+use luck_text::scan;
+use luck_text::scan::Class;
 
 pub fn is_lua_whitespace(byte: u8) -> bool
     ensures { λ r. ⌜ r ≡ isLuaWhitespace byte ⌝ }

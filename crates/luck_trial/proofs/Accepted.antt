@@ -9,12 +9,12 @@ use mathlib.Core.Option.{Option, none, some}
 use lib.ListN.{length}
 use lib.Dec.{eqb, leb, ltb}
 use borrow.Author.Tests.{ltb-true, leb-true, leb-false, eqb-true}
-use Rattle.luck_token.specs.Bytes.{if_then_else_, byteAt}
-use Rattle.luck_token.specs.Walk.{Turn, stop, goes, walkFrom}
-use Rattle.luck_token.specs.Utf8.{illFormed}
+use Rattle.luck_text.specs.Bytes.{if_then_else_, byteAt}
+use Rattle.luck_text.specs.Walk.{Turn, stop, goes, walkFrom}
+use Rattle.luck_text.specs.Utf8.{illFormed}
 use Rattle.luck_token.specs.Version.{isVersion}
-use Rattle.luck_token.proofs.Cases.{by-test, present, and-right}
-use Rattle.luck_token.proofs.Walk.{walk-end, walk-stop, walk-goes}
+use Rattle.luck_text.proofs.Cases.{by-test, present, and-right}
+use Rattle.luck_text.proofs.Walk.{walk-end, walk-stop, walk-goes}
 use Rattle.luck_linter.specs.Answer.{Answer, accepted, refused, refusedWith, afterVersion, afterUtf8, checkText}
 use Rattle.luck_linter.specs.Captures.{closeLatest, isClosed, allClosed}
 use Rattle.luck_linter.specs.Pattern.{

@@ -12,8 +12,8 @@ use lib.ListN.{length, getD, set, length-set, length-map}
 use lib.Seq.{getD-set-same, getD-set-other}
 use lib.Dec.{eqb, leb}
 use borrow.Author.Tests.{lt-ltb, le-ltb, le-leb, lt-leb, eq-eqb, ne-eqb}
-use Rattle.luck_token.specs.Bytes.{if_then_else_}
-use Rattle.luck_token.proofs.Cases.{by-test, second-false, order}
+use Rattle.luck_text.specs.Bytes.{if_then_else_}
+use Rattle.luck_text.proofs.Cases.{by-test, second-false, order}
 use Rattle.luck_trial.specs.Match.{
   Capture,
   opened,

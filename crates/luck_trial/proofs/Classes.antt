@@ -12,9 +12,9 @@ use lib.Bits.{bitAnd}
 use lib.ListN.{getD}
 use lib.Dec.{eqb}
 use borrow.Author.Tests.{eq-eqb, ne-eqb, eqb-true}
-use Rattle.luck_token.specs.Bytes.{if_then_else_, isDigit, isXdigit}
-use Rattle.luck_token.proofs.Cases.{by-test, if-false, order, and-left, and-right}
-use Rattle.luck_token.proofs.Bytes.{above}
+use Rattle.luck_text.specs.Bytes.{if_then_else_, isDigit, isXdigit}
+use Rattle.luck_text.proofs.Cases.{by-test, if-false, order, and-left, and-right}
+use Rattle.luck_text.proofs.Bytes.{above}
 use Rattle.luck_trial.specs.Class.{
   isLower,
   isUpper,

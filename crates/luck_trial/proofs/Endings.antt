@@ -8,8 +8,8 @@ use mathlib.Core.List.{List, [], _∷_, _++_}
 use mathlib.Core.Option.{Option, none, some}
 use lib.ListN.{length, getD}
 use lib.Dec.{eqb, leb, ltb}
-use Rattle.luck_token.specs.Bytes.{byteAt, among}
-use Rattle.luck_token.proofs.Cases.{by-test}
+use Rattle.luck_text.specs.Bytes.{byteAt, among}
+use Rattle.luck_text.proofs.Cases.{by-test}
 use Rattle.luck_linter.specs.Pattern.{
   Head,
   at-open,

@@ -9,8 +9,8 @@ use mathlib.Core.Option.{Option, none, some}
 use lib.ListN.{length, getD}
 use lib.Dec.{eqb, ltb}
 use borrow.Author.Tests.{ltb-true}
-use Rattle.luck_token.specs.Bytes.{byteAt}
-use Rattle.luck_token.proofs.Cases.{by-test}
+use Rattle.luck_text.specs.Bytes.{byteAt}
+use Rattle.luck_text.proofs.Cases.{by-test}
 use Rattle.luck_linter.specs.Items.{Single, Repeat, once, optional, star, plus, minus, Item, start-capture, position-capture, end-capture, end-anchor, balance, frontier, back-reference, single, raises}
 use Rattle.luck_trial.specs.Match.{
   Capture,

@@ -4,7 +4,7 @@ use Prim.Native.Nat.{ℕ, zero, suc, _-_}
 use native.Mathlib.Omega.{arith}
 use mathlib.Core.Path.{_≡_, refl, sym, ap}
 use mathlib.Core.List.{List}
-use Rattle.luck_token.specs.Bytes.{byteAt}
+use Rattle.luck_text.specs.Bytes.{byteAt}
 use Rattle.luck_trial.specs.Match.{byteBefore}
 
 module _ (sub : List ℕ) where

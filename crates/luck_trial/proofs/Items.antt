@@ -10,8 +10,8 @@ use mathlib.Core.List.{List, [], _∷_}
 use lib.ListN.{length}
 use lib.Dec.{eqb, ltb}
 use borrow.Author.Tests.{le-leb, lt-leb, eqb-true}
-use Rattle.luck_token.specs.Bytes.{byteAt}
-use Rattle.luck_token.proofs.Cases.{by-test, if-true, if-false, order}
+use Rattle.luck_text.specs.Bytes.{byteAt}
+use Rattle.luck_text.proofs.Cases.{by-test, if-true, if-false, order}
 use Rattle.luck_linter.specs.Pattern.{
   Head,
   at-open,

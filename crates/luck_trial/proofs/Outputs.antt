@@ -8,7 +8,7 @@ use mathlib.Core.List.{List, [], _∷_, _++_}
 use lib.ListN.{length, getD, set, take, drop, take-append-drop, length-set, drop-of-length-le}
 use lib.Seq.{length-take-le, drop-append-add, drop-drop, drop-set-lt, take-suc-set, drop-cons}
 use borrow.Author.Tests.{eq-eqb, ne-eqb, lt-ltb, le-ltb}
-use Rattle.luck_token.proofs.Cases.{if-true, if-false}
+use Rattle.luck_text.proofs.Cases.{if-true, if-false}
 use Rattle.luck_trial.specs.Replace.{Wrote, wrote, ended, append}
 use Rattle.luck_trial.specs.Inner.{wroteBy, wroteOf, WroteAs}
 use Rattle.luck_trial.specs.declared.replace.Wrote.{Wrote as Written}

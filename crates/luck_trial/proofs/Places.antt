@@ -6,8 +6,8 @@ use mathlib.Core.Path.{_≡_, refl, subst}
 use mathlib.Core.Bool.{true}
 use mathlib.Core.List.{List}
 use lib.ListN.{length}
-use Rattle.luck_token.specs.Walk.{Turn, stop, goes, walk, walkFrom}
-use Rattle.luck_token.proofs.Cases.{by-test}
+use Rattle.luck_text.specs.Walk.{Turn, stop, goes, walk, walkFrom}
+use Rattle.luck_text.proofs.Cases.{by-test}
 use Rattle.luck_linter.specs.Pattern.{
   Member,
   closing-bracket,

@@ -8,7 +8,7 @@ use mathlib.Core.List.{List, [], _∷_}
 use mathlib.Core.Option.{some}
 use lib.ListN.{length}
 use lib.Dec.{eqb}
-use Rattle.luck_token.specs.Bytes.{if_then_else_, among}
+use Rattle.luck_text.specs.Bytes.{if_then_else_, among}
 use Rattle.luck_token.specs.Version.{isVersion, rulesOf}
 use Rattle.luck_linter.specs.Answer.{accepted}
 use Rattle.luck_linter.specs.Pattern.{checkPattern}

@@ -10,10 +10,10 @@ use mathlib.Core.Option.{Option, none, some}
 use lib.ListN.{length, List·getD-eq-default}
 use lib.Dec.{eqb}
 use borrow.Author.Tests.{lt-ltb, le-ltb, eq-eqb, ne-eqb}
-use Rattle.luck_token.specs.Bytes.{if_then_else_, byteAt, isDigit}
-use Rattle.luck_token.proofs.Cases.{by-test, if-true, if-false, both-true, first-false, second-false, present}
-use Rattle.luck_token.proofs.Bytes.{within, below, above}
-use Rattle.luck_token.proofs.Walk.{walk-end}
+use Rattle.luck_text.specs.Bytes.{if_then_else_, byteAt, isDigit}
+use Rattle.luck_text.proofs.Cases.{by-test, if-true, if-false, both-true, first-false, second-false, present}
+use Rattle.luck_text.proofs.Bytes.{within, below, above}
+use Rattle.luck_text.proofs.Walk.{walk-end}
 use Rattle.luck_linter.specs.Pattern.{
   Head,
   at-open,

@@ -12,8 +12,8 @@ use lib.ListN.{length, take, drop, set, length-drop}
 use lib.Seq.{take-all}
 use lib.Dec.{eqb, ltb}
 use borrow.Author.Tests.{eq-eqb, ne-eqb, lt-ltb, le-ltb}
-use Rattle.luck_token.specs.Bytes.{if_then_else_, byteAt}
-use Rattle.luck_token.proofs.Cases.{if-true, if-false, order}
+use Rattle.luck_text.specs.Bytes.{if_then_else_, byteAt}
+use Rattle.luck_text.proofs.Cases.{if-true, if-false, order}
 use Rattle.luck_linter.specs.Items.{Item, items}
 use Rattle.luck_token.specs.Version.{isVersion}
 use Rattle.luck_linter.specs.Replacement.{pieces}

@@ -8,8 +8,8 @@ use mathlib.Core.List.{List, [], _∷_, _++_}
 use mathlib.Core.Option.{Option, none, some}
 use lib.ListN.{length, drop, getD}
 use lib.Dec.{eqb, leb}
-use Rattle.luck_token.specs.Bytes.{byteAt, part}
-use Rattle.luck_token.proofs.Cases.{by-test}
+use Rattle.luck_text.specs.Bytes.{byteAt, part}
+use Rattle.luck_text.proofs.Cases.{by-test}
 use Rattle.luck_linter.specs.Items.{Item, items}
 use Rattle.luck_linter.specs.Replacement.{Piece, literal, digit, percent, other, lone, pieces}
 use Rattle.luck_trial.specs.Class.{matchClass}

@@ -9,8 +9,8 @@ use mathlib.Core.Bool.{Bool, false, not, _&&_, _||_}
 use mathlib.Core.List.{List, [], _∷_}
 use lib.Dec.{eqb, leb, ltb}
 use borrow.Author.Tests.{le-leb, lt-leb, lt-ltb, le-ltb, eq-eqb, ne-eqb}
-use Rattle.luck_token.specs.Bytes.{if_then_else_, byteAt, between}
-use Rattle.luck_token.proofs.Cases.{if-false, first-false, second-false}
+use Rattle.luck_text.specs.Bytes.{if_then_else_, byteAt, between}
+use Rattle.luck_text.proofs.Cases.{if-false, first-false, second-false}
 use Rattle.luck_linter.specs.Pattern.{firstMember}
 use Rattle.luck_linter.specs.Items.{Element, escape, range, plain, elementsFrom, elementsOf, setOf}
 use Rattle.luck_trial.specs.Class.{isElement, isAnyOf, inSet}

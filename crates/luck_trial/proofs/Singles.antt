@@ -9,8 +9,8 @@ use mathlib.Core.List.{List}
 use lib.ListN.{length}
 use lib.Dec.{eqb, ltb}
 use borrow.Author.Tests.{lt-ltb, le-ltb, ltb-true, ne-eqb}
-use Rattle.luck_token.specs.Bytes.{if_then_else_, byteAt}
-use Rattle.luck_token.proofs.Cases.{and-left}
+use Rattle.luck_text.specs.Bytes.{if_then_else_, byteAt}
+use Rattle.luck_text.proofs.Cases.{and-left}
 use Rattle.luck_linter.specs.Items.{Set, Single, setOf}
 use Rattle.luck_trial.specs.Class.{inSet, fits}
 use Rattle.luck_trial.specs.Match.{byteBefore, isFrontier, fitsAt, Reach, reached, spent, reach}

@@ -8,7 +8,7 @@ use mathlib.Core.List.{List}
 use mathlib.Core.Option.{Option, none, some}
 use lib.ListN.{length}
 use borrow.Author.Tests.{lt-ltb, le-ltb, eq-eqb, ne-eqb}
-use Rattle.luck_token.specs.Bytes.{if_then_else_, byteAt}
+use Rattle.luck_text.specs.Bytes.{if_then_else_, byteAt}
 use Rattle.luck_trial.specs.Match.{sameBytes, balanceEnd, matchBalance}
 
 -- ---- Equal parts: from the i-th of n bytes on

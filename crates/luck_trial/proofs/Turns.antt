@@ -10,8 +10,8 @@ use mathlib.Core.Option.{Option, none, some}
 use lib.ListN.{length}
 use lib.Dec.{eqb, ltb}
 use borrow.Author.Tests.{lt-ltb, le-ltb, eq-eqb, ne-eqb}
-use Rattle.luck_token.specs.Bytes.{if_then_else_}
-use Rattle.luck_token.proofs.Cases.{if-true, if-false, order}
+use Rattle.luck_text.specs.Bytes.{if_then_else_}
+use Rattle.luck_text.proofs.Cases.{if-true, if-false, order}
 use Rattle.luck_linter.specs.Items.{
   Set,
   Single,

@@ -7,7 +7,7 @@ use mathlib.Core.Bool.{Bool, true, false, not, _&&_, _||_}
 use mathlib.Core.List.{List, [], _∷_}
 use mathlib.Core.Option.{Option, none, some}
 use lib.Dec.{eqb, leb}
-use Rattle.luck_token.specs.Bytes.{if_then_else_, between, isDigit, isXdigit}
+use Rattle.luck_text.specs.Bytes.{if_then_else_, between, isDigit, isXdigit}
 use Rattle.luck_linter.specs.Items.{Element, escape, range, plain, Set, Single, any, class, among-set, byte}
 
 -- isalpha and its kin of the C locale

@@ -7,7 +7,7 @@ use mathlib.Core.List.{List, [], _∷_, _++_}
 use mathlib.Core.Option.{Option, none, some}
 use lib.ListN.{length, drop}
 use lib.Dec.{eqb, ltb}
-use Rattle.luck_token.specs.Bytes.{if_then_else_, byteAt}
+use Rattle.luck_text.specs.Bytes.{if_then_else_, byteAt}
 use Rattle.luck_token.specs.Version.{isVersion}
 use Rattle.luck_linter.specs.Items.{Item, items}
 use Rattle.luck_linter.specs.Replacement.{Piece, pieces}

@@ -8,7 +8,7 @@ use mathlib.Core.List.{List, [], _∷_, _++_}
 use mathlib.Core.Option.{Option, none, some}
 use lib.ListN.{length, getD, take, drop}
 use lib.Dec.{eqb}
-use Rattle.luck_token.specs.Bytes.{if_then_else_, byteAt, isDigit, isXdigit}
+use Rattle.luck_text.specs.Bytes.{if_then_else_, byteAt, isDigit, isXdigit}
 use Rattle.luck_linter.specs.Pattern.{SetEnd, closes-at, cut-at, unclosed}
 use Rattle.luck_linter.specs.Items.{
   Single,

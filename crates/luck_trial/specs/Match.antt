@@ -8,7 +8,7 @@ use mathlib.Core.List.{List, [], _∷_, _++_}
 use mathlib.Core.Option.{Option, none, some}
 use lib.ListN.{length, getD, set}
 use lib.Dec.{eqb, leb, ltb}
-use Rattle.luck_token.specs.Bytes.{if_then_else_, byteAt}
+use Rattle.luck_text.specs.Bytes.{if_then_else_, byteAt}
 use Rattle.luck_linter.specs.Items.{
   Set,
   Single,

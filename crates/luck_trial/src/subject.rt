@@ -2,7 +2,7 @@
 ghost use mathlib.Core.Path.{_≡_};
 ghost use Prim.Native.Nat.{_+_, _≤_};
 ghost use lib.ListN.{length};
-ghost use Rattle.luck_token.specs.Bytes.{byteAt};
+ghost use Rattle.luck_text.specs.Bytes.{byteAt};
 ghost use Rattle.luck_trial.specs.Match.{byteBefore, sameBytes, matchBalance};
 ghost use Rattle.luck_trial.specs.Inner.{foundOf, FoundIn};
 

@@ -1,7 +1,7 @@
 -- `bodies::read_more` meets its contract. Assumes nothing.
 use mathlib.Core.Path.{_≡_, refl, sym, ap, subst, _∙_}
 use lib.ListN.{length}
-use Rattle.luck_token.specs.Bytes.{part}
+use Rattle.luck_text.specs.Bytes.{part}
 use Rattle.luck_lines.specs.Stream.{lineLength}
 use Rattle.bodies.proofs.Buffers.{kept-in-front, stopped, read-on}
 use borrow.Author.Needs.{needs}

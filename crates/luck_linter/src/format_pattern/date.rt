@@ -3,7 +3,7 @@ ghost use mathlib.Core.Path.{_≡_};
 ghost use mathlib.Core.Bool.{true};
 ghost use Prim.Native.Nat.{_+_, _<_, _≤_};
 ghost use lib.ListN.{length};
-ghost use Rattle.luck_token.specs.Bytes.{byteAt, among};
+ghost use Rattle.luck_text.specs.Bytes.{byteAt, among};
 ghost use Rattle.luck_linter.specs.Answer.{walkedOf, answerOf};
 ghost use Rattle.luck_linter.specs.Date.{secondBytes, singleWidth, conversionWidth, isStarT, isTable, conversionsWalk, dateWalk, checkDate};
 use crate::format_pattern;
@@ -11,7 +11,7 @@ use crate::format_pattern::Checked;
 use crate::format_pattern::PatternError;
 use crate::format_pattern::Text;
 use crate::format_pattern::Walked;
-use luck_token::scan;
+use luck_text::scan;
 use luck_token::version;
 
 // Whether the byte at `at` is there and may follow this one.

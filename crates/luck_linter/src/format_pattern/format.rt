@@ -10,9 +10,9 @@ use crate::format_pattern::Checked;
 use crate::format_pattern::PatternError;
 use crate::format_pattern::Text;
 use crate::format_pattern::Walked;
-use luck_token::scan;
-use luck_token::scan::Class;
-use luck_token::utf8;
+use luck_text::scan;
+use luck_text::scan::Class;
+use luck_text::utf8;
 use luck_token::version;
 use luck_token::version::Rules;
 

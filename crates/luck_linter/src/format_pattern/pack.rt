@@ -1,7 +1,7 @@
 // The check of a format of string.pack and string.packsize.
 ghost use mathlib.Core.Path.{_≡_};
 ghost use Prim.Native.Nat.{ℕ, _+_, _-_, _<_, _≤_};
-ghost use Rattle.luck_token.specs.Utf8.{charAt};
+ghost use Rattle.luck_text.specs.Utf8.{charAt};
 ghost use lib.ListN.{length};
 ghost use Rattle.luck_linter.specs.Answer.{walkedOf, answerOf};
 ghost use Rattle.luck_linter.specs.Pack.{getnumlimit, fixedString, numberedOption, getoption, luckSize, state, isPowerOfTwo, isMisaligned, aligned as alignedOf, alignToNext, packTurn, packWalk, checkPack};
@@ -11,9 +11,9 @@ use crate::format_pattern::Checked;
 use crate::format_pattern::PatternError;
 use crate::format_pattern::Text;
 use crate::format_pattern::Walked;
-use luck_token::scan;
-use luck_token::scan::Class;
-use luck_token::utf8;
+use luck_text::scan;
+use luck_text::scan::Class;
+use luck_text::utf8;
 
 pub enum PackOption {
     // a number of this many bytes

@@ -15,13 +15,13 @@ use crate::format_pattern::pack;
 use crate::format_pattern::pattern;
 use crate::format_pattern::replacement;
 use crate::format_pattern::replacement::Captures;
-use luck_token::scan;
-use luck_token::scan::Class;
+use luck_text::scan;
+use luck_text::scan::Class;
+use luck_text::utf8;
+use luck_text::utf8::Utf8;
 use luck_token::span::Span;
 use luck_token::string;
 use luck_token::string::ShortString;
-use luck_token::utf8;
-use luck_token::utf8::Utf8;
 use luck_token::version;
 use luck_token::version::Rules;
 

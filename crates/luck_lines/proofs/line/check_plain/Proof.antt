@@ -1,7 +1,7 @@
 -- `luck_lines::line::check_plain` meets its contract. Assumes nothing.
 use mathlib.Core.Path.{_≡_, refl, sym, ap, _∙_}
 use borrow.Author.Tests.{ne-eqb}
-use Rattle.luck_token.specs.Bytes.{if_then_else_}
+use Rattle.luck_text.specs.Bytes.{if_then_else_}
 use Rattle.luck_lines.specs.Line.{bodyAnswer, plainCheck}
 use borrow.Author.Needs.{needs}
 use Rattle.luck_lines.proofs.line.check_plain.Statement.{statement}

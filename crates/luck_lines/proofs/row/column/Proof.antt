@@ -1,7 +1,7 @@
 -- `luck_lines::row::column` meets its contract. Assumes nothing.
 use mathlib.Core.Path.{_≡_, refl, sym, ap, _∙_}
 use borrow.Author.Tests.{lt-ltb, le-ltb}
-use Rattle.luck_token.specs.Bytes.{if_then_else_}
+use Rattle.luck_text.specs.Bytes.{if_then_else_}
 use Rattle.luck_lines.specs.Row.{column}
 use borrow.Author.Needs.{needs}
 use Rattle.luck_lines.proofs.row.column.Statement.{statement}

@@ -6,7 +6,7 @@ use mathlib.Core.Logic.{⊎-elim}
 use mathlib.Core.Bool.{false, true≢false}
 use borrow.Author.Count.{below-more}
 use lib.ListN.{length}
-use Rattle.luck_token.specs.Bytes.{byteAt}
+use Rattle.luck_text.specs.Bytes.{byteAt}
 use borrow.Author.Needs.{needs}
 use Rattle.luck_lines.proofs.stream.has_newline.Statement.{statement}
 use Rattle.luck_lines.proofs.stream.has_newline.Tie as tie

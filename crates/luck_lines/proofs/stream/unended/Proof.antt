@@ -1,7 +1,7 @@
 -- `luck_lines::stream::unended` meets its contract. Assumes nothing.
 use mathlib.Core.Path.{_≡_, refl, sym, ap, _∙_}
 use Prim.Native.Nat.{_-_}
-use Rattle.luck_token.specs.Bytes.{if_then_else_}
+use Rattle.luck_text.specs.Bytes.{if_then_else_}
 use borrow.Author.Tests.{lt-ltb, le-ltb}
 use borrow.Author.Needs.{needs}
 use Rattle.luck_lines.proofs.stream.unended.Statement.{statement}

@@ -4,7 +4,7 @@ use Prim.Native.Nat.{ℕ, zero, suc, _+_, _-_, _*_, _≤_, _<_, min, max}
 use native.Mathlib.Omega.{arith}
 use lib.Dec.{eqb, leb, ltb}
 use Rattle.luck_token.specs.Literal.{equals}
-use Rattle.luck_token.proofs.Bytes.{run-short}
+use Rattle.luck_text.proofs.Bytes.{run-short}
 use Rattle.luck_token.proofs.Literals.{no-room, no-opening, no-closing, brackets}
 use borrow.Author.Needs.{needs}
 use Rattle.luck_token.proofs.string.bracket_width.Statement.{statement}

@@ -4,8 +4,8 @@ use Prim.Native.Nat.{ℕ, zero, suc, _+_, _-_, _*_, _≤_, _<_, min, max}
 use native.Mathlib.Omega.{arith}
 use mathlib.Core.Logic.{⊎-elim}
 use lib.ListN.{drop, length}
-use Rattle.luck_token.specs.Bytes.{isDigit, run}
-use Rattle.luck_token.proofs.Bytes.{run-inside}
+use Rattle.luck_text.specs.Bytes.{isDigit, run}
+use Rattle.luck_text.proofs.Bytes.{run-inside}
 use Rattle.luck_token.proofs.Literals.{decimal-large, decimal-byte}
 use borrow.Author.Needs.{needs}
 use Rattle.luck_token.proofs.string.decimal_escape.Statement.{statement}

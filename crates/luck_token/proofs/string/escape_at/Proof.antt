@@ -3,9 +3,9 @@ use mathlib.Core.Path.{_≡_, refl, sym, ap, subst, _∙_}
 use Prim.Native.Nat.{ℕ, zero, suc, _+_, _-_, _*_, _≤_, _<_, min, max}
 use native.Mathlib.Omega.{arith}
 use mathlib.Core.List.{[]}
-use Rattle.luck_token.specs.Bytes.{isLuaWhitespace}
+use Rattle.luck_text.specs.Bytes.{isLuaWhitespace}
 use Rattle.luck_token.specs.Literal.{piece, escapeAs, whitespaceEscape}
-use Rattle.luck_token.proofs.Bytes.{run-inside}
+use Rattle.luck_text.proofs.Bytes.{run-inside}
 use Rattle.luck_token.proofs.Literals.{escape-is, escape-cut, as-piece}
 use borrow.Author.Needs.{needs}
 use Rattle.luck_token.proofs.string.escape_at.Statement.{statement}

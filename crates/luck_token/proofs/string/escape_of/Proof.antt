@@ -4,9 +4,9 @@ use native.Mathlib.Omega.{arith}
 use borrow.Author.Tests.{ltb-true, ltb-false, leb-true, leb-false, eqb-true, eqb-false, not-true, not-false, lt-ltb, le-ltb, le-leb, lt-leb, eq-eqb, ne-eqb}
 use mathlib.Core.Bool.{Bool, true, false, not, _&&_, _||_}
 use mathlib.Core.Logic.{⊎-elim}
-use Rattle.luck_token.specs.Bytes.{if_then_else_, between, isDigit}
+use Rattle.luck_text.specs.Bytes.{if_then_else_, between, isDigit}
 use Rattle.luck_token.specs.Literal.{escapeOf}
-use Rattle.luck_token.proofs.Bytes.{below, above}
+use Rattle.luck_text.proofs.Bytes.{below, above}
 use Rattle.luck_token.proofs.Literals.{decimal-escape}
 use borrow.Author.Needs.{needs}
 use Rattle.luck_token.proofs.string.escape_of.Statement.{statement}

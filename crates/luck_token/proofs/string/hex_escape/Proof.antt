@@ -2,8 +2,8 @@
 use mathlib.Core.Path.{_≡_, refl, sym, ap, subst, _∙_}
 use Prim.Native.Nat.{ℕ, zero, suc, _+_, _-_, _*_, _≤_, _<_, min, max}
 use native.Mathlib.Omega.{arith}
-use Rattle.luck_token.specs.Bytes.{byteAt, isXdigit}
-use Rattle.luck_token.proofs.Cases.{first-false, second-false}
+use Rattle.luck_text.specs.Bytes.{byteAt, isXdigit}
+use Rattle.luck_text.proofs.Cases.{first-false, second-false}
 use Rattle.luck_token.proofs.Literals.{hex-bad, hex-cut, hex-byte}
 use borrow.Author.Needs.{needs}
 use Rattle.luck_token.proofs.string.hex_escape.Statement.{statement}

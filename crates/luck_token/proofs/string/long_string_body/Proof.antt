@@ -3,7 +3,7 @@ use mathlib.Core.Path.{_≡_, refl, sym, ap, subst, _∙_}
 use Prim.Native.Nat.{ℕ, zero, suc, _+_, _-_, _*_, _≤_, _<_, min, max}
 use native.Mathlib.Omega.{arith}
 use lib.ListN.{length}
-use Rattle.luck_token.specs.Bytes.{part}
+use Rattle.luck_text.specs.Bytes.{part}
 use Rattle.luck_token.proofs.Breaks.{break-inside}
 use Rattle.luck_token.proofs.Literals.{stripped}
 use borrow.Author.Needs.{needs}

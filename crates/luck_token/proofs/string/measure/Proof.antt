@@ -4,7 +4,7 @@ use Prim.Native.Nat.{ℕ, zero, suc, _+_, _-_, _*_, _≤_, _<_, min, max}
 use native.Mathlib.Omega.{arith}
 use mathlib.Core.List.{List, [], _∷_, _++_}
 use lib.ListN.{length, drop, length-append, length-set}
-use Rattle.luck_token.specs.Utf8.{utf8Bytes}
+use Rattle.luck_text.specs.Utf8.{utf8Bytes}
 use Rattle.luck_token.specs.Literal.{valueOf}
 use Rattle.luck_token.specs.declared.string.Piece.the-variants.{Byte, Character, Nothing, Malformed}
 use Rattle.luck_token.proofs.Values as values

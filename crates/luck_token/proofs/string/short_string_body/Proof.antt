@@ -2,7 +2,7 @@
 use mathlib.Core.Path.{_≡_, refl, sym, ap, subst, _∙_}
 use native.Mathlib.Omega.{arith}
 use Rattle.luck_token.specs.Literal.{shortStringBody}
-use Rattle.luck_token.proofs.Cases.{if-true, if-false}
+use Rattle.luck_text.proofs.Cases.{if-true, if-false}
 use Rattle.luck_token.proofs.Literals.{both-quotes}
 use borrow.Author.Needs.{needs}
 use Rattle.luck_token.proofs.string.short_string_body.Statement.{statement}

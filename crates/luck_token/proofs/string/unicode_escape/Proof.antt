@@ -2,10 +2,10 @@
 use mathlib.Core.Path.{_≡_, refl, sym, ap, subst, _∙_}
 use Prim.Native.Nat.{ℕ, zero, suc, _+_, _-_, _*_, _≤_, _<_, min, max}
 use native.Mathlib.Omega.{arith}
-use Rattle.luck_token.specs.Bytes.{byteAt}
+use Rattle.luck_text.specs.Bytes.{byteAt}
 use lib.ListN.{List·getD-eq-default}
-use Rattle.luck_token.specs.Bytes.{isXdigit}
-use Rattle.luck_token.proofs.Bytes.{run-inside}
+use Rattle.luck_text.specs.Bytes.{isXdigit}
+use Rattle.luck_text.proofs.Bytes.{run-inside}
 use Rattle.luck_token.proofs.Literals.{exact, allowed-small, no-open, no-close, no-code-point, code-point}
 use borrow.Author.Needs.{needs}
 use Rattle.luck_token.proofs.string.unicode_escape.Statement.{statement}

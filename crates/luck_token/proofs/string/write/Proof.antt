@@ -5,7 +5,7 @@ use native.Mathlib.Omega.{arith}
 use mathlib.Core.Option.{Option, none, some}
 use lib.ListN.{length, drop, length-append, length-set}
 use lib.Seq.{length-sets}
-use Rattle.luck_token.specs.Utf8.{utf8Bytes}
+use Rattle.luck_text.specs.Utf8.{utf8Bytes}
 use Rattle.luck_token.specs.Literal.{valueOf}
 use Rattle.luck_token.specs.declared.string.Piece.the-variants.{Byte, Character, Nothing, Malformed}
 use Rattle.luck_token.proofs.Values as values

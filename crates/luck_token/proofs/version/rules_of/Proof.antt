@@ -5,10 +5,10 @@ use native.Mathlib.Omega.{arith}
 use mathlib.Core.Bool.{Bool, true, false, not, _&&_, _||_}
 use mathlib.Core.List.{List, [], _∷_, map}
 use lib.ListN.{getD, List·getD-map}
-use Rattle.luck_token.specs.Bytes.{among}
+use Rattle.luck_text.specs.Bytes.{among}
 use Rattle.luck_token.specs.Version.{isVersion, versions, has, rulesOf}
 use Rattle.luck_token.specs.declared.version.Rules.{Rules}
-use Rattle.luck_token.proofs.Bytes.{below, above}
+use Rattle.luck_text.proofs.Bytes.{below, above}
 use borrow.Author.Needs.{needs}
 use Rattle.luck_token.proofs.version.rules_of.Statement.{statement}
 use Rattle.luck_token.proofs.version.rules_of.Tie as tie

@@ -1,6 +1,6 @@
 -- `luck_trial::class::class_bits` meets its contract. Assumes nothing.
 use mathlib.Core.Path.{refl}
-use Rattle.luck_token.specs.Bytes.{if_then_else_}
+use Rattle.luck_text.specs.Bytes.{if_then_else_}
 use Rattle.luck_trial.specs.Class.{isUpper, toLower}
 use Rattle.luck_trial.specs.Inner.{classBits, bitsOf}
 use Rattle.luck_trial.proofs.Classes.{named, other}

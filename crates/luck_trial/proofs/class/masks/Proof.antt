@@ -1,6 +1,6 @@
 -- `luck_trial::class::masks` meets its contract. Assumes nothing.
 use mathlib.Core.Path.{refl}
-use Rattle.luck_token.specs.Bytes.{isDigit, isXdigit}
+use Rattle.luck_text.specs.Bytes.{isDigit, isXdigit}
 use Rattle.luck_trial.specs.Class.{isLower, isUpper, isAlpha, isAlnum, isCntrl, isGraph, isPunct, isSpace}
 use Rattle.luck_trial.specs.Inner.{bit, maskOf}
 use Rattle.luck_trial.proofs.Classes.{are-masks}

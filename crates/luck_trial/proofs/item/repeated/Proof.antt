@@ -1,7 +1,7 @@
 -- `luck_trial::item::repeated` meets its contract. Assumes nothing.
 use mathlib.Core.Path.{ap}
 use borrow.Author.Needs.{needs}
-use Rattle.luck_token.specs.Bytes.{byteAt}
+use Rattle.luck_text.specs.Bytes.{byteAt}
 use Rattle.luck_trial.specs.Inner.{repeatRead}
 use Rattle.luck_trial.proofs.Reading.{of-optional, of-star, of-plus, of-minus, of-once, of-end}
 use Rattle.luck_trial.proofs.item.repeated.Statement.{statement}

@@ -3,8 +3,8 @@ use native.Mathlib.Omega.{arith}
 use mathlib.Core.Logic.{⊎-elim}
 use lib.ListN.{length, take}
 use borrow.Author.Needs.{needs}
-use Rattle.luck_token.specs.Bytes.{isDigit}
-use Rattle.luck_token.proofs.Bytes.{within, below, above}
+use Rattle.luck_text.specs.Bytes.{isDigit}
+use Rattle.luck_text.proofs.Bytes.{within, below, above}
 use Rattle.luck_trial.specs.Inner.{capturesIn}
 use Rattle.luck_trial.proofs.Outputs as outputs
 use Rattle.luck_trial.proofs.Replaced as replaced

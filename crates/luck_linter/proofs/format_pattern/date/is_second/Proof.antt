@@ -5,8 +5,8 @@ use native.Mathlib.Omega.{arith}
 use borrow.Author.Tests.{ltb-true, ltb-false, leb-true, leb-false, eqb-true, eqb-false, not-true, not-false, lt-ltb, le-ltb, le-leb, lt-leb, eq-eqb, ne-eqb}
 use mathlib.Core.Bool.{true, false, false≢true}
 use lib.ListN.{List·getD-eq-default}
-use Rattle.luck_token.specs.Bytes.{if_then_else_, byteAt, among}
-use Rattle.luck_token.proofs.Cases.{by-test}
+use Rattle.luck_text.specs.Bytes.{if_then_else_, byteAt, among}
+use Rattle.luck_text.proofs.Cases.{by-test}
 use Rattle.luck_linter.specs.Date.{secondBytes}
 use borrow.Author.Needs.{needs}
 use Rattle.luck_linter.proofs.format_pattern.date.is_second.Statement.{statement}

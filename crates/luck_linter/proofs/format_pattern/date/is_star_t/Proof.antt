@@ -3,7 +3,7 @@ use Prim.Native.Nat.{ℕ, zero, suc, _+_, _-_, _*_, _≤_, _<_, min, max}
 use native.Mathlib.Omega.{arith}
 use borrow.Author.Tests.{ltb-true, ltb-false, leb-true, leb-false, eqb-true, eqb-false, not-true, not-false, lt-ltb, le-ltb, le-leb, lt-leb, eq-eqb, ne-eqb}
 use lib.ListN.{length}
-use Rattle.luck_token.specs.Bytes.{byteAt}
+use Rattle.luck_text.specs.Bytes.{byteAt}
 use Rattle.luck_linter.specs.Date.{isStarT}
 use borrow.Author.Needs.{needs}
 use Rattle.luck_linter.proofs.format_pattern.date.is_star_t.Statement.{statement}

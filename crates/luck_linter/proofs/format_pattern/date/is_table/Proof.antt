@@ -3,8 +3,8 @@ use mathlib.Core.Path.{_≡_, refl, sym, ap, subst, _∙_}
 use Prim.Native.Nat.{ℕ, zero, suc, _+_, _-_, _*_, _≤_, _<_, min, max}
 use native.Mathlib.Omega.{arith}
 use borrow.Author.Tests.{ltb-true, ltb-false, leb-true, leb-false, eqb-true, eqb-false, not-true, not-false, lt-ltb, le-ltb, le-leb, lt-leb, eq-eqb, ne-eqb}
-use Rattle.luck_token.specs.Bytes.{byteAt}
-use Rattle.luck_token.proofs.Cases.{if-true, if-false}
+use Rattle.luck_text.specs.Bytes.{byteAt}
+use Rattle.luck_text.proofs.Cases.{if-true, if-false}
 use Rattle.luck_linter.specs.Date.{isTable}
 use Rattle.luck_linter.proofs.Dates as laws
 use borrow.Author.Needs.{needs}

@@ -4,7 +4,7 @@ use native.Mathlib.Omega.{arith}
 use Prim.Native.Nat.{_+_, _≤_}
 use mathlib.Core.Logic.{⊎-elim}
 use lib.ListN.{length}
-use Rattle.luck_token.specs.Bytes.{byteAt}
+use Rattle.luck_text.specs.Bytes.{byteAt}
 use Rattle.luck_linter.proofs.Formats as formats
 use borrow.Author.Needs.{needs}
 use Rattle.luck_linter.proofs.format_pattern.format.check_format.Statement.{statement}

@@ -1,6 +1,6 @@
 -- `luck_linter::format_pattern::format::get_format` meets its contract. Assumes nothing.
 use native.Mathlib.Omega.{arith}
-use Rattle.luck_token.specs.Bytes.{among, ascii}
+use Rattle.luck_text.specs.Bytes.{among, ascii}
 use Rattle.luck_linter.proofs.Formats as formats
 use borrow.Author.Needs.{needs}
 use Rattle.luck_linter.proofs.format_pattern.format.get_format.Statement.{statement}

@@ -2,8 +2,8 @@
 use mathlib.Core.Path.{sym, ap, _∙_}
 use native.Mathlib.Omega.{arith}
 use mathlib.Core.Logic.{⊎-elim}
-use Rattle.luck_token.specs.Walk.{stop}
-use Rattle.luck_token.specs.declared.utf8.Char.{Char}
+use Rattle.luck_text.specs.Walk.{stop}
+use Rattle.luck_text.specs.declared.utf8.Char.{Char}
 use Rattle.luck_linter.specs.Answer.{refusedWith}
 use Rattle.luck_linter.proofs.Formats as formats
 use borrow.Author.Needs.{needs}

@@ -1,7 +1,7 @@
 -- `luck_linter::format_pattern::format::scan_precision` meets its contract. Assumes nothing.
 use native.Mathlib.Omega.{arith}
 use Prim.Native.Nat.{_+_}
-use Rattle.luck_token.specs.Bytes.{isDigit}
+use Rattle.luck_text.specs.Bytes.{isDigit}
 use Rattle.luck_linter.proofs.Formats as formats
 use borrow.Author.Needs.{needs}
 use Rattle.luck_linter.proofs.format_pattern.format.scan_precision.Statement.{statement}

@@ -7,8 +7,8 @@ use mathlib.Core.Bool.{false, _&&_}
 use lib.ListN.{length}
 use lib.Dec.{eqb}
 use borrow.Author.Tests.{ne-eqb}
-use Rattle.luck_token.specs.Bytes.{byteAt}
-use Rattle.luck_token.proofs.Cases.{first-false, second-false}
+use Rattle.luck_text.specs.Bytes.{byteAt}
+use Rattle.luck_text.proofs.Cases.{first-false, second-false}
 use Rattle.luck_linter.specs.Answer.{refusal}
 use Rattle.luck_linter.specs.Format.{modifiersAt}
 use Rattle.luck_linter.specs.declared.format_pattern.format.Modifiers.the-variants.{EndAt, Fault}

@@ -3,8 +3,8 @@ use mathlib.Core.Path.{refl, sym, ap, _∙_}
 use Prim.Native.Nat.{_+_}
 use native.Mathlib.Omega.{arith}
 use lib.ListN.{length}
-use Rattle.luck_token.specs.Walk.Turn.{stop}
-use Rattle.luck_token.specs.declared.utf8.Char.{Char}
+use Rattle.luck_text.specs.Walk.Turn.{stop}
+use Rattle.luck_text.specs.declared.utf8.Char.{Char}
 use Rattle.luck_linter.specs.Answer.{refusedWith, refusal}
 use Rattle.luck_linter.specs.Pack.{state}
 use Rattle.luck_linter.specs.Inner.{optionRead, alignmentRead, packTurnOf}

@@ -1,6 +1,6 @@
 -- `luck_linter::format_pattern::pack::is_power_of_two` meets its contract. Assumes nothing.
 use borrow.Author.Tests.{ne-eqb}
-use Rattle.luck_token.specs.Bytes.{among}
+use Rattle.luck_text.specs.Bytes.{among}
 use Rattle.luck_linter.specs.Pack.{isPowerOfTwo}
 use Rattle.luck_linter.proofs.format_pattern.pack.is_power_of_two.Statement.{statement}
 use Rattle.luck_linter.proofs.format_pattern.pack.is_power_of_two.Tie as tie

@@ -2,11 +2,11 @@
 use mathlib.Core.Path.{sym, ap, subst, _∙_}
 use Prim.Native.Nat.{ℕ}
 use lib.ListN.{length}
-use Rattle.luck_token.specs.Bytes.{byteAt}
+use Rattle.luck_text.specs.Bytes.{byteAt}
 use Rattle.luck_linter.specs.Inner.{OptionIn, faults}
 use Rattle.luck_linter.specs.Answer.{refusedWith}
 use Rattle.luck_linter.specs.declared.format_pattern.pack.PackOption.the-variants.{Sized, Counted, SetMaxAlignment}
-use Rattle.luck_token.specs.declared.utf8.Char.{Char}
+use Rattle.luck_text.specs.declared.utf8.Char.{Char}
 use Rattle.luck_linter.proofs.Packs.{sized-number, sized-string, largest-alignment, fixed-string, unknown-option, makes-number, makes-string, makes-alignment, of-size, of-fault, back}
 use borrow.Author.Needs.{needs}
 use Rattle.luck_linter.proofs.format_pattern.pack.scan_sized_option.Statement.{statement}

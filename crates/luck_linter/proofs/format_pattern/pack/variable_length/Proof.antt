@@ -1,6 +1,6 @@
 -- `luck_linter::format_pattern::pack::variable_length` meets its contract. Assumes nothing.
 use mathlib.Core.Path.{ap}
-use Rattle.luck_token.specs.declared.utf8.Char.{Char}
+use Rattle.luck_text.specs.declared.utf8.Char.{Char}
 use Rattle.luck_linter.specs.declared.format_pattern.PatternError.the-variants.{VariableLengthPackOption}
 use Rattle.luck_linter.specs.declared.format_pattern.pack.Turn.the-variants.{Fault}
 use borrow.Author.Needs.{needs}

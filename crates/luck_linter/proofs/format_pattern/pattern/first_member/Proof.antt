@@ -4,7 +4,7 @@ use native.Mathlib.Omega.{arith}
 use lib.ListN.{List·getD-eq-default}
 use borrow.Author.Needs.{needs}
 use borrow.Author.Tests.{eq-eqb, ne-eqb}
-use Rattle.luck_token.specs.Bytes.{if_then_else_}
+use Rattle.luck_text.specs.Bytes.{if_then_else_}
 use Rattle.luck_linter.specs.Pattern.{firstMember}
 use Rattle.luck_linter.proofs.format_pattern.pattern.first_member.Statement.{statement}
 use Rattle.luck_linter.proofs.format_pattern.pattern.first_member.Tie as tie

@@ -6,7 +6,7 @@ use native.Mathlib.Omega.{arith}
 use lib.Dec.{ltb}
 use lib.ListN.{length, List·getD-eq-default}
 use borrow.Author.Tests.{lt-ltb}
-use Rattle.luck_token.proofs.Cases.{second-false}
+use Rattle.luck_text.proofs.Cases.{second-false}
 use Rattle.luck_linter.specs.Captures.{isClosed, flagsOf}
 use Rattle.luck_linter.proofs.Flags.{flags-length, flags-at}
 use borrow.Author.Needs.{needs}

@@ -5,8 +5,8 @@ use native.Mathlib.Omega.{arith}
 use mathlib.Core.Logic.{⊎-elim}
 use lib.ListN.{length, drop}
 use borrow.Author.Tests.{not-true, not-false}
-use Rattle.luck_token.specs.Bytes.{byteAt, isDigit}
-use Rattle.luck_token.proofs.Bytes.{within, below, above}
+use Rattle.luck_text.specs.Bytes.{byteAt, isDigit}
+use Rattle.luck_text.proofs.Bytes.{within, below, above}
 use Rattle.luck_linter.specs.Replacement.{countOf, pieces, piecesWalk}
 use Rattle.luck_linter.proofs.Replacements as laws
 use borrow.Author.Needs.{needs}

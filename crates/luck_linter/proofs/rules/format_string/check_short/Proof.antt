@@ -3,7 +3,7 @@ use mathlib.Core.Path.{_≡_, refl, sym, ap, ap₂, _∙_}
 use Prim.Native.Nat.{ℕ, zero, suc, _+_, _-_, _*_, _≤_, _<_, min, max}
 use native.Mathlib.Omega.{arith}
 use lib.ListN.{length}
-use Rattle.luck_token.specs.Bytes.{part}
+use Rattle.luck_text.specs.Bytes.{part}
 use Rattle.luck_token.specs.Literal.{placesOf}
 use Rattle.luck_token.proofs.Literals.{both-quotes}
 use Rattle.luck_linter.specs.StringLiteral.{checkBody}

@@ -1,0 +1,163 @@
+-- Laws of bytes: tests of a range, runs, and numbers that stay at the largest.
+-- Assumes nothing.
+use Prim.Native.Nat.{ℕ, zero, suc, _+_, _*_, _-_, _≤_, _<_, min}
+use native.Mathlib.Nat.{mul-zero, mul-suc}
+use native.Mathlib.Numerals.{add-one}
+use native.Mathlib.Omega.{arith}
+use mathlib.Core.Path.{_≡_, refl, sym, ap, subst, _∙_}
+use mathlib.Core.Logic.{_⊎_, inl, inr, ⊎-elim}
+use mathlib.Core.Bool.{Bool, true, false, _&&_, _||_}
+use mathlib.Core.List.{List, [], _∷_}
+use lib.ListN.{length, drop, length-drop, drop-of-length-le}
+use lib.Seq.{drop-cons, take-nil}
+use lib.Dec.{leb}
+use borrow.Author.Tests.{le-leb, lt-leb, leb-true, leb-false, eq-eqb, ne-eqb}
+use Rattle.luck_text.specs.Bytes.{if_then_else_, byteAt, part, between, among, isDigit, isXdigit, run, digitValue, numeralFrom, numeral}
+use Rattle.luck_text.specs.Scan.{most, grown}
+use Rattle.luck_text.proofs.Cases.{by-test, order, and-right, second-false}
+
+-- ---- A range
+
+module _ (low high b : ℕ) where
+  pub within : low ≤ b → b ≤ high → between low high b ≡ true
+  within l h = rw (le-leb low b l, le-leb b high h)
+
+  pub below : b < low → between low high b ≡ false
+  below l = rw (lt-leb low b l)
+
+  pub above : high < b → between low high b ≡ false
+  above h = second-false (leb low b) (leb b high) (lt-leb b high h)
+
+-- ---- A set
+
+module _ (b : ℕ) (set : List ℕ) (p : ℕ) where
+  -- the byte stands at p, or further on, or the set ends at p
+  pub among-here : p < length set → b ≡ byteAt set p → true ≡ among b (drop p set)
+  unfolding among
+  among-here h e = rw (drop-cons set p 0, eq-eqb b (byteAt set p) e)
+
+  pub among-later : p < length set → (b ≡ byteAt set p → ⊥) → among b (drop (p + 1) set) ≡ among b (drop p set)
+  unfolding among
+  among-later h e = rw (drop-cons set p 0, add-one p, ne-eqb b (byteAt set p) e)
+
+  pub among-end : length set ≤ p → false ≡ among b (drop p set)
+  unfolding among
+  among-end h = rw (drop-of-length-le set h)
+
+-- ---- A run
+
+module _ (test : ℕ → Bool) where
+  one-more : (b : ℕ) (text : List ℕ) → test b ≡ true → run test (b ∷ text) ≡ suc (run test text)
+  unfolding run if_then_else_
+  one-more b text e = rw e
+
+  no-more : (b : ℕ) (text : List ℕ) → test b ≡ false → run test (b ∷ text) ≡ 0
+  unfolding run if_then_else_
+  no-more b text e = rw e
+
+  -- a byte that passes, one that does not, and the end
+  pub run-more : (text : List ℕ) (p : ℕ) → p < length text → test (byteAt text p) ≡ true → run test (drop p text) ≡ suc (run test (drop (p + 1) text))
+  run-more text p h e = rw (drop-cons text p 0, add-one p) (one-more _ _ e)
+
+  pub run-stop : (text : List ℕ) (p : ℕ) → p < length text → test (byteAt text p) ≡ false → run test (drop p text) ≡ 0
+  run-stop text p h e = rw (drop-cons text p 0) (no-more _ _ e)
+
+  pub run-end : (text : List ℕ) (p : ℕ) → length text ≤ p → run test (drop p text) ≡ 0
+  unfolding run
+  run-end text p h = rw (drop-of-length-le text h)
+
+  run-length : (text : List ℕ) → run test text ≤ length text
+  unfolding run
+  run-length [] = omega arith
+  run-length (b ∷ text) = go (test b) refl (run-length text)
+    where
+      go : (t : Bool) → test b ≡ t → run test text ≤ length text → run test (b ∷ text) ≤ suc (length text)
+      go true e h = rw (one-more b text e) (omega arith)
+      go false e h = rw (no-more b text e) (omega arith)
+
+  pub run-short : (text : List ℕ) (p : ℕ) → run test (drop p text) ≤ length text
+  run-short text p = omega (arith, run-length (drop p text), length-drop p text)
+
+  -- a run lies in the text
+  pub run-inside : (text : List ℕ) (p : ℕ) → p ≤ length text → p + run test (drop p text) ≤ length text
+  run-inside text p h = omega (arith, run-length (drop p text), length-drop p text)
+
+-- ---- A number
+
+-- a number that stays at the largest, with one more digit
+module _ (value digit : ℕ) where
+  large : (base : ℕ) → most ≤ value → min (most * base + digitValue digit) most ≡ min (value * base + digitValue digit) most
+  large zero h = rw (mul-zero most, mul-zero value)
+  large (suc base) h = omega (arith, mul-suc value base, mul-suc most base)
+
+  pub grown-min : (base : ℕ) → grown (min value most) base digit ≡ min (value * base + digitValue digit) most
+  unfolding grown
+  grown-min base =
+      ⊎-elim (λ h. let e : min value most ≡ value = omega arith in rw e)
+      (λ h. let e : min value most ≡ most = omega arith in rw e (large base h)) (order value most)
+
+-- the digits from a place to another: one more, and none
+module _ (base : ℕ) (text : List ℕ) (to : ℕ) where
+  pub digit-more : (high p : ℕ) → p < to → p < length text
+      → numeralFrom base high (part text p to) ≡ numeralFrom base (high * base + digitValue (byteAt text p)) (part text (p + 1) to)
+  unfolding numeralFrom
+  digit-more high p h l =
+      let e : to - p ≡ suc (to - (p + 1)) = omega arith in
+      rw (e, drop-cons text p 0 l, ← add-one p)
+
+  pub digit-end : (high p : ℕ) → (to ≤ p) ⊎ (length text ≤ p) → numeralFrom base high (part text p to) ≡ high
+  unfolding numeralFrom
+  digit-end high p (inl h) = let e : to - p ≡ 0 = omega arith in rw e
+  digit-end high p (inr h) = rw (drop-of-length-le text {i = p} h, take-nil (to - p))
+
+-- ---- The value of a digit
+
+module _ (b : ℕ) where
+  pub digit-none : b < 48 → 0 ≡ digitValue b
+  unfolding digitValue if_then_else_
+  digit-none h = rw (le-leb b 57 (omega arith)) (omega arith)
+
+  pub digit-decimal : 48 ≤ b → b ≤ 57 → b - 48 ≡ digitValue b
+  unfolding digitValue if_then_else_
+  digit-decimal l h = rw (le-leb b 57 h)
+
+  pub digit-between : 57 < b → b < 65 → 10 ≡ digitValue b
+  unfolding digitValue if_then_else_
+  digit-between l h = rw (lt-leb b 57 l, le-leb b 70 (omega arith)) (omega arith)
+
+  pub digit-capital : 65 ≤ b → b ≤ 70 → b - 55 ≡ digitValue b
+  unfolding digitValue if_then_else_
+  digit-capital l h = rw (lt-leb b 57 (omega arith), le-leb b 70 h) (omega arith)
+
+  pub digit-above : 70 < b → b < 97 → 10 ≡ digitValue b
+  unfolding digitValue if_then_else_
+  digit-above l h = rw (lt-leb b 57 (omega arith), lt-leb b 70 l) (omega arith)
+
+  pub digit-small-letter : 97 ≤ b → b - 87 ≡ digitValue b
+  unfolding digitValue if_then_else_
+  digit-small-letter l = rw (lt-leb b 57 (omega arith), lt-leb b 70 (omega arith)) (omega arith)
+
+  -- it is small, whatever the byte
+  pub digit-small : b < 256 → digitValue b < 256
+  unfolding digitValue
+  digit-small h = by-test (λ x. x < 256) _ _ _ (λ _. omega arith) (λ _. by-test (λ x. x < 256) _ _ _ (λ e. omega (arith, leb-true b 70 e)) (λ _. omega arith))
+
+-- a hexadecimal digit's is below 16
+pub hex-value : (b : ℕ) → isXdigit b ≡ true → digitValue b < 16
+unfolding isXdigit isDigit digitValue
+hex-value b e =
+    by-test (λ x. x < 16) (leb b 57) _ _ (λ d. omega (arith, leb-true b 57 d))
+    (λ n. by-test (λ x. x < 16) (leb b 70) _ _ (λ l. omega (arith, leb-true b 70 l)) (λ h. omega (arith, letter n h)))
+  where
+    letter : leb b 57 ≡ false → leb b 70 ≡ false → b ≤ 102
+    letter n h =
+        let no-digit = above 48 57 b (leb-false b 57 n) in
+        let no-capital = above 65 70 b (leb-false b 70 h) in
+        leb-true b 102 (and-right (leb 97 b) (leb b 102) (small (between 97 102 b) (sym (cong no-digit no-capital) ∙ e)))
+      where
+        small : (t : Bool) → (false || t || false) ≡ true → t ≡ true
+        small true q = refl
+        small false q = q
+
+        cong : between 48 57 b ≡ false → between 65 70 b ≡ false → (between 48 57 b || between 97 102 b || between 65 70 b) ≡ (false || between 97 102 b || false)
+        cong p q = rw (p, q)

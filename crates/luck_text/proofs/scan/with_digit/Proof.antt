@@ -1,0 +1,33 @@
+-- `luck_token::scan::with_digit` meets its contract. Assumes nothing.
+use native.Mathlib.Omega.{arith}
+use mathlib.Core.Path.{_≡_, refl, sym, ap, subst, _∙_}
+use Prim.Native.Nat.{ℕ, zero, suc, _+_, _-_, _*_, _≤_, _<_, min, max}
+use Rattle.luck_text.specs.Scan.{most, grown}
+use Rattle.luck_text.proofs.Bytes.{digit-small}
+use native.Mathlib.Nat.{mul-le-mul}
+use borrow.Author.Needs.{needs}
+use Rattle.luck_text.proofs.scan.with_digit.Statement.{statement}
+use Rattle.luck_text.proofs.scan.with_digit.Tie as tie
+
+product : (value base : ℕ) → value ≤ most → base < 0x1_0000_0000 → value * base ≤ 0x8000_0000 * 0xFFFF_FFFF
+product value base h b = let l : base ≤ 0xFFFF_FFFF = omega arith in mul-le-mul h l
+
+mul-larger : tie.Need-mul-larger
+mul-larger c = omega (arith, product (c .args .value) (c .args .base) (c .pre) (c .fits .base .fits))
+
+digit-value-requires : tie.Need-digit-value-requires
+digit-value-requires c κs = search needs
+
+add-larger : tie.Need-add-larger
+add-larger c = omega (arith, c .digit-value .ensures, product (c .before .args .value) (c .before .args .base) (c .before .pre) (c .before .fits .base .fits), digit-small (c .before .args .digit) (c .before .fits .digit .fits))
+
+returns : tie.Need-returns
+unfolding grown
+returns c = omega (arith, c .before .digit-value .ensures)
+
+returns-2 : tie.Need-returns-2
+unfolding grown
+returns-2 c = omega (arith, c .before .digit-value .ensures)
+
+pub with-digit-spec : {M : Type 1} → statement M
+with-digit-spec = tie.close (tie.spec mul-larger digit-value-requires add-larger returns returns-2)

@@ -1,0 +1,148 @@
+// Runs of bytes of one class, and the number that digits spell.
+ghost use mathlib.Core.Path.{_≡_};
+ghost use Prim.Native.Nat.{_≤_, min};
+ghost use lib.ListN.{length, drop};
+ghost use Rattle.luck_text.specs.Bytes.{part, among, run as runOf, digitValue, numeral as numeralOf};
+ghost use Rattle.luck_text.specs.Scan.{inClass, most, grown};
+
+// What a run is made of.
+pub enum Class {
+    Digit,
+    HexDigit,
+    Whitespace,
+    Byte(u8),
+}
+
+fn is_digit(byte: u8) -> bool
+    ensures { λ r. ⌜ r ≡ inClass Class.Digit byte ⌝ }
+{
+    match byte {
+        b'0'..=b'9' => true,
+        _ => false,
+    }
+}
+
+fn is_hex_digit(byte: u8) -> bool
+    ensures { λ r. ⌜ r ≡ inClass Class.HexDigit byte ⌝ }
+{
+    match byte {
+        b'0'..=b'9' => true,
+        b'a'..=b'f' => true,
+        b'A'..=b'F' => true,
+        _ => false,
+    }
+}
+
+fn is_lua_whitespace(byte: u8) -> bool
+    ensures { λ r. ⌜ r ≡ inClass Class.Whitespace byte ⌝ }
+{
+    if byte == b' ' {
+        return true;
+    }
+    if byte < b'\t' {
+        return false;
+    }
+    byte <= b'\r'
+}
+
+pub fn is_in(class: Class, byte: u8) -> bool
+    ensures { λ r. ⌜ r ≡ inClass class byte ⌝ }
+{
+    match class {
+        Class::Digit => is_digit(byte),
+        Class::HexDigit => is_hex_digit(byte),
+        Class::Whitespace => is_lua_whitespace(byte),
+        Class::Byte(b) => b == byte,
+    }
+}
+
+// How many bytes from `at` on belong to the class, up to the first that does not.
+pub fn run(text: &[u8], at: usize, class: Class) -> usize
+    ensures { λ r. ⌜ r ≡ runOf (inClass class) (drop at (now (text .entry))) ⌝ }
+{
+    let mut end = at;
+    while end < text.len() {
+        if !is_in(class, text[end]) {
+            return end - at;
+        }
+        end += 1;
+    }
+    end - at
+}
+
+// Whether the byte is one of a set's.
+pub fn contains(set: &[u8], byte: u8) -> bool
+    ensures { λ r. ⌜ r ≡ among byte (now (set .entry)) ⌝ }
+{
+    let mut at = 0;
+    while at < set.len() {
+        if byte == set[at] {
+            return true;
+        }
+        at += 1;
+    }
+    false
+}
+
+// How many bytes from `at` on are of a set, up to the first that is not.
+pub fn run_in(text: &[u8], at: usize, set: &[u8]) -> usize
+    ensures { λ r. ⌜ r ≡ runOf (λ b. among b (now (set .entry))) (drop at (now (text .entry))) ⌝ }
+{
+    let mut end = at;
+    while end < text.len() {
+        if !contains(set, text[end]) {
+            return end - at;
+        }
+        end += 1;
+    }
+    end - at
+}
+
+fn digit_value(byte: u8) -> u64
+    ensures { λ r. ⌜ r ≡ digitValue byte ⌝ }
+{
+    if byte < b'0' {
+        return 0;
+    }
+    if byte <= b'9' {
+        return byte as u64 - 48;
+    }
+    if byte < b'A' {
+        return 10;
+    }
+    if byte <= b'F' {
+        return byte as u64 - 55;
+    }
+    if byte < b'a' {
+        return 10;
+    }
+    byte as u64 - 87
+}
+
+// A number with one more digit. What is larger than every limit that a check has stays at one such number.
+fn with_digit(value: u64, base: u32, digit: u8) -> u64
+    requires { ⌜ value ≤ most ⌝ }
+    ensures { λ r. ⌜ r ≡ grown value base digit ⌝ }
+{
+    let larger = value * (base as u64) + digit_value(digit);
+    if 0x8000_0000 < larger {
+        return 0x8000_0000;
+    }
+    larger
+}
+
+// The number that the bytes from `from` to `to` spell to a base, or 80000000 (hexadecimal) where it is larger.
+pub fn numeral(text: &[u8], from: usize, to: usize, base: u32) -> u32
+    ensures { λ r. ⌜ r ≡ min (numeralOf base (part (now (text .entry)) from to)) most ⌝ }
+{
+    let mut at = from;
+    let mut value: u64 = 0;
+    while at < to {
+        if text.len() <= at {
+            return value as u32;
+        }
+        value = with_digit(value, base, text[at]);
+        at += 1;
+    }
+    value as u32
+}
