@@ -4,7 +4,7 @@ use Prim.Native.Nat.{ℕ}
 use mathlib.Core.Bool.{Bool, true, false}
 use mathlib.Core.Option.{Option, none, some}
 use Rattle.luck_token.specs.Decode as decode
-use Rattle.luck_linter.specs.Answer as check
+use Rattle.luck_answer.specs.Answer as check
 use Rattle.luck_linter.specs.StringLiteral as literal
 use Rattle.luck_trial.specs.Gsub as trial
 use Rattle.luck.specs.declared.answer.Answer.{Answer}

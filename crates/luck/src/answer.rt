@@ -1,9 +1,9 @@
 // The answer of a check of a body.
 ghost use mathlib.Core.Path.{_≡_};
-ghost use Rattle.luck_linter.specs.Answer.{accepted, refused, refusedWith, refusedBoth, refusal, answerOf};
+ghost use Rattle.luck_answer.specs.Answer.{accepted, refused, refusedWith, refusedBoth, refusal, answerOf};
 ghost use Rattle.luck.specs.Answers.{checkAnswer};
-use luck_linter::format_pattern::Checked;
-use luck_linter::format_pattern::PatternError;
+use luck_answer::format_pattern::Checked;
+use luck_answer::format_pattern::PatternError;
 
 // luck_answer
 #[repr(C)]

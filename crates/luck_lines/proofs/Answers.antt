@@ -10,9 +10,9 @@ use lib.ListN.{length, drop, length-drop}
 use lib.Dec.{ltb}
 use Rattle.luck_text.specs.Bytes.{byteAt, among}
 use Rattle.luck_text.proofs.Cases.{by-test}
-use Rattle.luck_linter.specs.Answer.{Answer, refused}
+use Rattle.luck_answer.specs.Answer.{Answer, refused}
 use Rattle.luck_linter.specs.Checks.{Check, pattern, format, date, replacement, pack, literal, answer, numbers}
-use Rattle.luck_linter.proofs.Among.{Every, every-among}
+use Rattle.luck_text.proofs.Among.{Every, every-among}
 use Rattle.luck_linter.proofs.Refusals.{refusals}
 use Rattle.luck_lines.specs.Line.{longest, checkOf, bodyAnswer, lineAnswer, lineNumbers}
 

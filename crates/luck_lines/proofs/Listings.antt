@@ -10,7 +10,7 @@ use lib.ListN.{length, take, drop, replicate, length-append, length-replicate}
 use lib.Seq.{append-snoc}
 use lib.Dec.{eqb}
 use Rattle.luck_text.specs.Bytes.{if_then_else_, run}
-use Rattle.luck_linter.specs.Answer.{refused}
+use Rattle.luck_answer.specs.Answer.{refused}
 use Rattle.luck_lines.specs.Line.{lineAnswer}
 use Rattle.luck_lines.specs.Row.{answerRow}
 use Rattle.luck_lines.specs.Lines.{lastLine, linesFrom, rows}

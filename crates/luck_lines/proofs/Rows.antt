@@ -3,9 +3,9 @@
 use Prim.Native.Nat.{ℕ}
 use mathlib.Core.Path.{_≡_, refl, ap}
 use lib.ListN.{length}
-use Rattle.luck_linter.specs.Answer.{refusal}
-use Rattle.luck_linter.specs.declared.format_pattern.PatternError.{PatternError}
-use Rattle.luck_linter.specs.declared.format_pattern.PatternError.the-variants as error
+use Rattle.luck_answer.specs.Answer.{refusal}
+use Rattle.luck_answer.specs.declared.format_pattern.PatternError.{PatternError}
+use Rattle.luck_answer.specs.declared.format_pattern.PatternError.the-variants as error
 use Rattle.luck_lines.specs.Row.{justified, fourColumns, sevenColumns, row, answerRow}
 
 no-count : (fault : PatternError) → 0 ≡ refusal fault .count

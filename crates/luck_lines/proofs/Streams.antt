@@ -16,7 +16,7 @@ use Rattle.luck_text.specs.Walk.{stop, goes, walkFrom}
 use Rattle.luck_text.proofs.Walk.{walk-end, walk-stop, walk-goes}
 use Rattle.luck_text.proofs.Bytes.{run-more, run-stop, run-end, run-inside}
 use Rattle.luck_text.proofs.Cases.{by-test}
-use Rattle.luck_linter.specs.Answer.{refused}
+use Rattle.luck_answer.specs.Answer.{refused}
 use Rattle.luck_lines.specs.Line.{longest, lineAnswer}
 use Rattle.luck_lines.specs.Row.{answerRow}
 use Rattle.luck_lines.specs.Stream.{rowLength, lineLength, rowOf, Taken, taken, State, state, unended, lineTurn, feedTurn, feed, finish, fedOf, inFront}

@@ -8,7 +8,7 @@ use mathlib.Core.Option.{Option, none, some}
 use lib.ListN.{length, drop}
 use lib.Dec.{eqb, leb, ltb}
 use Rattle.luck_text.specs.Bytes.{if_then_else_, byteAt, isDigit}
-use Rattle.luck_linter.specs.Answer.{Answer, refused, answerOf}
+use Rattle.luck_answer.specs.Answer.{Answer, refused, answerOf}
 use Rattle.luck_linter.specs.Checks.{Check, format, pattern, pack, date, replacement, answer}
 use Rattle.luck_lines.specs.declared.line.LineChecked.{LineChecked}
 use Rattle.luck_lines.specs.declared.line.LineChecked.the-variants.{TooLong, Misfit, Body}

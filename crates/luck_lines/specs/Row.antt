@@ -5,7 +5,7 @@ use Prim.Native.Char.{code}
 use mathlib.Core.List.{List, [], _∷_, _++_}
 use lib.Dec.{ltb}
 use Rattle.luck_text.specs.Bytes.{if_then_else_}
-use Rattle.luck_linter.specs.Answer.{Answer}
+use Rattle.luck_answer.specs.Answer.{Answer}
 
 -- LF
 abbrev pub newline : ℕ

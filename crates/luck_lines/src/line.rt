@@ -2,13 +2,13 @@
 ghost use mathlib.Core.Path.{_≡_};
 ghost use Rattle.luck_lines.specs.Line.{digit as digitOf, twoDigits, capturesIn, replacementWith, plainCheck, checkBy, bodyAnswer, lineAnswer, lineAnswerOf};
 ghost use Rattle.luck_lines.specs.Inner.{columnsOf};
-use luck_linter::format_pattern::Checked;
-use luck_linter::format_pattern::date;
-use luck_linter::format_pattern::format;
-use luck_linter::format_pattern::pack;
-use luck_linter::format_pattern::pattern;
-use luck_linter::format_pattern::replacement;
-use luck_linter::format_pattern::replacement::Captures;
+use luck_answer::format_pattern::Checked;
+use luck_format::date;
+use luck_format::format;
+use luck_format::pack;
+use luck_pattern::pattern;
+use luck_pattern::replacement;
+use luck_pattern::replacement::Captures;
 use luck_text::scan;
 use luck_text::scan::Class;
 

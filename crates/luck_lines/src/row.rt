@@ -1,12 +1,12 @@
 // A row of the listing.
 ghost use mathlib.Core.Path.{_≡_};
 ghost use Prim.Native.Nat.{_+_, _%_, _<_};
-ghost use Rattle.luck_linter.specs.Answer.{answerOf};
+ghost use Rattle.luck_answer.specs.Answer.{answerOf};
 ghost use Rattle.luck_lines.specs.Line.{lineAnswerOf};
 ghost use Rattle.luck_lines.specs.Row.{column, row, answerRow};
 use crate::line::LineChecked;
-use luck_linter::format_pattern;
-use luck_linter::format_pattern::Checked;
+use luck_answer::format_pattern;
+use luck_answer::format_pattern::Checked;
 
 // The digit at a power of ten, or a blank in the place of a leading zero.
 fn column(power: u64, n: u64) -> u8

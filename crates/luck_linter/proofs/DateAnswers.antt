@@ -11,10 +11,10 @@ use Rattle.luck_text.specs.Bytes.{among}
 use Rattle.luck_token.specs.Version.{rulesOf}
 use Rattle.luck_text.specs.Walk.{Turn}
 use Rattle.luck_text.proofs.Cases.{by-test}
-use Rattle.luck_linter.specs.Answer.{Answer}
+use Rattle.luck_answer.specs.Answer.{Answer}
 use Rattle.luck_linter.specs.Checks.{date, answer, numbers}
-use Rattle.luck_linter.specs.Date.{checksDates, hasDateOptions, dateTurn, dateEnd, conversionsWalk, dateWalk, checkDate}
-use Rattle.luck_linter.proofs.Answers.{Stops, walk-every, Fits, check-fits}
+use Rattle.luck_format.specs.Date.{checksDates, hasDateOptions, dateTurn, dateEnd, conversionsWalk, dateWalk, checkDate}
+use Rattle.luck_answer.proofs.Answers.{Stops, walk-every, Fits, check-fits}
 
 module _ (text : List ℕ) where
   abbrev AnswerIn : Answer → Type 0

@@ -14,9 +14,9 @@ use Rattle.luck_text.specs.Walk.{Turn}
 use Rattle.luck_token.specs.declared.version.Rules.{Rules}
 use Rattle.luck_text.proofs.Cases.{by-test, and-right, present}
 use Rattle.luck_text.proofs.Bytes.{run-inside}
-use Rattle.luck_linter.specs.Answer.{Answer}
+use Rattle.luck_answer.specs.Answer.{Answer}
 use Rattle.luck_linter.specs.Checks.{format, answer, numbers}
-use Rattle.luck_linter.specs.Format.{
+use Rattle.luck_format.specs.Format.{
   isFlag,
   Modifiers,
   end-at,
@@ -35,7 +35,7 @@ use Rattle.luck_linter.specs.Format.{
   formatWalk,
   checkFormat,
 }
-use Rattle.luck_linter.proofs.Answers.{Stops, walk-every, Fits, check-fits}
+use Rattle.luck_answer.proofs.Answers.{Stops, walk-every, Fits, check-fits}
 
 module _ (text : List ℕ) where
   abbrev AnswerIn : Answer → Type 0

@@ -1,14 +1,4 @@
-pub mod Texts
-pub mod Among
-pub mod Flags
-pub mod Patterns
-pub mod Replacements
-pub mod Formats
-pub mod Packs
-pub mod PackOptions
-pub mod Dates
 pub mod StringLiterals
-pub mod Answers
 pub mod PatternAnswers
 pub mod ReplacementAnswers
 pub mod FormatAnswers

@@ -12,16 +12,16 @@ use Rattle.luck_token.specs.Version.{rulesOf}
 use Rattle.luck_text.specs.Utf8.{illFormed}
 use Rattle.luck_token.specs.declared.version.Rules.{Rules}
 use Rattle.luck_text.proofs.Cases.{by-test}
-use Rattle.luck_linter.specs.Answer.{Answer}
-use Rattle.luck_linter.specs.Pattern.{patternWalk}
-use Rattle.luck_linter.specs.Format.{formatWalk}
-use Rattle.luck_linter.specs.Pack.{packWalk}
-use Rattle.luck_linter.specs.Replacement.{isStrict, pieces, piecesWalk}
-use Rattle.luck_linter.specs.Date.{checksDates, hasDateOptions, dateWalk}
+use Rattle.luck_answer.specs.Answer.{Answer}
+use Rattle.luck_pattern.specs.Pattern.{patternWalk}
+use Rattle.luck_format.specs.Format.{formatWalk}
+use Rattle.luck_format.specs.Pack.{packWalk}
+use Rattle.luck_pattern.specs.Replacement.{isStrict, pieces, piecesWalk}
+use Rattle.luck_format.specs.Date.{checksDates, hasDateOptions, dateWalk}
 use Rattle.luck_linter.specs.StringLiteral.{LiteralAnswer, bodyWalk, withSpan, checkBody, checkShort, afterText, checkLiteral}
 use Rattle.luck_linter.specs.Checks.{Check, pattern, format, date, replacement, pack, literal, answer, numbers}
-use Rattle.luck_linter.proofs.Among.{Every, every-among}
-use Rattle.luck_linter.proofs.Answers.{Fits, PlaceIn, place-in}
+use Rattle.luck_text.proofs.Among.{Every, every-among}
+use Rattle.luck_answer.proofs.Answers.{Fits, PlaceIn, place-in}
 use Rattle.luck_linter.proofs.PatternAnswers.{pattern-fits}
 use Rattle.luck_linter.proofs.FormatAnswers.{format-fits}
 use Rattle.luck_linter.proofs.PackAnswers.{pack-fits}

@@ -11,10 +11,10 @@ use borrow.Author.Tests.{leb-false}
 use Rattle.luck_text.specs.Bytes.{byteAt, among}
 use Rattle.luck_text.specs.Walk.{Turn}
 use Rattle.luck_text.proofs.Cases.{by-test}
-use Rattle.luck_linter.specs.Answer.{Answer}
+use Rattle.luck_answer.specs.Answer.{Answer}
 use Rattle.luck_linter.specs.Checks.{pack, answer, numbers}
-use Rattle.luck_linter.proofs.Answers.{Stops, walk-every, Fits, check-fits}
-use Rattle.luck_linter.specs.Pack.{
+use Rattle.luck_answer.proofs.Answers.{Stops, walk-every, Fits, check-fits}
+use Rattle.luck_format.specs.Pack.{
   PackOption,
   Read,
   option,

@@ -11,11 +11,11 @@ use lib.ListN.{length}
 use borrow.Author.Tests.{eqb-true}
 use Rattle.luck_text.specs.Bytes.{byteAt, among}
 use Rattle.luck_text.proofs.Cases.{by-test, present}
-use Rattle.luck_linter.specs.Answer.{Answer}
+use Rattle.luck_answer.specs.Answer.{Answer}
 use Rattle.luck_linter.specs.Checks.{pattern, answer, numbers}
-use Rattle.luck_linter.proofs.Answers.{Stops, walk-every, Fits, check-fits}
-use Rattle.luck_linter.specs.Captures.{closeLatest, isClosed, allClosed}
-use Rattle.luck_linter.specs.Pattern.{
+use Rattle.luck_answer.proofs.Answers.{Stops, walk-every, Fits, check-fits}
+use Rattle.luck_pattern.specs.Captures.{closeLatest, isClosed, allClosed}
+use Rattle.luck_pattern.specs.Pattern.{
   Head,
   at-open,
   at-close,

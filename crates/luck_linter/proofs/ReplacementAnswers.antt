@@ -10,10 +10,10 @@ use lib.ListN.{length}
 use Rattle.luck_text.specs.Bytes.{among}
 use Rattle.luck_token.specs.Version.{rulesOf}
 use Rattle.luck_text.proofs.Cases.{by-test}
-use Rattle.luck_linter.specs.Answer.{Answer, refused}
+use Rattle.luck_answer.specs.Answer.{Answer, refused}
 use Rattle.luck_linter.specs.Checks.{replacement, answer, numbers}
-use Rattle.luck_linter.specs.Replacement.{Piece, literal, digit, percent, other, lone, isStrict, escaped, pieces, allowsDigit, piecesWalk, checkReplacement}
-use Rattle.luck_linter.proofs.Answers.{Fits, check-fits}
+use Rattle.luck_pattern.specs.Replacement.{Piece, literal, digit, percent, other, lone, isStrict, escaped, pieces, allowsDigit, piecesWalk, checkReplacement}
+use Rattle.luck_answer.proofs.Answers.{Fits, check-fits}
 
 -- ---- The pieces are as long as their text
 

@@ -19,7 +19,7 @@ use Rattle.luck_token.specs.Span.{u32-max, spanOf, shiftedBy}
 use Rattle.luck_token.specs.declared.version.Rules.{Rules}
 use Rattle.luck_token.specs.declared.span.Span.{Span}
 use Rattle.luck_text.proofs.Cases.{if-true, if-false}
-use Rattle.luck_linter.specs.Answer.{Answer, accepted, refused, refusal}
+use Rattle.luck_answer.specs.Answer.{Answer, accepted, refused, refusal}
 use Rattle.luck_linter.specs.StringLiteral.{
   isKind,
   bodyWalk,
@@ -36,8 +36,8 @@ use Rattle.luck_linter.specs.StringLiteral.{
   afterText,
   checkLiteral,
 }
-use Rattle.luck_linter.specs.declared.format_pattern.PatternError.{PatternError}
-use Rattle.luck_linter.specs.declared.format_pattern.PatternError.the-variants as error
+use Rattle.luck_answer.specs.declared.format_pattern.PatternError.{PatternError}
+use Rattle.luck_answer.specs.declared.format_pattern.PatternError.the-variants as error
 
 -- ---- Numeric escapes
 

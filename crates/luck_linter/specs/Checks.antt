@@ -4,12 +4,12 @@ use Prim.Native.Nat.{ℕ}
 use mathlib.Core.Bool.{Bool}
 use mathlib.Core.List.{List, [], _∷_}
 use mathlib.Core.Option.{Option}
-use Rattle.luck_linter.specs.Answer.{Answer}
-use Rattle.luck_linter.specs.Pattern.{checkPattern}
-use Rattle.luck_linter.specs.Replacement.{checkReplacement}
-use Rattle.luck_linter.specs.Format.{checkFormat}
-use Rattle.luck_linter.specs.Pack.{checkPack}
-use Rattle.luck_linter.specs.Date.{checkDate}
+use Rattle.luck_answer.specs.Answer.{Answer}
+use Rattle.luck_pattern.specs.Pattern.{checkPattern}
+use Rattle.luck_pattern.specs.Replacement.{checkReplacement}
+use Rattle.luck_format.specs.Format.{checkFormat}
+use Rattle.luck_format.specs.Pack.{checkPack}
+use Rattle.luck_format.specs.Date.{checkDate}
 use Rattle.luck_linter.specs.StringLiteral.{checkLiteral}
 
 -- a check, with what it takes besides the version and the text

@@ -1,11 +1,2 @@
-pub mod Answer
-pub mod Captures
-pub mod Pattern
-pub mod Items
-pub mod Replacement
-pub mod Format
-pub mod Pack
-pub mod Date
 pub mod StringLiteral
 pub mod Checks
-pub mod Inner

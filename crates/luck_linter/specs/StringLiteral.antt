@@ -14,12 +14,12 @@ use Rattle.luck_token.specs.Literal.{isShort}
 use Rattle.luck_token.specs.Span.{spanOf}
 use Rattle.luck_token.specs.declared.version.Rules.{Rules}
 use Rattle.luck_token.specs.declared.span.Span.{Span}
-use Rattle.luck_linter.specs.Answer.{Answer, accepted, refused, refusal}
-use Rattle.luck_linter.specs.Pattern.{patternWalk}
-use Rattle.luck_linter.specs.Replacement.{isStrict, pieces, piecesWalk}
-use Rattle.luck_linter.specs.Format.{formatWalk}
-use Rattle.luck_linter.specs.Pack.{packWalk}
-use Rattle.luck_linter.specs.Date.{checksDates, hasDateOptions, dateWalk}
+use Rattle.luck_answer.specs.Answer.{Answer, accepted, refused, refusal}
+use Rattle.luck_pattern.specs.Pattern.{patternWalk}
+use Rattle.luck_pattern.specs.Replacement.{isStrict, pieces, piecesWalk}
+use Rattle.luck_format.specs.Format.{formatWalk}
+use Rattle.luck_format.specs.Pack.{packWalk}
+use Rattle.luck_format.specs.Date.{checksDates, hasDateOptions, dateWalk}
 use Rattle.luck_linter.specs.declared.rules.format_string.LiteralChecked.{LiteralChecked}
 use Rattle.luck_linter.specs.declared.rules.format_string.LiteralChecked.the-variants as checked
 

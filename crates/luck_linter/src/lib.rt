@@ -1,3 +1,2 @@
-// The checks of a literal's text, after luck's crate luck_linter: formats, patterns, replacements, pack formats and dates.
-pub mod format_pattern;
+// The check of a literal in a source, after luck's crate luck_linter.
 pub mod rules;

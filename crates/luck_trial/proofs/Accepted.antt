@@ -15,9 +15,9 @@ use Rattle.luck_text.specs.Utf8.{illFormed}
 use Rattle.luck_token.specs.Version.{isVersion}
 use Rattle.luck_text.proofs.Cases.{by-test, present, and-right}
 use Rattle.luck_text.proofs.Walk.{walk-end, walk-stop, walk-goes}
-use Rattle.luck_linter.specs.Answer.{Answer, accepted, refused, refusedWith, afterVersion, afterUtf8, checkText}
-use Rattle.luck_linter.specs.Captures.{closeLatest, isClosed, allClosed}
-use Rattle.luck_linter.specs.Pattern.{
+use Rattle.luck_answer.specs.Answer.{Answer, accepted, refused, refusedWith, afterVersion, afterUtf8, checkText}
+use Rattle.luck_pattern.specs.Captures.{closeLatest, isClosed, allClosed}
+use Rattle.luck_pattern.specs.Pattern.{
   Head,
   at-open,
   at-close,
@@ -54,7 +54,7 @@ use Rattle.luck_linter.specs.Pattern.{
   patternWalk,
   checkPattern,
 }
-use Rattle.luck_linter.specs.Items.{
+use Rattle.luck_pattern.specs.Items.{
   Single,
   any,
   class,

@@ -9,7 +9,7 @@ use mathlib.Core.Option.{Option, none, some}
 use lib.ListN.{length}
 use borrow.Author.Tests.{ltb-true, ltb-false}
 use Rattle.luck_text.proofs.Cases.{by-test}
-use Rattle.luck_linter.specs.Items.{Set, Single, Repeat, once, optional, star, plus, minus, Item, balance, frontier, single}
+use Rattle.luck_pattern.specs.Items.{Set, Single, Repeat, once, optional, star, plus, minus, Item, balance, frontier, single}
 use Rattle.luck_trial.specs.Match.{
   Capture,
   closed,

@@ -10,7 +10,7 @@ use lib.ListN.{length, getD}
 use lib.Dec.{eqb, leb, ltb}
 use Rattle.luck_text.specs.Bytes.{byteAt, among}
 use Rattle.luck_text.proofs.Cases.{by-test}
-use Rattle.luck_linter.specs.Pattern.{
+use Rattle.luck_pattern.specs.Pattern.{
   Head,
   at-open,
   at-close,
@@ -31,7 +31,7 @@ use Rattle.luck_linter.specs.Pattern.{
   unclosed,
   setEnd,
 }
-use Rattle.luck_linter.specs.Items.{
+use Rattle.luck_pattern.specs.Items.{
   Single,
   Item,
   start-capture,
@@ -58,7 +58,7 @@ use Rattle.luck_linter.specs.Items.{
   itemsFrom,
   items,
 }
-use Rattle.luck_linter.specs.Replacement.{pieces}
+use Rattle.luck_pattern.specs.Replacement.{pieces}
 use Rattle.luck_trial.specs.Class.{matchClass}
 use Rattle.luck_trial.specs.Match.{
   Capture,

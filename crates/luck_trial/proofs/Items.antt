@@ -12,7 +12,7 @@ use lib.Dec.{eqb, ltb}
 use borrow.Author.Tests.{le-leb, lt-leb, eqb-true}
 use Rattle.luck_text.specs.Bytes.{byteAt}
 use Rattle.luck_text.proofs.Cases.{by-test, if-true, if-false, order}
-use Rattle.luck_linter.specs.Pattern.{
+use Rattle.luck_pattern.specs.Pattern.{
   Head,
   at-open,
   at-close,
@@ -34,7 +34,7 @@ use Rattle.luck_linter.specs.Pattern.{
   firstMember,
   setEnd,
 }
-use Rattle.luck_linter.specs.Items.{
+use Rattle.luck_pattern.specs.Items.{
   setOf,
   Single,
   any,

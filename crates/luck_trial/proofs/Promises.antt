@@ -1,4 +1,4 @@
--- What is promised of the trial of gsub: demand 3. `gsub` and `outputAfter` are in specs/Gsub.antt, the checks in luck_linter's specs.
+-- What is promised of the trial of gsub: demand 3. `gsub` and `outputAfter` are in specs/Gsub.antt, the checks in the specs of luck_pattern.
 -- Assumes nothing.
 use Prim.Native.Nat.{ℕ, _≤_}
 use native.Mathlib.Omega.{arith}
@@ -10,9 +10,9 @@ use lib.ListN.{length}
 use lib.Dec.{eqb}
 use Rattle.luck_text.specs.Bytes.{if_then_else_, among}
 use Rattle.luck_token.specs.Version.{isVersion, rulesOf}
-use Rattle.luck_linter.specs.Answer.{accepted}
-use Rattle.luck_linter.specs.Pattern.{checkPattern}
-use Rattle.luck_linter.specs.Replacement.{isStrict, checkReplacement}
+use Rattle.luck_answer.specs.Answer.{accepted}
+use Rattle.luck_pattern.specs.Pattern.{checkPattern}
+use Rattle.luck_pattern.specs.Replacement.{isStrict, checkReplacement}
 use Rattle.luck_trial.specs.Class.{matchClass}
 use Rattle.luck_trial.specs.Gsub.{outputAfter, strGsub, gsub}
 use Rattle.luck_trial.proofs.Writings.{walk-accepted, strict-accepted, writers-alike}

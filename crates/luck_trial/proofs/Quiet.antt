@@ -7,10 +7,10 @@ use mathlib.Core.Bool.{Bool, true, false}
 use mathlib.Core.List.{List, []}
 use mathlib.Core.Option.{some}
 use lib.Dec.{eqb}
-use Rattle.luck_linter.specs.Answer.{accepted}
-use Rattle.luck_linter.specs.Pattern.{checkPattern}
-use Rattle.luck_linter.specs.Items.{items}
-use Rattle.luck_linter.specs.Replacement.{pieces, piecesWalk}
+use Rattle.luck_answer.specs.Answer.{accepted}
+use Rattle.luck_pattern.specs.Pattern.{checkPattern}
+use Rattle.luck_pattern.specs.Items.{items}
+use Rattle.luck_pattern.specs.Replacement.{pieces, piecesWalk}
 use Rattle.luck_trial.specs.Class.{matchClass}
 use Rattle.luck_trial.specs.Gsub.{writerOf, gsub}
 use Rattle.luck_trial.proofs.Runs.{gsub-fine}

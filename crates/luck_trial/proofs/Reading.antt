@@ -14,7 +14,7 @@ use Rattle.luck_text.specs.Bytes.{if_then_else_, byteAt, isDigit}
 use Rattle.luck_text.proofs.Cases.{by-test, if-true, if-false, both-true, first-false, second-false, present}
 use Rattle.luck_text.proofs.Bytes.{within, below, above}
 use Rattle.luck_text.proofs.Walk.{walk-end}
-use Rattle.luck_linter.specs.Pattern.{
+use Rattle.luck_pattern.specs.Pattern.{
   Head,
   at-open,
   at-close,
@@ -44,7 +44,7 @@ use Rattle.luck_linter.specs.Pattern.{
   setAs,
   setRead,
 }
-use Rattle.luck_linter.specs.Items.{
+use Rattle.luck_pattern.specs.Items.{
   setOf,
   Single,
   class,
@@ -81,7 +81,7 @@ use Rattle.luck_linter.specs.Items.{
   thenItems,
   items,
 }
-use Rattle.luck_linter.proofs.Patterns as patterns
+use Rattle.luck_pattern.proofs.Patterns as patterns
 use Rattle.luck_trial.specs.Inner.{singleOf, SingleIn, foundOf, closingOf, ClosesIn, repeatRead, Then, Single-then, ItemAt}
 use Rattle.luck_trial.specs.declared.item.Item.{Item as Coded}
 use Rattle.luck_trial.specs.declared.item.Item.the-variants as coded

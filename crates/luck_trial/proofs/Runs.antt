@@ -10,8 +10,8 @@ use lib.ListN.{length, drop, getD}
 use lib.Dec.{eqb, leb}
 use Rattle.luck_text.specs.Bytes.{byteAt, part}
 use Rattle.luck_text.proofs.Cases.{by-test}
-use Rattle.luck_linter.specs.Items.{Item, items}
-use Rattle.luck_linter.specs.Replacement.{Piece, literal, digit, percent, other, lone, pieces}
+use Rattle.luck_pattern.specs.Items.{Item, items}
+use Rattle.luck_pattern.specs.Replacement.{Piece, literal, digit, percent, other, lone, pieces}
 use Rattle.luck_trial.specs.Class.{matchClass}
 use Rattle.luck_trial.specs.Match.{Capture, opened, position, closed, Outcome, matched, failed, stopped, match}
 use Rattle.luck_trial.specs.Replace.{Wrote, wrote, ended, andThen, append, decimal, addCapture, addDigit, addPiece, addPieces}

@@ -11,8 +11,8 @@ use lib.Dec.{eqb, leb, ltb}
 use borrow.Author.Tests.{le-leb, lt-leb, lt-ltb, le-ltb, eq-eqb, ne-eqb}
 use Rattle.luck_text.specs.Bytes.{if_then_else_, byteAt, between}
 use Rattle.luck_text.proofs.Cases.{if-false, first-false, second-false}
-use Rattle.luck_linter.specs.Pattern.{firstMember}
-use Rattle.luck_linter.specs.Items.{Element, escape, range, plain, elementsFrom, elementsOf, setOf}
+use Rattle.luck_pattern.specs.Pattern.{firstMember}
+use Rattle.luck_pattern.specs.Items.{Element, escape, range, plain, elementsFrom, elementsOf, setOf}
 use Rattle.luck_trial.specs.Class.{isElement, isAnyOf, inSet}
 
 module _ (pat : List ℕ) (e : ℕ) where

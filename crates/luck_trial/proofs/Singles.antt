@@ -11,7 +11,7 @@ use lib.Dec.{eqb, ltb}
 use borrow.Author.Tests.{lt-ltb, le-ltb, ltb-true, ne-eqb}
 use Rattle.luck_text.specs.Bytes.{if_then_else_, byteAt}
 use Rattle.luck_text.proofs.Cases.{and-left}
-use Rattle.luck_linter.specs.Items.{Set, Single, setOf}
+use Rattle.luck_pattern.specs.Items.{Set, Single, setOf}
 use Rattle.luck_trial.specs.Class.{inSet, fits}
 use Rattle.luck_trial.specs.Match.{byteBefore, isFrontier, fitsAt, Reach, reached, spent, reach}
 use Rattle.luck_trial.specs.Inner.{singleOf}

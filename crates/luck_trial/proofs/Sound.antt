@@ -10,8 +10,8 @@ use lib.ListN.{length, getD, set}
 use lib.Dec.{eqb, leb, ltb}
 use borrow.Author.Tests.{ltb-true, ltb-false, leb-false, le-leb}
 use Rattle.luck_text.proofs.Cases.{by-test, and-left, and-right, both-true}
-use Rattle.luck_linter.specs.Captures.{closeHere, closeLatest, isClosed, allClosed}
-use Rattle.luck_linter.specs.Items.{
+use Rattle.luck_pattern.specs.Captures.{closeHere, closeLatest, isClosed, allClosed}
+use Rattle.luck_pattern.specs.Items.{
   Item,
   start-capture,
   position-capture,

@@ -13,9 +13,9 @@ use borrow.Author.Tests.{eqb-false, leb-true, leb-false}
 use Rattle.luck_text.specs.Bytes.{if_then_else_, part, among}
 use Rattle.luck_token.specs.Version.{isVersion, versions, has, rulesOf, strict-gsub-replacement}
 use Rattle.luck_text.proofs.Cases.{by-test, and-left, and-right}
-use Rattle.luck_linter.specs.Answer.{Answer, accepted, refused, afterVersion, checkText}
-use Rattle.luck_linter.specs.Captures.{allClosed}
-use Rattle.luck_linter.specs.Replacement.{
+use Rattle.luck_answer.specs.Answer.{Answer, accepted, refused, afterVersion, checkText}
+use Rattle.luck_pattern.specs.Captures.{allClosed}
+use Rattle.luck_pattern.specs.Replacement.{
   isStrict,
   Piece,
   literal,

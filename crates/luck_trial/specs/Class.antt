@@ -8,7 +8,7 @@ use mathlib.Core.List.{List, [], _∷_}
 use mathlib.Core.Option.{Option, none, some}
 use lib.Dec.{eqb, leb}
 use Rattle.luck_text.specs.Bytes.{if_then_else_, between, isDigit, isXdigit}
-use Rattle.luck_linter.specs.Items.{Element, escape, range, plain, Set, Single, any, class, among-set, byte}
+use Rattle.luck_pattern.specs.Items.{Element, escape, range, plain, Set, Single, any, class, among-set, byte}
 
 -- isalpha and its kin of the C locale
 unfoldable pub isLower : ℕ → Bool

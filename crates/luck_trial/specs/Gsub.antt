@@ -9,8 +9,8 @@ use lib.ListN.{length, drop}
 use lib.Dec.{eqb, ltb}
 use Rattle.luck_text.specs.Bytes.{if_then_else_, byteAt}
 use Rattle.luck_token.specs.Version.{isVersion}
-use Rattle.luck_linter.specs.Items.{Item, items}
-use Rattle.luck_linter.specs.Replacement.{Piece, pieces}
+use Rattle.luck_pattern.specs.Items.{Item, items}
+use Rattle.luck_pattern.specs.Replacement.{Piece, pieces}
 use Rattle.luck_trial.specs.Class.{matchClass}
 use Rattle.luck_trial.specs.declared.gsub.Trial.{Trial}
 use Rattle.luck_trial.specs.Match.{Capture, Outcome, matched, failed, stopped, match}

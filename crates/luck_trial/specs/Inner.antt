@@ -9,8 +9,8 @@ use mathlib.Core.Option.{Option, none, some}
 use lib.ListN.{length, getD, take, drop}
 use lib.Dec.{eqb}
 use Rattle.luck_text.specs.Bytes.{if_then_else_, byteAt, isDigit, isXdigit}
-use Rattle.luck_linter.specs.Pattern.{SetEnd, closes-at, cut-at, unclosed}
-use Rattle.luck_linter.specs.Items.{
+use Rattle.luck_pattern.specs.Pattern.{SetEnd, closes-at, cut-at, unclosed}
+use Rattle.luck_pattern.specs.Items.{
   Single,
   any,
   class,
@@ -51,7 +51,7 @@ use Rattle.luck_trial.specs.Match.{
   reached,
   spent,
 }
-use Rattle.luck_linter.specs.Replacement.{pieces}
+use Rattle.luck_pattern.specs.Replacement.{pieces}
 use Rattle.luck_trial.specs.Replace.{Wrote, wrote, ended, addPieces}
 use Rattle.luck_trial.specs.Gsub.{Answer, Writer, report, reportOf, outputAfter}
 use Rattle.luck_trial.specs.declared.subject.Found.{Found}

@@ -9,7 +9,7 @@ use mathlib.Core.Option.{Option, none, some}
 use lib.ListN.{length, getD, set}
 use lib.Dec.{eqb, leb, ltb}
 use Rattle.luck_text.specs.Bytes.{if_then_else_, byteAt}
-use Rattle.luck_linter.specs.Items.{
+use Rattle.luck_pattern.specs.Items.{
   Set,
   Single,
   Repeat,

@@ -4,7 +4,7 @@ ghost use mathlib.Core.List.{[]};
 ghost use mathlib.Core.Option.{none};
 ghost use Prim.Native.Nat.{ℕ, _≤_};
 ghost use lib.ListN.{length};
-ghost use Rattle.luck_linter.specs.Items.{items};
+ghost use Rattle.luck_pattern.specs.Items.{items};
 ghost use Rattle.luck_trial.specs.Class.{matchClass};
 ghost use Rattle.luck_trial.specs.Match.{match};
 ghost use Rattle.luck_trial.specs.Gsub.{outputAfter, report, reportOf, anchoredRound, rounds, gsub};

@@ -3,8 +3,8 @@ ghost use Prim.Native.Nat.{_+_, _<_, _≤_};
 ghost use lib.ListN.{length};
 ghost use mathlib.Core.Path.{_≡_};
 ghost use Rattle.luck_text.specs.Bytes.{byteAt};
-ghost use Rattle.luck_linter.specs.Pattern.{setEnd};
-ghost use Rattle.luck_linter.specs.Items.{repeatOf};
+ghost use Rattle.luck_pattern.specs.Pattern.{setEnd};
+ghost use Rattle.luck_pattern.specs.Items.{repeatOf};
 ghost use Rattle.luck_trial.specs.Inner.{foundOf, closingOf, ClosesIn, AtSet, AtEscape, AtFrontier, repeatRead, ItemAt};
 use crate::subject::Found;
 

@@ -2,7 +2,7 @@
 ghost use mathlib.Core.Path.{_≡_};
 ghost use Prim.Native.Nat.{ℕ, _+_, _-_, _<_, _≤_};
 ghost use lib.ListN.{length};
-ghost use Rattle.luck_linter.specs.Items.{items, minus};
+ghost use Rattle.luck_pattern.specs.Items.{items, minus};
 ghost use Rattle.luck_trial.specs.Class.{matchClass};
 ghost use Rattle.luck_trial.specs.Match.{newLevel, startCapture, endCapture, captureToClose, longestFirst, expand, match};
 ghost use Rattle.luck_trial.specs.Inner.{AreMasks, SingleIn, singleOf, captureOf, capturesOf, positional, Sound, outcomeOf, AttemptIn};

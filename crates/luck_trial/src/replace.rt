@@ -3,7 +3,7 @@ ghost use mathlib.Core.Path.{_≡_};
 ghost use mathlib.Core.List.{[], _∷_};
 ghost use Prim.Native.Nat.{ℕ, _+_, _<_, _≤_};
 ghost use lib.ListN.{length, take, drop};
-ghost use Rattle.luck_linter.specs.Replacement.{escaped, pieces};
+ghost use Rattle.luck_pattern.specs.Replacement.{escaped, pieces};
 ghost use Rattle.luck_trial.specs.Replace.{append, decimal, addCapture, addDigit, addPiece, addPieces};
 ghost use Rattle.luck_trial.specs.Inner.{captureOf, PairIn, capturesIn, KeptIn, WroteAs};
 use crate::capture;

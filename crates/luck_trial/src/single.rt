@@ -2,7 +2,7 @@
 ghost use mathlib.Core.Path.{_≡_};
 ghost use Prim.Native.Nat.{_-_, _<_, _≤_};
 ghost use lib.ListN.{length};
-ghost use Rattle.luck_linter.specs.Items.{setOf, elementsOf};
+ghost use Rattle.luck_pattern.specs.Items.{setOf, elementsOf};
 ghost use Rattle.luck_trial.specs.Class.{matchClass, isAnyOf, inSet};
 ghost use Rattle.luck_trial.specs.Match.{isFrontier, fitsAt, reach};
 ghost use Rattle.luck_trial.specs.Inner.{AreMasks, SingleIn, singleOf, reachOf, ReachIn};

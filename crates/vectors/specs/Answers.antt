@@ -2,7 +2,7 @@
 -- Assumes nothing.
 use Prim.Native.Nat.{ℕ}
 use mathlib.Core.Bool.{Bool}
-use Rattle.luck_linter.specs.Answer as library
+use Rattle.luck_answer.specs.Answer as library
 use Rattle.luck_linter.specs.StringLiteral.{LiteralAnswer}
 use Rattle.vectors.specs.declared.checks.Answer.{Answer}
 use Rattle.vectors.specs.declared.literal_checks.LiteralAnswer as program

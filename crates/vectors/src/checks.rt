@@ -3,7 +3,7 @@
 ghost use mathlib.Core.Path.{_≡_};
 ghost use Prim.Native.Nat.{_+_, _≤_};
 ghost use lib.ListN.{length};
-ghost use Rattle.luck_linter.specs.Answer.{answerOf, refusal, accepted as acceptedWith, refused as refusedAt, refusedBoth};
+ghost use Rattle.luck_answer.specs.Answer.{answerOf, refusal, accepted as acceptedWith, refused as refusedAt, refusedBoth};
 ghost use Rattle.vectors.specs.Answers.{inNumbers};
 ghost use Rattle.vectors.specs.Places.{AnswerLies, Passes};
 use crate::bytes;
@@ -11,8 +11,8 @@ use crate::question;
 use crate::question::Asked;
 use crate::question::Question;
 use crate::tally::Turn;
-use luck_linter::format_pattern::Checked;
-use luck_linter::format_pattern::PatternError;
+use luck_answer::format_pattern::Checked;
+use luck_answer::format_pattern::PatternError;
 
 // An answer in document 01's numbers.
 pub struct Answer {

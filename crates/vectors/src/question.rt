@@ -5,13 +5,13 @@ ghost use Prim.Native.Nat.{_+_, _<_, _≤_};
 ghost use lib.ListN.{length};
 ghost use Rattle.vectors.specs.Places.{Asks, AnswerLies};
 use crate::bytes;
-use luck_linter::format_pattern::Checked;
-use luck_linter::format_pattern::date;
-use luck_linter::format_pattern::format;
-use luck_linter::format_pattern::pack;
-use luck_linter::format_pattern::pattern;
-use luck_linter::format_pattern::replacement;
-use luck_linter::format_pattern::replacement::Captures;
+use luck_answer::format_pattern::Checked;
+use luck_format::date;
+use luck_format::format;
+use luck_format::pack;
+use luck_pattern::pattern;
+use luck_pattern::replacement;
+use luck_pattern::replacement::Captures;
 
 pub struct Question {
     pub kind: u8,

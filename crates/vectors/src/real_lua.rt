@@ -8,7 +8,7 @@ use crate::question;
 use crate::question::Asked;
 use crate::question::Question;
 use crate::tally::Turn;
-use luck_linter::format_pattern::Checked;
+use luck_answer::format_pattern::Checked;
 
 pub fn turn(file: &[u8], at: usize) -> Turn
     requires { ⌜ at ≤ length (now file) ⌝ }

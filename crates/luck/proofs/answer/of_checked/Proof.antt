@@ -1,6 +1,6 @@
 -- `luck::answer::of_checked` meets its contract. Assumes nothing.
 use mathlib.Core.Path.{sym, ap, _∙_}
-use Rattle.luck_linter.specs.Answer.{answerOf}
+use Rattle.luck_answer.specs.Answer.{answerOf}
 use borrow.Author.Needs.{needs}
 use Rattle.luck.proofs.answer.of_checked.Statement.{statement}
 use Rattle.luck.proofs.answer.of_checked.Tie as tie

@@ -1,6 +1,6 @@
 -- `luck::answer::of_fault` meets its contract. Assumes nothing.
 use mathlib.Core.Path.{sym, ap, _∙_}
-use Rattle.luck_linter.specs.Answer.{refusal}
+use Rattle.luck_answer.specs.Answer.{refusal}
 use borrow.Author.Needs.{needs}
 use Rattle.luck.proofs.answer.of_fault.Statement.{statement}
 use Rattle.luck.proofs.answer.of_fault.Tie as tie

@@ -1,7 +1,7 @@
 -- `luck_lines::row::of_body` meets its contract. Assumes nothing.
 use mathlib.Core.Path.{_≡_, refl, sym, ap, _∙_}
 use mathlib.Core.Path.{ap₂}
-use Rattle.luck_linter.specs.Answer.{answerOf}
+use Rattle.luck_answer.specs.Answer.{answerOf}
 use Rattle.luck_lines.specs.Row.{row, answerRow}
 use Rattle.luck_lines.proofs.Rows.{refused-row}
 use borrow.Author.Needs.{needs}

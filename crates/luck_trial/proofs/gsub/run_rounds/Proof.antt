@@ -3,7 +3,7 @@ use Prim.Native.Nat.{_-_}
 use native.Mathlib.Omega.{arith}
 use mathlib.Core.Logic.{inl, inr, ⊎-elim}
 use borrow.Author.Needs.{needs}
-use Rattle.luck_linter.specs.Items.{items}
+use Rattle.luck_pattern.specs.Items.{items}
 use Rattle.luck_trial.proofs.Rounds as rounds
 use Rattle.luck_trial.proofs.gsub.run_rounds.Statement.{statement}
 use Rattle.luck_trial.proofs.gsub.run_rounds.Tie as tie

@@ -7,8 +7,8 @@ use native.Mathlib.Omega.{arith}
 use lib.Dec.{eqb}
 use lib.ListN.{length}
 use borrow.Author.Needs.{needs}
-use Rattle.luck_linter.specs.Pattern.{firstMember, setEnd}
-use Rattle.luck_linter.proofs.Patterns.{members, set-begins, set-first, set-escaped, set-plain}
+use Rattle.luck_pattern.specs.Pattern.{firstMember, setEnd}
+use Rattle.luck_pattern.proofs.Patterns.{members, set-begins, set-first, set-escaped, set-plain}
 use Rattle.luck_trial.proofs.Places.{first-behind}
 use Rattle.luck_trial.proofs.Reading.{after-caret, after-bracket, after-last, closes-nowhere, closes-here, closes-cut}
 use Rattle.luck_trial.proofs.item.set_end.Statement.{statement}

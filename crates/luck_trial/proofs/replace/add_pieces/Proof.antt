@@ -4,7 +4,7 @@ use native.Mathlib.Omega.{arith}
 use mathlib.Core.Path.{refl, _∙_}
 use lib.ListN.{length, getD, take}
 use borrow.Author.Needs.{needs}
-use Rattle.luck_linter.specs.Replacement.{literal, escaped}
+use Rattle.luck_pattern.specs.Replacement.{literal, escaped}
 use Rattle.luck_trial.specs.Replace.{addPiece}
 use Rattle.luck_trial.specs.Inner.{capturesIn}
 use Rattle.luck_trial.proofs.Outputs as outputs

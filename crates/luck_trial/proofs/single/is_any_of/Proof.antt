@@ -9,7 +9,7 @@ use borrow.Author.Needs.{needs}
 use borrow.Author.Tests.{eq-eqb, ne-eqb}
 use Rattle.luck_text.specs.Bytes.{byteAt}
 use Rattle.luck_text.proofs.Bytes.{within, below, above}
-use Rattle.luck_linter.specs.Items.{elementsOf}
+use Rattle.luck_pattern.specs.Items.{elementsOf}
 use Rattle.luck_trial.specs.Class.{isAnyOf, matchClass}
 use Rattle.luck_trial.proofs.Sets.{any-end, any-escape, any-range, any-plain}
 use Rattle.luck_trial.proofs.single.is_any_of.Statement.{statement}

@@ -1,7 +1,7 @@
 -- `luck_trial::single::is_frontier` meets its contract. Assumes nothing.
 use mathlib.Core.Path.{sym, ap, _∙_}
 use borrow.Author.Needs.{needs}
-use Rattle.luck_linter.specs.Items.{setOf}
+use Rattle.luck_pattern.specs.Items.{setOf}
 use Rattle.luck_trial.specs.Class.{matchClass, inSet}
 use Rattle.luck_trial.proofs.Singles.{frontier-before, frontier-at}
 use Rattle.luck_trial.proofs.single.is_frontier.Statement.{statement}

@@ -1,6 +1,6 @@
 -- `vectors::checks::fault_in_numbers` meets its contract. Assumes nothing.
 use mathlib.Core.Path.{sym, ap, _∙_}
-use Rattle.luck_linter.specs.Answer.{refusal}
+use Rattle.luck_answer.specs.Answer.{refusal}
 use borrow.Author.Needs.{needs}
 use Rattle.vectors.proofs.checks.fault_in_numbers.Statement.{statement}
 use Rattle.vectors.proofs.checks.fault_in_numbers.Tie as tie

@@ -1,6 +1,6 @@
 -- `vectors::checks::numbered` meets its contract. Assumes nothing.
 use mathlib.Core.Path.{sym, ap, _∙_}
-use Rattle.luck_linter.specs.Answer.{answerOf}
+use Rattle.luck_answer.specs.Answer.{answerOf}
 use borrow.Author.Needs.{needs}
 use Rattle.vectors.proofs.checks.numbered.Statement.{statement}
 use Rattle.vectors.proofs.checks.numbered.Tie as tie

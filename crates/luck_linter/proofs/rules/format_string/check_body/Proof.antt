@@ -1,9 +1,9 @@
 -- `luck_linter::rules::format_string::check_body` meets its contract. Assumes nothing.
 use mathlib.Core.Path.{_≡_, refl, sym, ap, subst, _∙_}
-use Rattle.luck_linter.specs.Answer.{refusal, walkedOf}
+use Rattle.luck_answer.specs.Answer.{refusal, walkedOf}
 use Rattle.luck_linter.specs.StringLiteral.{spanAt}
 use Rattle.luck_linter.proofs.StringLiterals as laws
-use Rattle.luck_linter.specs.Replacement.{countOf}
+use Rattle.luck_pattern.specs.Replacement.{countOf}
 use borrow.Author.Needs.{needs}
 use Rattle.luck_linter.proofs.rules.format_string.check_body.Statement.{statement}
 use Rattle.luck_linter.proofs.rules.format_string.check_body.Tie as tie

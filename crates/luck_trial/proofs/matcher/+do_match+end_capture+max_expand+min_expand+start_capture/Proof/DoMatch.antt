@@ -11,7 +11,7 @@ use Rattle.luck_trial.specs.Inner.{capturesOf, capturesIn, captureOf, So
 use Rattle.luck_trial.proofs.Turns as turns
 use Rattle.luck_trial.proofs.Captures.{all-pairs, sound-later, kept-later, sound-started, sound-finished, starts-capture, ends-capture, all-taken, none-to-close, close-seen, is-open, is-position}
 use Rattle.luck_trial.proofs.Singles.{fits-inside}
-use Rattle.luck_linter.specs.Items.{items}
+use Rattle.luck_pattern.specs.Items.{items}
 use Rattle.luck_trial.specs.Match.{startCapture, passedOver}
 use Rattle.luck_trial.specs.declared.capture.Held.the-variants as held
 use Rattle.luck_trial.specs.declared.subject.Found.the-variants as found

@@ -11,7 +11,7 @@ use Rattle.luck_trial.specs.Inner.{capturesOf, capturesIn, captureOf, So
 use Rattle.luck_trial.proofs.Turns as turns
 use Rattle.luck_trial.proofs.Captures.{all-pairs, sound-later, kept-later, sound-started, sound-finished, starts-capture, ends-capture, all-taken, none-to-close, close-seen, is-open, is-position}
 use Rattle.luck_trial.proofs.Singles.{fits-inside}
-use Rattle.luck_linter.specs.Items.{items}
+use Rattle.luck_pattern.specs.Items.{items}
 use Rattle.luck_trial.proofs.matcher.do_match.Reads as do-match
 use Rattle.luck_trial.proofs.matcher.max_expand.Reads as max-expand
 use Rattle.luck_trial.proofs.matcher.+do_match+end_capture+max_expand+min_expand+start_capture.Lts-max_expand as lts

@@ -1,0 +1,84 @@
+-- What the answers of all checks share: the offset is at most the text's length, and the number is one of a list.
+-- Assumes nothing.
+use Prim.Native.Nat.{ℕ, zero, suc, _-_, _≤_, _<_}
+use native.Mathlib.Omega.{arith}
+use mathlib.Core.Path.{_≡_, refl, sym, subst}
+use mathlib.Core.Bool.{true}
+use mathlib.Core.List.{List}
+use mathlib.Core.Option.{Option, none, some}
+use lib.Dec.{eqb}
+use lib.ListN.{length}
+use Rattle.luck_text.specs.Bytes.{among}
+use Rattle.luck_token.specs.Version.{isVersion}
+use Rattle.luck_text.specs.Utf8.{sequence, sequenceAt, noneIllFormed, illFormed}
+use Rattle.luck_text.specs.Walk.{Turn, stop, goes, walk, walkFrom}
+use Rattle.luck_text.proofs.Cases.{by-test}
+use Rattle.luck_answer.specs.Answer.{Answer, afterVersion, afterUtf8, checkText}
+
+-- ---- A walk
+
+-- what holds of the answer of a turn, if it has one
+abbrev pub Stops : {S A : Type 0} → (A → Type 0) → Turn S A → Type 0
+Stops P (stop a) = P a
+Stops P (goes width s) = Unit {0}
+
+-- what holds of the answer of each turn that stops in the text, and at its end, holds of the walk's answer
+module _ {S A : Type 0} (item : ℕ → S → Turn S A) (ends : ℕ → S → A) (len : ℕ) (P : A → Type 0)
+    (stops : (p : ℕ) (s : S) → p < len → Stops P (item p s))
+    (at-end : (p : ℕ) (s : S) → P (ends p s)) where
+  one-stop : (n p : ℕ) (s : S) (a : A) → item p s ≡ stop a → walk item ends (suc n) 0 p s ≡ a
+  unfolding walk
+  one-stop n p s a e = rw (e, walk)
+
+  one-goes : (n p : ℕ) (s : S) (w : ℕ) (s′ : S) → item p s ≡ goes w s′ → walk item ends (suc n) 0 p s ≡ walk item ends n (w - 1) (suc p) s′
+  unfolding walk
+  one-goes n p s w s′ e = rw (e, walk)
+
+  every : (n k p : ℕ) (s : S) → n ≤ len - p → P (walk item ends n k p s)
+  unfolding walk
+  every zero k p s h = at-end p s
+  every (suc n) (suc k) p s h = every n k (suc p) s (omega arith)
+  every (suc n) zero p s h = go (λ w s′. every n (w - 1) (suc p) s′ (omega arith)) (item p s) refl
+    where
+      go : ((w : ℕ) (s′ : S) → P (walk item ends n (w - 1) (suc p) s′)) → (t : Turn S A) → item p s ≡ t → P (walk item ends (suc n) 0 p s)
+      go rest (stop a) e = subst P (sym (one-stop n p s a e)) (subst (Stops P) e (stops p s (omega arith)))
+      go rest (goes w s′) e = subst P (sym (one-goes n p s w s′ e)) (rest w s′)
+
+  pub walk-every : (p : ℕ) (s : S) → P (walkFrom item ends len p s)
+  unfolding walkFrom
+  walk-every p s = every (len - p) 0 p s (omega arith)
+
+-- ---- A text
+
+-- an answer's offset is at most this, and its number one of these
+abbrev pub Fits : ℕ → List ℕ → Answer → Type 0
+Fits len numbers answer = (answer .offset ≤ len) × (among (answer .number) numbers ≡ true)
+
+abbrev pub PlaceIn : ℕ → Option ℕ → Type 0
+PlaceIn len none = Unit {0}
+PlaceIn len (some p) = p < len
+
+module _ (text : List ℕ) where
+  sequence-in : (p : ℕ) (u : Unit {0}) → p < length text → Stops (PlaceIn (length text)) (sequenceAt text p u)
+  unfolding sequenceAt
+  sequence-in p u h = by-test (Stops (PlaceIn (length text))) (eqb (sequence text p) 0) _ _ (λ _. h) (λ _. tt)
+
+  no-sequence-in : (p : ℕ) (u : Unit {0}) → PlaceIn (length text) (noneIllFormed p u)
+  unfolding noneIllFormed
+  no-sequence-in p u = tt
+
+  pub place-in : PlaceIn (length text) (illFormed text)
+  unfolding illFormed
+  place-in = walk-every (sequenceAt text) noneIllFormed (length text) (PlaceIn (length text)) sequence-in no-sequence-in 0 tt
+
+  module _ (numbers : List ℕ) (has-23 : among 23 numbers ≡ true) (has-25 : among 25 numbers ≡ true) where
+    after-fits : (place : Option ℕ) (walked : Answer) → PlaceIn (length text) place → Fits (length text) numbers walked → Fits (length text) numbers (afterUtf8 place walked)
+    unfolding afterUtf8
+    after-fits none walked h i = i
+    after-fits (some p) walked h i = (omega arith, has-23)
+
+    -- a check's, if its walk's does
+    pub check-fits : (version : ℕ) (walked : Answer) → Fits (length text) numbers walked → Fits (length text) numbers (checkText version text walked)
+    unfolding checkText afterVersion
+    check-fits version walked h =
+        by-test (Fits (length text) numbers) (isVersion version) _ _ (λ _. after-fits (illFormed text) walked place-in h) (λ _. (omega arith, has-25))

@@ -1,0 +1,4 @@
+pub mod Formats
+pub mod Packs
+pub mod PackOptions
+pub mod Dates

@@ -1,0 +1,46 @@
+-- `luck_format::date::is_star_t` meets its contract. Assumes nothing.
+use Prim.Native.Nat.{ℕ, zero, suc, _+_, _-_, _*_, _≤_, _<_, min, max}
+use native.Mathlib.Omega.{arith}
+use borrow.Author.Tests.{ltb-true, ltb-false, leb-true, leb-false, eqb-true, eqb-false, not-true, not-false, lt-ltb, le-ltb, le-leb, lt-leb, eq-eqb, ne-eqb}
+use lib.ListN.{length}
+use Rattle.luck_text.specs.Bytes.{byteAt}
+use Rattle.luck_format.specs.Date.{isStarT}
+use borrow.Author.Needs.{needs}
+use Rattle.luck_format.proofs.date.is_star_t.Statement.{statement}
+use Rattle.luck_format.proofs.date.is_star_t.Tie as tie
+
+add-if1 : tie.Need-add-if1
+add-if1 c = search needs
+
+returns : tie.Need-returns
+unfolding isStarT
+returns c = rw (ne-eqb (length (c .before .args .text .now)) (c .before .args .at + 2) (c .if1 .taken))
+
+shared-slice-read-if2 : tie.Need-shared-slice-read-if2
+shared-slice-read-if2 c = search needs
+
+returns-2 : tie.Need-returns-2
+unfolding isStarT
+returns-2 c = rw (eq-eqb (length (c .before .before .before .args .text .now)) (c .before .before .before .args .at + 2) (c .before .before .if1 .left), ne-eqb (byteAt (c .before .before .before .args .text .now) (c .before .before .before .args .at)) 42 (c .if2 .taken))
+
+add-result : tie.Need-add-result
+add-result c = search needs
+
+shared-slice-read-result : tie.Need-shared-slice-read-result
+shared-slice-read-result c = search needs
+
+returns-3 : tie.Need-returns-3
+unfolding isStarT
+returns-3 c = rw (eq-eqb (length (c .before .before .before .before .args .text .now)) (c .before .before .before .before .args .at + 2) (c .before .before .before .if1 .left), eq-eqb (byteAt (c .before .before .before .before .args .text .now) (c .before .before .before .before .args .at)) 42 (c .before .if2 .left))
+
+pub is-star-t-spec : {M : Type 1} → statement M
+is-star-t-spec =
+    tie.close
+    (tie.spec
+    add-if1
+    returns
+    shared-slice-read-if2
+    returns-2
+    add-result
+    shared-slice-read-result
+    returns-3)

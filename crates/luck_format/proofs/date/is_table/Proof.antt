@@ -1,0 +1,43 @@
+-- `luck_format::date::is_table` meets its contract. Assumes nothing.
+use mathlib.Core.Path.{_≡_, refl, sym, ap, subst, _∙_}
+use Prim.Native.Nat.{ℕ, zero, suc, _+_, _-_, _*_, _≤_, _<_, min, max}
+use native.Mathlib.Omega.{arith}
+use borrow.Author.Tests.{ltb-true, ltb-false, leb-true, leb-false, eqb-true, eqb-false, not-true, not-false, lt-ltb, le-ltb, le-leb, lt-leb, eq-eqb, ne-eqb}
+use Rattle.luck_text.specs.Bytes.{byteAt}
+use Rattle.luck_text.proofs.Cases.{if-true, if-false}
+use Rattle.luck_format.specs.Date.{isTable}
+use Rattle.luck_format.proofs.Dates as laws
+use borrow.Author.Needs.{needs}
+use Rattle.luck_format.proofs.date.is_table.Statement.{statement}
+use Rattle.luck_format.proofs.date.is_table.Tie as tie
+
+shared-slice-read-if2 : tie.Need-shared-slice-read-if2
+shared-slice-read-if2 c = search needs
+
+is-star-t-requires : tie.Need-is-star-t-requires
+is-star-t-requires c κs = search needs
+
+returns : tie.Need-returns
+unfolding isTable
+returns c = c .is-star-t .ensures ∙ sym (if-true _ _ _ (eq-eqb (byteAt (c .before .before .before .before .before .args .text .now) 0) 33 (c .before .if2 .taken)))
+
+is-star-t-requires-2 : tie.Need-is-star-t-requires-2
+is-star-t-requires-2 c κs = search needs
+
+returns-2 : tie.Need-returns-2
+unfolding isTable
+returns-2 c = c .is-star-t2 .ensures ∙ sym (if-false _ _ _ (ne-eqb (byteAt (c .before .before .before .before .before .args .text .now) 0) 33 (c .before .if2 .left)))
+
+returns-3 : tie.Need-returns-3
+returns-3 c = laws.empty-no-table (c .before .before .args .text .now) (c .if1 .left)
+
+pub is-table-spec : {M : Type 1} → statement M
+is-table-spec =
+    tie.close
+    (tie.spec
+    shared-slice-read-if2
+    is-star-t-requires
+    returns
+    is-star-t-requires-2
+    returns-2
+    returns-3)

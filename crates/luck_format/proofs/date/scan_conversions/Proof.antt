@@ -1,0 +1,83 @@
+-- `luck_format::date::scan_conversions` meets its contract. The invariant: the walk from here is the whole answer. Assumes nothing.
+use mathlib.Core.Path.{_≡_, refl, sym, ap, subst, _∙_}
+use Prim.Native.Nat.{ℕ, zero, suc, _+_, _-_, _*_, _≤_, _<_, min, max}
+use native.Mathlib.Omega.{arith}
+use lib.ListN.{length}
+use Rattle.luck_format.specs.Date.{conversionsWalk}
+use Rattle.luck_format.proofs.Dates as laws
+use borrow.Author.Needs.{needs}
+use Rattle.luck_format.proofs.date.scan_conversions.Statement.{statement}
+use Rattle.luck_format.proofs.date.scan_conversions.Tie as tie
+
+abbrev Inv-loop : tie.InvT-loop
+Inv-loop text has-options at₀ at = (at ≤ length text) × (laws.on has-options text at ≡ conversionsWalk has-options text)
+
+abbrev μ-loop : tie.MeasureT-loop
+μ-loop text has-options at₀ at = length text - at
+
+loop-holds : tie.Need-loop-holds Inv-loop μ-loop
+loop-holds c = (omega arith, laws.start _ _)
+
+shared-slice-read-if1 : tie.Need-shared-slice-read-if1 Inv-loop μ-loop
+shared-slice-read-if1 c = search needs
+
+add-at : tie.Need-add-at Inv-loop μ-loop
+add-at c = search needs
+
+loop-less : tie.Need-loop-less Inv-loop μ-loop
+loop-less c = search needs
+
+loop-again : tie.Need-loop-again Inv-loop μ-loop
+loop-again c = (omega arith, laws.passes-byte (c .before .before .before .before .before .args .has-options) (c .before .before .before .before .before .args .text .now) (c .before .before .before .loop .at) (c .before .before .loop-test .taken) (c .if1 .taken) ∙ c .before .before .before .loop .inv .1)
+
+sub-if2 : tie.Need-sub-if2 Inv-loop μ-loop
+sub-if2 c = search needs
+
+returns : tie.Need-returns Inv-loop μ-loop
+returns c = laws.lone-strict (c .before .before .before .before .before .before .before .args .has-options) (c .before .before .before .before .before .before .before .args .text .now) (c .before .before .before .before .before .loop .at) (c .before .before .before .before .loop-test .taken) (c .before .before .if1 .left) (omega arith) (c .if3 .taken) ∙ c .before .before .before .before .before .loop .inv .1
+
+returns-2 : tie.Need-returns-2 Inv-loop μ-loop
+returns-2 c = laws.lone-lenient (c .before .before .before .before .before .before .before .args .has-options) (c .before .before .before .before .before .before .before .args .text .now) (c .before .before .before .before .before .loop .at) (c .before .before .before .before .loop-test .taken) (c .before .before .if1 .left) (omega arith) (c .if3 .left) ∙ c .before .before .before .before .before .loop .inv .1
+
+conversion-width-requires : tie.Need-conversion-width-requires Inv-loop μ-loop
+conversion-width-requires c κs = omega arith
+
+add-t12 : tie.Need-add-t12 Inv-loop μ-loop
+add-t12 c = search needs
+
+returns-3 : tie.Need-returns-3 Inv-loop μ-loop
+returns-3 c = laws.no-conversion (c .before .before .before .before .before .before .before .before .args .has-options) (c .before .before .before .before .before .before .before .before .args .text .now) (c .before .before .before .before .before .before .loop .at) (c .before .before .before .before .before .loop-test .taken) (c .before .before .before .if1 .left) (omega arith) (sym (c .before .conversion-width .ensures .0) ∙ c .if4 .taken) ∙ c .before .before .before .before .before .before .loop .inv .1
+
+add-at-2 : tie.Need-add-at-2 Inv-loop μ-loop
+add-at-2 c = omega (arith, c .before .conversion-width .ensures .1)
+
+loop-less-2 : tie.Need-loop-less-2 Inv-loop μ-loop
+loop-less-2 c = omega (arith, c .before .conversion-width .ensures .1)
+
+loop-again-2 : tie.Need-loop-again-2 Inv-loop μ-loop
+loop-again-2 c = (c .before .conversion-width .ensures .1, laws.passes-conversion (c .before .before .before .before .before .before .before .before .args .has-options) (c .before .before .before .before .before .before .before .before .args .text .now) (c .before .before .before .before .before .before .loop .at) (c .before .before .before .before .before .loop-test .taken) (c .before .before .before .if1 .left) (omega arith) (c .before .conversion-width .result) (c .before .conversion-width .ensures .0) (c .if4 .left) (c .before .conversion-width .ensures .1) ∙ c .before .before .before .before .before .before .loop .inv .1)
+
+returns-4 : tie.Need-returns-4 Inv-loop μ-loop
+returns-4 c = laws.at-end (c .before .before .before .args .has-options) (c .before .before .before .args .text .now) (c .before .loop .at) (c .loop-test .left) ∙ c .before .loop .inv .1
+
+pub scan-conversions-spec : {M : Type 1} → statement M
+scan-conversions-spec =
+    tie.close
+    (tie.spec
+    Inv-loop
+    μ-loop
+    loop-holds
+    shared-slice-read-if1
+    add-at
+    loop-less
+    loop-again
+    sub-if2
+    returns
+    returns-2
+    conversion-width-requires
+    add-t12
+    returns-3
+    add-at-2
+    loop-less-2
+    loop-again-2
+    returns-4)

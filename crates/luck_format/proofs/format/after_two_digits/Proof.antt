@@ -1,0 +1,25 @@
+-- `luck_format::format::after_two_digits` meets its contract. Assumes nothing.
+use native.Mathlib.Omega.{arith}
+use Rattle.luck_text.specs.Bytes.{isDigit}
+use Rattle.luck_format.proofs.Formats as formats
+use borrow.Author.Needs.{needs}
+use Rattle.luck_format.proofs.format.after_two_digits.Statement.{statement}
+use Rattle.luck_format.proofs.format.after_two_digits.Tie as tie
+
+run-requires : tie.Need-run-requires
+run-requires c κs = search needs
+
+add-result : tie.Need-add-result
+add-result c = omega (arith, formats.inside (c .before .before .before .args .text .now) (c .before .before .before .args .at) (c .before .run .result) isDigit (c .before .run .ensures) (omega arith))
+
+returns : tie.Need-returns
+returns c = formats.two-digits (c .before .before .before .args .text .now) (c .before .before .before .args .at) (c .before .run .result) (c .before .run .ensures) (c .if1 .taken)
+
+add-result-2 : tie.Need-add-result-2
+add-result-2 c = omega (arith, formats.inside (c .before .before .before .args .text .now) (c .before .before .before .args .at) (c .before .run .result) isDigit (c .before .run .ensures) (omega arith))
+
+returns-2 : tie.Need-returns-2
+returns-2 c = formats.fewer-digits (c .before .before .before .args .text .now) (c .before .before .before .args .at) (c .before .run .result) (c .before .run .ensures) (c .if1 .left)
+
+pub after-two-digits-spec : {M : Type 1} → statement M
+after-two-digits-spec = tie.close (tie.spec run-requires add-result returns add-result-2 returns-2)

@@ -1,0 +1,140 @@
+-- `luck_format::format::scan_format_string` meets its contract. The invariant: from here the walk gives the whole answer. Assumes nothing.
+use mathlib.Core.Path.{_≡_}
+use native.Mathlib.Omega.{arith}
+use Prim.Native.Nat.{_+_, _-_, _≤_}
+use lib.ListN.{length}
+use Rattle.luck_answer.specs.Answer.{refusal}
+use Rattle.luck_format.specs.Format.{formatWalk}
+use Rattle.luck_format.specs.declared.format.Specifier.the-variants.{Counted, Literal, Fault}
+use Rattle.luck_format.proofs.Formats as formats
+use borrow.Author.Needs.{needs}
+use Rattle.luck_format.proofs.format.scan_format_string.Statement.{
+  statement,
+}
+use Rattle.luck_format.proofs.format.scan_format_string.Tie as tie
+
+abbrev Inv-loop : tie.InvT-loop
+Inv-loop text rules count₀ at₀ count at = (count ≤ at) × (at ≤ length text) × (formats.on rules text at count ≡ formatWalk rules text)
+
+abbrev μ-loop : tie.MeasureT-loop
+μ-loop text rules count₀ at₀ count at = length text - at
+
+loop-holds : tie.Need-loop-holds Inv-loop μ-loop
+loop-holds c = (omega arith, omega arith, formats.start (c .before .args .rules) (c .before .args .text .now))
+
+shared-slice-read-if1 : tie.Need-shared-slice-read-if1 Inv-loop μ-loop
+shared-slice-read-if1 c = search needs
+
+add-at : tie.Need-add-at Inv-loop μ-loop
+add-at c = search needs
+
+loop-less : tie.Need-loop-less Inv-loop μ-loop
+loop-less c = search needs
+
+loop-again : tie.Need-loop-again Inv-loop μ-loop
+loop-again c =
+    let a = c .before .before .before .before .before .args in
+    let l = c .before .before .before .loop in
+    (omega arith, omega arith, formats.plain-turn (a .rules) (a .text .now) (l .at) (l .count) _ (l .inv .2) (c .before .before .loop-test .taken) (c .if1 .taken))
+
+scan-specifier-requires : tie.Need-scan-specifier-requires Inv-loop μ-loop
+scan-specifier-requires c κs = search needs
+
+enum-known-specifier : tie.Need-enum-known-specifier Inv-loop μ-loop
+enum-known-specifier c = search needs
+
+add-count : tie.Need-add-count Inv-loop μ-loop
+add-count c = omega arith
+
+add-at-2 : tie.Need-add-at-2 Inv-loop μ-loop
+add-at-2 c =
+    let a = c .before .before .before .before .before .before .before .before .before .args in
+    let l = c .before .before .before .before .before .before .before .loop in
+    let v = c .before .specifier .given in
+    let s = formats.read (a .rules) (a .text .now) (l .at) (Counted (v .0 .0)) (v .1) (c .before .before .before .scan-specifier .ensures) in
+    omega (arith, s .1)
+
+loop-less-2 : tie.Need-loop-less-2 Inv-loop μ-loop
+loop-less-2 c =
+    let a = c .before .before .before .before .before .before .before .before .before .args in
+    let l = c .before .before .before .before .before .before .before .loop in
+    let v = c .before .specifier .given in
+    let s = formats.read (a .rules) (a .text .now) (l .at) (Counted (v .0 .0)) (v .1) (c .before .before .before .scan-specifier .ensures) in
+    omega (arith, s .1)
+
+loop-again-2 : tie.Need-loop-again-2 Inv-loop μ-loop
+loop-again-2 c =
+    let a = c .before .before .before .before .before .before .before .before .before .args in
+    let l = c .before .before .before .before .before .before .before .loop in
+    let v = c .before .specifier .given in
+    let s = formats.read (a .rules) (a .text .now) (l .at) (Counted (v .0 .0)) (v .1) (c .before .before .before .scan-specifier .ensures) in
+    (omega (arith, s .1), omega (arith, s .1), formats.turn (a .rules) (a .text .now) (l .at) (l .count) _ (l .inv .2) (c .before .before .before .before .before .before .loop-test .taken) (c .before .before .before .before .if1 .left) (v .0 .0) (l .count + 1) (s .0 (l .count)) (s .1 .0) (s .1 .1))
+
+enum-known-specifier-2 : tie.Need-enum-known-specifier-2 Inv-loop μ-loop
+enum-known-specifier-2 c = search needs
+
+add-at-3 : tie.Need-add-at-3 Inv-loop μ-loop
+add-at-3 c =
+    let a = c .before .before .before .before .before .before .before .before .before .args in
+    let l = c .before .before .before .before .before .before .before .loop in
+    let v = c .before .specifier2 .given in
+    let s = formats.read (a .rules) (a .text .now) (l .at) (Literal (v .0 .0)) (v .1) (c .before .before .before .scan-specifier .ensures) in
+    omega (arith, s .1)
+
+loop-less-3 : tie.Need-loop-less-3 Inv-loop μ-loop
+loop-less-3 c =
+    let a = c .before .before .before .before .before .before .before .before .before .args in
+    let l = c .before .before .before .before .before .before .before .loop in
+    let v = c .before .specifier2 .given in
+    let s = formats.read (a .rules) (a .text .now) (l .at) (Literal (v .0 .0)) (v .1) (c .before .before .before .scan-specifier .ensures) in
+    omega (arith, s .1)
+
+loop-again-3 : tie.Need-loop-again-3 Inv-loop μ-loop
+loop-again-3 c =
+    let a = c .before .before .before .before .before .before .before .before .before .args in
+    let l = c .before .before .before .before .before .before .before .loop in
+    let v = c .before .specifier2 .given in
+    let s = formats.read (a .rules) (a .text .now) (l .at) (Literal (v .0 .0)) (v .1) (c .before .before .before .scan-specifier .ensures) in
+    (omega (arith, s .1), omega (arith, s .1), formats.turn (a .rules) (a .text .now) (l .at) (l .count) _ (l .inv .2) (c .before .before .before .before .before .before .loop-test .taken) (c .before .before .before .before .if1 .left) (v .0 .0) (l .count) (s .0 (l .count)) (s .1 .0) (s .1 .1))
+
+enum-known-specifier-3 : tie.Need-enum-known-specifier-3 Inv-loop μ-loop
+enum-known-specifier-3 c = search needs
+
+returns : tie.Need-returns Inv-loop μ-loop
+returns c =
+    let a = c .before .before .before .before .before .before .before .before .before .args in
+    let l = c .before .before .before .before .before .before .before .loop in
+    let v = c .before .specifier3 .given in
+    let s = formats.read (a .rules) (a .text .now) (l .at) (Fault (v .0 .0)) (v .1) (c .before .before .before .scan-specifier .ensures) in
+    formats.bad (a .rules) (a .text .now) (l .at) (l .count) _ (l .inv .2) (c .before .before .before .before .before .before .loop-test .taken) (c .before .before .before .before .if1 .left) (refusal (v .0 .0)) (s .0 (l .count))
+
+returns-2 : tie.Need-returns-2 Inv-loop μ-loop
+returns-2 c =
+    let a = c .before .before .before .args in
+    let l = c .before .loop in
+    formats.done (a .rules) (a .text .now) (l .at) (l .count) _ (l .inv .2) (c .loop-test .left)
+
+pub scan-format-string-spec : {M : Type 1} → statement M
+scan-format-string-spec =
+    tie.close
+    (tie.spec
+    Inv-loop
+    μ-loop
+    loop-holds
+    shared-slice-read-if1
+    add-at
+    loop-less
+    loop-again
+    scan-specifier-requires
+    enum-known-specifier
+    add-count
+    add-at-2
+    loop-less-2
+    loop-again-2
+    enum-known-specifier-2
+    add-at-3
+    loop-less-3
+    loop-again-3
+    enum-known-specifier-3
+    returns
+    returns-2)

@@ -1,0 +1,4 @@
+pub mod Format
+pub mod Pack
+pub mod Date
+pub mod Inner

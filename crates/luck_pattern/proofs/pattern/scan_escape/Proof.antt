@@ -1,0 +1,130 @@
+-- `luck_pattern::pattern::scan_escape` meets its contract, a law of `Patterns` for each way. Assumes nothing.
+use mathlib.Core.Path.{sym, _∙_}
+use Prim.Native.Nat.{_+_}
+use native.Mathlib.Omega.{arith}
+use lib.ListN.{length}
+use Rattle.luck_pattern.specs.Captures.{flagsOf}
+use Rattle.luck_pattern.proofs.Patterns.{
+  escape-end,
+  escape-closed,
+  escape-open,
+  escape-balance,
+  escape-balance-cut,
+  escape-frontier,
+  escape-no-set,
+  escape-no-byte,
+  escape-below,
+  escape-above,
+  within-from,
+}
+use borrow.Author.Needs.{needs}
+use Rattle.luck_pattern.proofs.pattern.scan_escape.Statement.{statement}
+use Rattle.luck_pattern.proofs.pattern.scan_escape.Tie as tie
+
+sub-if1 : tie.Need-sub-if1
+sub-if1 c = search needs
+
+returns : tie.Need-returns
+returns c =
+    let a = c .before .before .args in
+    (escape-end (a .text .now) (a .start) (flagsOf (a .count) (a .word)) (c .if1 .taken), tt)
+
+add-escape-at : tie.Need-add-escape-at
+add-escape-at c = search needs
+
+shared-slice-read-escape : tie.Need-shared-slice-read-escape
+shared-slice-read-escape c = search needs
+
+add-next : tie.Need-add-next
+add-next c = search needs
+
+sub-if2 : tie.Need-sub-if2
+sub-if2 c = search needs
+
+returns-2 : tie.Need-returns-2
+returns-2 c =
+    let a = c .before .before .before .before .before .args in
+    (escape-balance-cut (a .text .now) (a .start) (flagsOf (a .count) (a .word)) (c .before .before .before .before .before .pre .0) (c .before .before .before .if1 .left) (c .before .match .keys1) (omega arith), tt)
+
+add-t15 : tie.Need-add-t15
+add-t15 c = search needs
+
+shared-slice-read-if4 : tie.Need-shared-slice-read-if4
+shared-slice-read-if4 c = search needs
+
+scan-set-requires : tie.Need-scan-set-requires
+scan-set-requires c κs = search needs
+
+returns-3 : tie.Need-returns-3
+returns-3 c =
+    let a = c .before .before .before .before .before .before .before .before .args in
+    let set = c .scan-set in (
+      set .ensures .0 ∙ escape-frontier (a .text .now) (a .start) (flagsOf (a .count) (a .word)) (c .before .before .before .before .before .before .before .before .pre .0) (c .before .before .before .before .before .before .if1 .left) (c .before .before .before .before .match .keys2) (c .before .if4 .taken),
+      within-from (set .result) (a .start) (a .start + 2) (length (a .text .now)) (omega arith) (set .ensures .1),
+    )
+
+cast-is-closed : tie.Need-cast-is-closed
+cast-is-closed c = search needs
+
+is-closed-requires : tie.Need-is-closed-requires
+is-closed-requires c κs = search needs
+
+returns-4 : tie.Need-returns-4
+returns-4 c =
+    let a = c .before .before .before .before .before .before .before .before .args in
+    (escape-closed (a .text .now) (a .start) (flagsOf (a .count) (a .word)) (c .before .before .before .before .before .before .before .before .pre .0) (c .before .before .before .before .before .before .if1 .left) (c .before .before .before .if5 .left) (c .before .before .if6 .taken) (sym (c .before .is-closed .ensures) ∙ c .if7 .taken), (omega arith, omega arith))
+
+returns-5 : tie.Need-returns-5
+returns-5 c =
+    let a = c .before .before .before .before .before .args in
+    (escape-balance (a .text .now) (a .start) (flagsOf (a .count) (a .word)) (c .before .before .before .before .before .pre .0) (c .before .before .before .if1 .left) (c .before .match .keys1) (omega arith), (omega arith, omega arith))
+
+returns-6 : tie.Need-returns-6
+returns-6 c =
+    let a = c .before .before .before .before .before .before .before .args in
+    (escape-no-set (a .text .now) (a .start) (flagsOf (a .count) (a .word)) (c .before .before .before .before .before .before .before .pre .0) (c .before .before .before .before .before .if1 .left) (c .before .before .before .match .keys2) (c .if4 .left), tt)
+
+returns-7 : tie.Need-returns-7
+returns-7 c =
+    let a = c .before .before .before .before .before .args in
+    (escape-no-byte (a .text .now) (a .start) (flagsOf (a .count) (a .word)) (c .before .before .before .before .before .pre .0) (c .before .before .before .if1 .left) (c .before .match .keys2) (c .if3 .left), tt)
+
+returns-8 : tie.Need-returns-8
+returns-8 c =
+    let a = c .before .before .before .before .before .before .before .before .args in
+    (escape-open (a .text .now) (a .start) (flagsOf (a .count) (a .word)) (c .before .before .before .before .before .before .before .before .pre .0) (c .before .before .before .before .before .before .if1 .left) (c .before .before .before .if5 .left) (c .before .before .if6 .taken) (sym (c .before .is-closed .ensures) ∙ c .if7 .left), tt)
+
+returns-9 : tie.Need-returns-9
+returns-9 c =
+    let a = c .before .before .before .before .before .args in
+    (escape-below (a .text .now) (a .start) (flagsOf (a .count) (a .word)) (c .before .before .before .before .before .pre .0) (c .before .before .before .if1 .left) (c .if5 .taken) (c .before .match .rest .0 .1) (c .before .match .rest .1), (omega arith, omega arith))
+
+returns-10 : tie.Need-returns-10
+returns-10 c =
+    let a = c .before .before .before .before .before .before .args in
+    (escape-above (a .text .now) (a .start) (flagsOf (a .count) (a .word)) (c .before .before .before .before .before .before .pre .0) (c .before .before .before .before .if1 .left) (c .if6 .left) (c .before .before .match .rest .0 .1) (c .before .before .match .rest .1), (omega arith, omega arith))
+
+pub scan-escape-spec : {M : Type 1} → statement M
+scan-escape-spec =
+    tie.close
+    (tie.spec
+    sub-if1
+    returns
+    add-escape-at
+    shared-slice-read-escape
+    add-next
+    sub-if2
+    returns-2
+    add-t15
+    shared-slice-read-if4
+    scan-set-requires
+    returns-3
+    cast-is-closed
+    is-closed-requires
+    returns-4
+    returns-5
+    returns-6
+    returns-7
+    returns-8
+    returns-9
+    returns-10)

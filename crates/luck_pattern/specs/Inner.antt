@@ -1,0 +1,31 @@
+-- What the inner functions of the check of patterns promise each other. No public contract rests on these.
+-- Assumes nothing.
+use Prim.Native.Nat.{ℕ, _^_, _<_, _≤_}
+use mathlib.Core.Bool.{Bool}
+use mathlib.Core.List.{List}
+use mathlib.Core.Option.{Option, none, some}
+use Rattle.luck_answer.specs.Answer.{refusal}
+use Rattle.luck_pattern.specs.Captures.{flagsOf}
+use Rattle.luck_pattern.specs.Pattern.{Read, past, fault}
+use Rattle.luck_pattern.specs.declared.pattern.Scan.{Scan}
+use Rattle.luck_pattern.specs.declared.pattern.Scan.the-variants as scan
+use Rattle.luck_pattern.specs.declared.pattern.Closing.{Closing}
+use Rattle.luck_pattern.specs.declared.pattern.Closing.the-variants.{Open, Unmatched}
+
+abbrev pub readOf : Scan → Read
+readOf (scan.Past q) = past q
+readOf (scan.Fault e) = fault (refusal e)
+
+-- the place after what was read lies behind its start and in the text
+abbrev pub Within : Scan → ℕ → ℕ → Type 0
+Within (scan.Past q) p len = (p < q) × (q ≤ len)
+Within (scan.Fault e) p len = Unit {0}
+
+-- what closing the latest capture gave, and that the word has no bit beyond the count
+abbrev pub closedOf : ℕ → Closing → Option (List Bool)
+closedOf count (Open word) = some (flagsOf count word)
+closedOf count Unmatched = none
+
+abbrev pub Below : ℕ → Closing → Type 0
+Below count (Open word) = word < 2 ^ count
+Below count Unmatched = Unit {0}

@@ -1,0 +1,5 @@
+pub mod Captures
+pub mod Pattern
+pub mod Items
+pub mod Replacement
+pub mod Inner

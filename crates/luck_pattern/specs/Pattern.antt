@@ -1,0 +1,137 @@
+-- What stands at a place of a pattern, as do_match and classEnd of lstrlib.c read it, as far as the check needs it, and which patterns are accepted (validate_lua_pattern,
+-- scan_escape and scan_set of luck). luck passes over a whole UTF-8 character where this passes over one byte: the bytes after a
+-- character's first are 128 or more, so none of them is a byte that is tested for here, and the two read the same items.
+-- Assumes nothing.
+use Prim.Native.Nat.{ℕ, _+_, _-_}
+use Prim.Native.Char.{code}
+use mathlib.Core.Bool.{Bool, true, false, not, _&&_}
+use mathlib.Core.List.{List, [], _∷_, _++_}
+use mathlib.Core.Option.{Option, none, some}
+use lib.ListN.{length}
+use lib.Dec.{eqb, ltb}
+use Rattle.luck_text.specs.Bytes.{if_then_else_, byteAt, isDigit}
+use Rattle.luck_text.specs.Walk.{Turn, stop, goes, walkFrom}
+use Rattle.luck_answer.specs.Answer.{Answer, accepted, refused, refusedWith, checkText}
+use Rattle.luck_pattern.specs.Captures.{closeLatest, isClosed, allClosed}
+
+-- ---- Reading
+
+-- the switch on the byte at a place
+pub data Head : Type 0 where
+  at-open at-close at-percent at-set at-other : Head
+
+unfoldable pub headOf : ℕ → Head
+headOf b =
+    if eqb b (code "(") then at-open
+    else if eqb b (code ")") then at-close
+    else if eqb b (code "%") then at-percent
+    else if eqb b (code "[") then at-set else at-other
+
+-- the switch on the byte after a `%`
+pub data Escape : Type 0 where
+  esc-digit : ℕ → Escape  -- a back-reference
+  esc-balance esc-frontier esc-other esc-end : Escape
+
+unfoldable pub escapeOf : ℕ → Escape
+escapeOf b =
+    if isDigit b then esc-digit (b - code "0")
+    else if eqb b (code "b") then esc-balance
+    else if eqb b (code "f") then esc-frontier else esc-other
+
+unfoldable pub escapeAt : List ℕ → ℕ → Escape
+escapeAt pat p = if ltb p (length pat) then escapeOf (byteAt pat p) else esc-end
+
+-- the switch on the byte at a place of a set: the first member is taken even if it is a `]`, and `%` takes one more byte
+pub data Member : Type 0 where
+  closing-bracket escaped-member cut-escape byte-member : Member
+
+unfoldable pub memberAt : List ℕ → Bool → ℕ → Member
+memberAt pat first p =
+    let escape = if ltb (p + 1) (length pat) then escaped-member else cut-escape in
+    let member = if eqb (byteAt pat p) (code "%") then escape else byte-member in
+    if eqb (byteAt pat p) (code "]") && not first then closing-bracket else member
+
+-- where a set ends: at its closing `]`; nowhere, since a `%` at this place ends the pattern; or nowhere
+pub data SetEnd : Type 0 where
+  closes-at cut-at : ℕ → SetEnd
+  unclosed : SetEnd
+
+unfoldable pub memberBy : Member → ℕ → Turn Bool SetEnd
+memberBy closing-bracket p = stop (closes-at p)
+memberBy escaped-member p = goes 2 false
+memberBy cut-escape p = stop (cut-at p)
+memberBy byte-member p = goes 1 false
+
+unfoldable pub memberTurn : List ℕ → ℕ → Bool → Turn Bool SetEnd
+memberTurn pat p first = memberBy (memberAt pat first p) p
+
+unfoldable pub membersEnd : ℕ → Bool → SetEnd
+membersEnd p first = unclosed
+
+-- the place of the first member of the set whose `[` stands at p, after `[` or `[^`
+unfoldable pub firstMember : List ℕ → ℕ → ℕ
+firstMember pat p = if eqb (byteAt pat (p + 1)) (code "^") then p + 2 else p + 1
+
+unfoldable pub setEnd : List ℕ → ℕ → SetEnd
+setEnd pat p = walkFrom (memberTurn pat) membersEnd (length pat) (firstMember pat p) true
+
+-- ---- The check
+
+-- a lone `]` ends the pattern where the set's first member is due
+unfoldable pub isEmptySet : List ℕ → ℕ → Bool
+isEmptySet pat p = let first = firstMember pat p in eqb (byteAt pat first) (code "]") && eqb (first + 1) (length pat)
+
+-- an escape or a set was read, and the next item starts at a place; or a fault was found
+pub data Read : Type 0 where
+  past : ℕ → Read
+  fault : Answer → Read
+
+unfoldable pub setAs : List ℕ → ℕ → SetEnd → Read
+setAs pat p (closes-at e) = past (e + 1)
+setAs pat p (cut-at e) = fault (refused 1 e)
+setAs pat p unclosed = fault (refused (if isEmptySet pat p then 9 else 8) p)
+
+-- the set whose `[` stands at p
+unfoldable pub setRead : List ℕ → ℕ → Read
+setRead pat p = setAs pat p (setEnd pat p)
+
+-- the escape whose `%` stands at p, after these captures
+unfoldable pub escapeAs : List ℕ → ℕ → List Bool → Escape → Read
+escapeAs pat p captures esc-end = fault (refused 1 p)
+escapeAs pat p captures (esc-digit d) = if isClosed captures d then past (p + 2) else fault (refused 13 (p + 1))
+escapeAs pat p captures esc-balance = if ltb (p + 3) (length pat) then past (p + 4) else fault (refused 1 p)
+escapeAs pat p captures esc-frontier =
+    let set = setRead pat (p + 2) in
+    if eqb (byteAt pat (p + 2)) (code "[") then set else fault (refusedWith 10 p (code "f"))
+escapeAs pat p captures esc-other = past (p + 2)
+
+unfoldable pub escapeRead : List ℕ → ℕ → List Bool → Read
+escapeRead pat p captures = escapeAs pat p captures (escapeAt pat (p + 1))
+
+unfoldable pub onward : ℕ → List Bool → Read → Turn (List Bool) Answer
+onward p captures (past q) = goes (q - p) captures
+onward p captures (fault answer) = stop answer
+
+unfoldable pub afterClose : ℕ → Option (List Bool) → Turn (List Bool) Answer
+afterClose p none = stop (refused 11 p)
+afterClose p (some captures) = goes 1 captures
+
+-- the item at place p, after these captures
+unfoldable pub headTurn : List ℕ → ℕ → List Bool → Head → Turn (List Bool) Answer
+headTurn pat p captures at-open = if ltb (length captures) 32 then goes 1 (captures ++ (false ∷ [])) else stop (refused 12 p)
+headTurn pat p captures at-close = afterClose p (closeLatest captures)
+headTurn pat p captures at-percent = onward p captures (escapeRead pat p captures)
+headTurn pat p captures at-set = onward p captures (setRead pat p)
+headTurn pat p captures at-other = goes 1 captures
+
+unfoldable pub patternTurn : List ℕ → ℕ → List Bool → Turn (List Bool) Answer
+patternTurn pat p captures = headTurn pat p captures (headOf (byteAt pat p))
+
+unfoldable pub patternEnd : List ℕ → ℕ → List Bool → Answer
+patternEnd pat p captures = if allClosed captures then accepted (length captures) else refused 11 (length pat)
+
+unfoldable pub patternWalk : List ℕ → Answer
+patternWalk pat = walkFrom (patternTurn pat) (patternEnd pat) (length pat) 0 []
+
+unfoldable pub checkPattern : ℕ → List ℕ → Answer
+checkPattern version pat = checkText version pat (patternWalk pat)

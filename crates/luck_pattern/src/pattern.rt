@@ -1,0 +1,229 @@
+// The check of a pattern.
+ghost use mathlib.Core.Path.{_≡_};
+ghost use mathlib.Core.Bool.{false};
+ghost use mathlib.Core.List.{[], _∷_, _++_};
+ghost use Prim.Native.Nat.{_+_, _^_, _<_, _≤_};
+ghost use lib.ListN.{length};
+ghost use Rattle.luck_answer.specs.Answer.{walkedOf, answerOf};
+ghost use Rattle.luck_pattern.specs.Captures.{isClosed, allClosed, closeLatest, flagsOf};
+ghost use Rattle.luck_pattern.specs.Pattern.{firstMember, setRead, escapeRead, patternWalk, checkPattern};
+ghost use Rattle.luck_pattern.specs.Inner.{readOf, Within, closedOf, Below};
+use luck_answer::format_pattern;
+use luck_answer::format_pattern::Checked;
+use luck_answer::format_pattern::PatternError;
+use luck_answer::format_pattern::Text;
+use luck_answer::format_pattern::Walked;
+
+// The place after an escape or a set, or its fault.
+pub enum Scan {
+    Past(usize),
+    Fault(PatternError),
+}
+
+// The place of a set's first member, after `[` or `[^`.
+fn first_member(text: &[u8], start: usize) -> usize
+    requires { ⌜ start < length (now text) ⌝ }
+    ensures { λ r. ⌜ (r ≡ firstMember (now (text .entry)) start) × (start < r) × (r ≤ length (now (text .entry))) ⌝ }
+{
+    let next = start + 1;
+    if next < text.len() {
+        if text[next] == b'^' {
+            return next + 1;
+        }
+    }
+    next
+}
+
+// The set whose `[` stands at `start`. `classEnd` takes the first member before it looks for a `]`.
+fn scan_set(text: &[u8], start: usize) -> Scan
+    requires { ⌜ start < length (now text) ⌝ }
+    ensures { λ r. ⌜ (readOf r ≡ setRead (now (text .entry)) start) × Within r start (length (now (text .entry))) ⌝ }
+{
+    let first = first_member(text, start);
+    if text.len() - first == 1 {
+        if text[first] == b']' {
+            return Scan::Fault(PatternError::EmptySet { offset: start });
+        }
+    }
+    let mut at = first;
+    let after = 'members: loop {
+        if text.len() <= at {
+            return Scan::Fault(PatternError::UnterminatedSet { offset: start });
+        }
+        let here = text[at];
+        match here {
+            b']' => {
+                if first < at {
+                    break 'members at + 1;
+                }
+                at += 1;
+            }
+            b'%' => {
+                if text.len() - at == 1 {
+                    return Scan::Fault(PatternError::TruncatedSpecifier { offset: at });
+                }
+                at += 2;
+            }
+            _ => at += 1,
+        }
+    };
+    Scan::Past(after)
+}
+
+// The word of open captures with one more, the latest.
+fn opened(count: u32, word: u32) -> u32
+    requires { ⌜ (count < 32) × (word < 2 ^ count) ⌝ }
+    ensures { λ r. ⌜ (r < 2 ^ (count + 1)) × (flagsOf (count + 1) r ≡ flagsOf count word ++ (false ∷ [])) ⌝ }
+{
+    word + (1u32 << count)
+}
+
+// The word after its latest open capture, its highest bit, is closed.
+pub enum Closing {
+    Open(u32),
+    Unmatched,
+}
+
+fn close_latest(count: u32, word: u32) -> Closing
+    requires { ⌜ word < 2 ^ count ⌝ }
+    ensures { λ r. ⌜ (closedOf count r ≡ closeLatest (flagsOf count word)) × Below count r ⌝ }
+{
+    let zeros = u32::leading_zeros(word);
+    if zeros == 32 {
+        return Closing::Unmatched;
+    }
+    Closing::Open(word - (1u32 << (31 - zeros)))
+}
+
+// Whether capture `digit` was seen and is closed.
+fn is_closed(count: u32, word: u32, digit: u32) -> bool
+    requires { ⌜ (digit < 10) × (count ≤ 32) ⌝ }
+    ensures { λ r. ⌜ r ≡ isClosed (flagsOf count word) digit ⌝ }
+{
+    if digit == 0 {
+        return false;
+    }
+    if count < digit {
+        return false;
+    }
+    (word >> (digit - 1)) % 2 == 0
+}
+
+// Whether no capture is open.
+fn none_open(count: u32, word: u32) -> bool
+    requires { ⌜ word < 2 ^ count ⌝ }
+    ensures { λ r. ⌜ r ≡ allClosed (flagsOf count word) ⌝ }
+{
+    u32::count_ones(word) == 0
+}
+
+// The escape whose `%` stands at `start`, after `count` captures of which the bits of `word` are open.
+fn scan_escape(text: &[u8], start: usize, count: u32, word: u32) -> Scan
+    requires { ⌜ (start < length (now text)) × (count ≤ 32) ⌝ }
+    ensures { λ r. ⌜
+        (readOf r ≡ escapeRead (now (text .entry)) start (flagsOf count word)) × Within r start (length (now (text .entry)))
+        ⌝ }
+{
+    if text.len() - start == 1 {
+        return Scan::Fault(PatternError::TruncatedSpecifier { offset: start });
+    }
+    let escape_at = start + 1;
+    let escape = text[escape_at];
+    let next = start + 2;
+    match escape {
+        // `check_capture` rejects `%0`, an unseen capture, and one still open.
+        b'0'..=b'9' => {
+            if is_closed(count, word, (escape - b'0') as u32) {
+                return Scan::Past(next);
+            }
+            Scan::Fault(PatternError::BadBackReference { offset: escape_at })
+        }
+        // `%bxy` matches a run balanced between `x` and `y`.
+        b'b' => {
+            if text.len() - next < 2 {
+                return Scan::Fault(PatternError::TruncatedSpecifier { offset: start });
+            }
+            Scan::Past(next + 2)
+        }
+        // A `%f` frontier needs a set after it.
+        b'f' => {
+            if next < text.len() {
+                if text[next] == b'[' {
+                    return scan_set(text, next);
+                }
+            }
+            Scan::Fault(PatternError::BadEscape {
+                offset: start,
+                character: 102,
+            })
+        }
+        // A class or a literal.
+        _ => Scan::Past(next),
+    }
+}
+
+// The walk over a text that is UTF-8.
+pub fn scan_pattern(text: &[u8]) -> Walked
+    ensures { λ r. ⌜ walkedOf r ≡ patternWalk (now (text .entry)) ⌝ }
+{
+    let mut count: u32 = 0;
+    // A bit for each capture that is open.
+    let mut word: u32 = 0;
+    let mut at: usize = 0;
+    while at < text.len() {
+        let here = text[at];
+        match here {
+            b'%' => {
+                let found = scan_escape(text, at, count, word);
+                match found {
+                    Scan::Past(next) => at = next,
+                    Scan::Fault(fault) => return Walked::Refused(fault),
+                }
+            }
+            b'[' => {
+                let found = scan_set(text, at);
+                match found {
+                    Scan::Past(next) => at = next,
+                    Scan::Fault(fault) => return Walked::Refused(fault),
+                }
+            }
+            b'(' => {
+                if 32 <= count {
+                    return Walked::Refused(PatternError::TooManyCaptures { offset: at });
+                }
+                word = opened(count, word);
+                count += 1;
+                at += 1;
+            }
+            b')' => {
+                let left = close_latest(count, word);
+                match left {
+                    Closing::Open(rest) => {
+                        word = rest;
+                        at += 1;
+                    }
+                    Closing::Unmatched => {
+                        return Walked::Refused(PatternError::UnmatchedCapture { offset: at });
+                    }
+                }
+            }
+            // Anything else is a single, so a `*` with nothing to repeat is a literal `*`.
+            _ => at += 1,
+        }
+    }
+    if none_open(count, word) {
+        return Walked::Accepted(count as usize);
+    }
+    Walked::Refused(PatternError::UnmatchedCapture { offset: text.len() })
+}
+
+pub fn validate_lua_pattern(version: u32, text: &[u8]) -> Checked
+    ensures { λ r. ⌜ answerOf r ≡ checkPattern version (now (text .entry)) ⌝ }
+{
+    let read = format_pattern::read_text(version, text);
+    match read {
+        Text::Fine => format_pattern::as_checked(scan_pattern(text)),
+        Text::NotUtf8(at) => Checked::NotUtf8(at),
+        Text::UnknownVersion => Checked::UnknownVersion,
+    }
+}
