@@ -82,8 +82,8 @@ use Rattle.luck_pattern.specs.Items.{
   items,
 }
 use Rattle.luck_trial.proofs.Sound.{AllClosed, WellFormed}
-use Rattle.luck_trial.proofs.Places.{ClosesFrom, first-behind, set-closes}
-use Rattle.luck_trial.proofs.Items.{IsRepeat, is-repeat}
+use Rattle.luck_match.proofs.Places.{ClosesFrom, first-behind, set-closes}
+use Rattle.luck_match.proofs.Items.{IsRepeat, is-repeat}
 
 -- ---- What an acceptance rules out
 

@@ -10,7 +10,7 @@ use lib.ListN.{length}
 use borrow.Author.Tests.{ltb-true, ltb-false}
 use Rattle.luck_text.proofs.Cases.{by-test}
 use Rattle.luck_pattern.specs.Items.{Set, Single, Repeat, once, optional, star, plus, minus, Item, balance, frontier, single}
-use Rattle.luck_trial.specs.Match.{
+use Rattle.luck_match.specs.Match.{
   Capture,
   closed,
   Outcome,

@@ -59,8 +59,8 @@ use Rattle.luck_pattern.specs.Items.{
   items,
 }
 use Rattle.luck_pattern.specs.Replacement.{pieces}
-use Rattle.luck_trial.specs.Class.{matchClass}
-use Rattle.luck_trial.specs.Match.{
+use Rattle.luck_match.specs.Class.{matchClass}
+use Rattle.luck_match.specs.Match.{
   Capture,
   opened,
   position,

@@ -12,7 +12,7 @@ use borrow.Author.Tests.{ltb-true}
 use Rattle.luck_text.specs.Bytes.{byteAt}
 use Rattle.luck_text.proofs.Cases.{by-test}
 use Rattle.luck_pattern.specs.Items.{Single, Repeat, once, optional, star, plus, minus, Item, start-capture, position-capture, end-capture, end-anchor, balance, frontier, back-reference, single, raises}
-use Rattle.luck_trial.specs.Match.{
+use Rattle.luck_match.specs.Match.{
   Capture,
   opened,
   position,

@@ -1,17 +1,7 @@
-pub mod Frontiers
-pub mod Classes
-pub mod Sets
-pub mod Singles
-pub mod Subjects
-pub mod Captures
-pub mod Turns
 pub mod Attempts
 pub mod Runs
 pub mod Endings
 pub mod Sound
-pub mod Places
-pub mod Items
-pub mod Reading
 pub mod Accepted
 pub mod Writings
 pub mod Quiet

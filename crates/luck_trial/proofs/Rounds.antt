@@ -17,24 +17,15 @@ use Rattle.luck_text.proofs.Cases.{if-true, if-false, order}
 use Rattle.luck_pattern.specs.Items.{Item, items}
 use Rattle.luck_token.specs.Version.{isVersion}
 use Rattle.luck_pattern.specs.Replacement.{pieces}
-use Rattle.luck_trial.specs.Class.{matchClass}
-use Rattle.luck_trial.specs.Match.{Outcome, matched, failed, stopped, newLevel, match}
+use Rattle.luck_match.specs.Class.{matchClass}
+use Rattle.luck_match.specs.Match.{Outcome, matched, failed, stopped, newLevel, match}
 use Rattle.luck_trial.specs.Replace.{Wrote, append, addPieces}
 use Rattle.luck_trial.specs.Gsub.{Answer, answer, andWrote, Rounds, Writer, endsAgain, copyByte, copyRest, round, anchoredRound, roundsFrom, rounds, strGsub, writerOf, gsub}
-use Rattle.luck_trial.specs.Inner.{
-  pairsOf,
-  capturesOf,
-  capturesIn,
-  Sound,
-  outcomeBy,
-  outcomeOf,
-  wroteOf,
-  WroteAs,
-  Reported,
-  writerBy,
-}
-use Rattle.luck_trial.specs.declared.capture.Captures.{Captures}
-use Rattle.luck_trial.specs.declared.matcher.Attempt.{Attempt}
+use Rattle.luck_match.specs.Inner.{pairsOf, capturesOf, capturesIn, Sound}
+use Rattle.luck_matcher.specs.Inner.{outcomeBy, outcomeOf}
+use Rattle.luck_trial.specs.Inner.{wroteOf, WroteAs, Reported, writerBy}
+use Rattle.luck_match.specs.declared.capture.Captures.{Captures}
+use Rattle.luck_matcher.specs.declared.matcher.Attempt.{Attempt}
 use Rattle.luck_trial.specs.declared.replace.Wrote.{Wrote as Written}
 use Rattle.luck_trial.proofs.Runs.{WroteFine, append-fine}
 use Rattle.luck_trial.proofs.Forward.{Onward, onward}

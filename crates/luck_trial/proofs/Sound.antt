@@ -23,7 +23,7 @@ use Rattle.luck_pattern.specs.Items.{
   single,
   raises,
 }
-use Rattle.luck_trial.specs.Match.{
+use Rattle.luck_match.specs.Match.{
   Capture,
   opened,
   position,

@@ -1,5 +1,3 @@
-pub mod Class
-pub mod Match
 pub mod Replace
 pub mod Gsub
 pub mod Inner

@@ -5,15 +5,16 @@ ghost use mathlib.Core.Option.{none};
 ghost use Prim.Native.Nat.{ℕ, _≤_};
 ghost use lib.ListN.{length};
 ghost use Rattle.luck_pattern.specs.Items.{items};
-ghost use Rattle.luck_trial.specs.Class.{matchClass};
-ghost use Rattle.luck_trial.specs.Match.{match};
+ghost use Rattle.luck_match.specs.Class.{matchClass};
+ghost use Rattle.luck_match.specs.Match.{match};
 ghost use Rattle.luck_trial.specs.Gsub.{outputAfter, report, reportOf, anchoredRound, rounds, gsub};
-ghost use Rattle.luck_trial.specs.Inner.{AreMasks, writerBy, Reported};
-use crate::capture::Captures;
-use crate::capture::Pair;
-use crate::class;
-use crate::matcher;
+ghost use Rattle.luck_match.specs.Inner.{AreMasks};
+ghost use Rattle.luck_trial.specs.Inner.{writerBy, Reported};
 use crate::replace;
+use luck_match::capture::Captures;
+use luck_match::capture::Pair;
+use luck_match::class;
+use luck_matcher::matcher;
 use luck_token::version;
 
 // Number 0 is done; a kind from 1 to 10 goes with 29, and 0 with every other number.

@@ -1,4 +1,4 @@
--- The program's answers as luck_linter's definitions have them.
+-- The program's answers as the checks' definitions have them.
 -- Assumes nothing.
 use Prim.Native.Nat.{ℕ}
 use mathlib.Core.Bool.{Bool}

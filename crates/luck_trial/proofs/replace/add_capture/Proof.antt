@@ -3,7 +3,7 @@ use Prim.Native.Nat.{_<_}
 use native.Mathlib.Omega.{arith}
 use lib.ListN.{length, take}
 use borrow.Author.Needs.{needs}
-use Rattle.luck_trial.specs.Inner.{positional}
+use Rattle.luck_match.specs.Inner.{positional}
 use Rattle.luck_trial.proofs.Outputs as outputs
 use Rattle.luck_trial.proofs.Replaced as replaced
 use Rattle.luck_trial.proofs.replace.add_capture.Statement.{statement}

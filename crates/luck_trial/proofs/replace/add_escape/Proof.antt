@@ -5,7 +5,7 @@ use lib.ListN.{length, take}
 use borrow.Author.Needs.{needs}
 use Rattle.luck_text.specs.Bytes.{isDigit}
 use Rattle.luck_text.proofs.Bytes.{within, below, above}
-use Rattle.luck_trial.specs.Inner.{capturesIn}
+use Rattle.luck_match.specs.Inner.{capturesIn}
 use Rattle.luck_trial.proofs.Outputs as outputs
 use Rattle.luck_trial.proofs.Replaced as replaced
 use Rattle.luck_trial.proofs.replace.add_escape.Statement.{statement}

@@ -6,7 +6,7 @@ use lib.ListN.{length, getD, take}
 use borrow.Author.Needs.{needs}
 use Rattle.luck_pattern.specs.Replacement.{literal, escaped}
 use Rattle.luck_trial.specs.Replace.{addPiece}
-use Rattle.luck_trial.specs.Inner.{capturesIn}
+use Rattle.luck_match.specs.Inner.{capturesIn}
 use Rattle.luck_trial.proofs.Outputs as outputs
 use Rattle.luck_trial.proofs.Replaced as replaced
 use Rattle.luck_trial.proofs.replace.add_pieces.Statement.{statement}
