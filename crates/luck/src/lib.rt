@@ -11,17 +11,7 @@ ghost use Rattle.luck_pattern.specs.Pattern.{checkPattern};
 ghost use Rattle.luck_pattern.specs.Replacement.{countOf, checkReplacement};
 ghost use Rattle.luck_linter.specs.StringLiteral.{checkLiteral};
 ghost use Rattle.luck_trial.specs.Gsub.{report, outputAfter, gsub};
-ghost use Rattle.luck.specs.Answers.{checkAnswer, literalAnswer, decodedAnswer, trialReport, countIf};
-
-mod answer;
-mod decoded;
-mod literal;
-mod trial;
-
-use crate::answer::Answer;
-use crate::decoded::Decoded;
-use crate::literal::Literal;
-use crate::trial::Trial;
+ghost use Rattle.luck_structs.specs.Answers.{checkAnswer, literalAnswer, decodedAnswer, trialReport, countIf};
 use luck_format::date;
 use luck_format::format;
 use luck_format::pack;
@@ -29,6 +19,14 @@ use luck_linter::rules::format_string;
 use luck_pattern::pattern;
 use luck_pattern::replacement;
 use luck_pattern::replacement::Captures;
+use luck_structs::answer;
+use luck_structs::answer::Answer;
+use luck_structs::decoded;
+use luck_structs::decoded::Decoded;
+use luck_structs::literal;
+use luck_structs::literal::Literal;
+use luck_structs::trial;
+use luck_structs::trial::Trial;
 use luck_token::string;
 use luck_trial::gsub;
 

@@ -13,7 +13,7 @@ use lib.Dec.{eqb, ltb}
 use borrow.Author.Tests.{ltb-true, ltb-false, eqb-true, eqb-false}
 use Rattle.luck_text.specs.Bytes.{part}
 use Rattle.luck_text.proofs.Cases.{by-test, order}
-use Rattle.luck_lines.specs.Line.{longest}
+use Rattle.luck_line.specs.Line.{longest}
 use Rattle.luck_lines.specs.Stream.{lineLength, rowOf, Taken, taken, State, state, unended, feed, rowsAfter}
 use Rattle.luck_lines.proofs.Listings.{after-line, after-long}
 use Rattle.luck_lines.proofs.Streams.{on, starts, at-end, no-newline, no-room, after, line-taken, line-inside, input-ends, rowOf-length}

@@ -11,11 +11,11 @@ use lib.Seq.{append-snoc}
 use lib.Dec.{eqb}
 use Rattle.luck_text.specs.Bytes.{if_then_else_, run}
 use Rattle.luck_answer.specs.Answer.{refused}
-use Rattle.luck_lines.specs.Line.{lineAnswer}
-use Rattle.luck_lines.specs.Row.{answerRow}
+use Rattle.luck_line.specs.Line.{lineAnswer}
+use Rattle.luck_line.specs.Row.{answerRow}
 use Rattle.luck_lines.specs.Lines.{lastLine, linesFrom, rows}
 use Rattle.luck_lines.specs.Stream.{lineLength, rowOf, passed, rowsAfter}
-use Rattle.luck_lines.proofs.Heads.{too-long}
+use Rattle.luck_line.proofs.Heads.{too-long}
 
 -- ---- A newline among the bytes that are there
 

@@ -7,10 +7,10 @@ use mathlib.Core.Bool.{Bool, true, false}
 use mathlib.Core.List.{List, [], _++_}
 use lib.ListN.{length, drop}
 use Rattle.luck_text.specs.Bytes.{among}
-use Rattle.luck_lines.specs.Line.{longest, lineAnswer, lineNumbers}
+use Rattle.luck_line.specs.Line.{longest, lineAnswer, lineNumbers}
 use Rattle.luck_lines.specs.Lines.{lines, listing}
 use Rattle.luck_lines.specs.Stream.{rowLength, lineLength, feed, passed, rowsAfter, Run}
-use Rattle.luck_lines.proofs.Answers.{line-fits}
+use Rattle.luck_line.proofs.Answers.{line-fits}
 use Rattle.luck_lines.proofs.Cuts.{cut, left-short}
 use Rattle.luck_lines.proofs.Runs.{run-written, one-run}
 

@@ -17,13 +17,13 @@ use Rattle.luck_text.proofs.Walk.{walk-end, walk-stop, walk-goes}
 use Rattle.luck_text.proofs.Bytes.{run-more, run-stop, run-end, run-inside}
 use Rattle.luck_text.proofs.Cases.{by-test}
 use Rattle.luck_answer.specs.Answer.{refused}
-use Rattle.luck_lines.specs.Line.{longest, lineAnswer}
-use Rattle.luck_lines.specs.Row.{answerRow}
+use Rattle.luck_line.specs.Line.{longest, lineAnswer}
+use Rattle.luck_line.specs.Row.{answerRow}
 use Rattle.luck_lines.specs.Stream.{rowLength, lineLength, rowOf, Taken, taken, State, state, unended, lineTurn, feedTurn, feed, finish, fedOf, inFront}
 use Rattle.luck_lines.specs.Inner.{unendedAt}
 use Rattle.luck_lines.specs.declared.stream.Fed.{Fed}
-use Rattle.luck_lines.proofs.Heads.{part-whole}
-use Rattle.luck_lines.proofs.Rows.{row-length}
+use Rattle.luck_line.proofs.Heads.{part-whole}
+use Rattle.luck_line.proofs.Rows.{row-length}
 
 pub line-inside : (input : List ℕ) (p : ℕ) → p ≤ length input → p + lineLength (drop p input) ≤ length input
 unfolding lineLength

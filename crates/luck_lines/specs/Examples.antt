@@ -14,8 +14,8 @@ use Rattle.luck_pattern.specs.Pattern.{headOf, escapeOf, escapeAt, memberAt, me
 use Rattle.luck_format.specs.Pack.{getnumlimit, fixedString, numberedOption, getoption, kindOf, numberOr, luckSizeof, luckSize, maxalign, isPowerOfTwo, isMisaligned, aligned, variable, alignBy, alignmentOf, alignToNext, kindTurn, optionTurn, packTurn, packEnd, packWalk, checkPack}
 use Rattle.luck_pattern.specs.Replacement.{escaped, pieces, allowsDigit, piecesWalk, checkReplacement}
 use Rattle.luck_format.specs.Format.{isFlag, isModifier, getFormat, scanPrecision, scanWidth, scanFormat, modifiersAt, isConversion, flagsFor, flagsRun, takesPrecision, afterTwoDigits, goodModifiers, conversionTurn, specifierTurn, percentTurn, formatTurn, formatEnd, formatWalk, checkFormat}
-use Rattle.luck_lines.specs.Line.{twoDigits, capturesIn, replacementWith, plainCheck, checkBy, checkOf, bodyAnswer, lineAnswer}
-use Rattle.luck_lines.specs.Row.{newline, column, justified, fourColumns, sevenColumns, row}
+use Rattle.luck_line.specs.Line.{twoDigits, capturesIn, replacementWith, plainCheck, checkBy, checkOf, bodyAnswer, lineAnswer}
+use Rattle.luck_line.specs.Row.{newline, column, justified, fourColumns, sevenColumns, row}
 use Rattle.luck_lines.specs.Lines.{lastLine, linesFrom, lines, rows, listing}
 
 -- what is computed

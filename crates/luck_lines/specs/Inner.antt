@@ -2,19 +2,10 @@
 -- Assumes nothing.
 use Prim.Native.Nat.{ℕ, _-_}
 use mathlib.Core.Bool.{Bool, true, false, _||_}
-use mathlib.Core.Option.{Option, none, some}
 use lib.Dec.{ltb}
 use Rattle.luck_text.specs.Bytes.{if_then_else_}
-use Rattle.luck_lines.specs.Line.{longest}
-use Rattle.luck_lines.specs.declared.line.Columns.{Columns}
-use Rattle.luck_lines.specs.declared.line.Columns.the-variants.{Unknown, Count, Misfit}
+use Rattle.luck_line.specs.Line.{longest}
 use Rattle.luck_lines.specs.declared.stream.Fed.{Fed}
-
--- what stands in the columns of captures
-abbrev pub columnsOf : Columns → Option (Option ℕ)
-columnsOf Unknown = some none
-columnsOf (Count n) = some (some n)
-columnsOf Misfit = none
 
 -- `unended` of an input of this length
 abbrev pub unendedAt : ℕ → ℕ → ℕ → Bool → Fed

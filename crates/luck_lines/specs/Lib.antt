@@ -1,5 +1,3 @@
-pub mod Line
-pub mod Row
 pub mod Lines
 pub mod Stream
 pub mod Inner

@@ -4,8 +4,8 @@ use Prim.Native.Nat.{ℕ}
 use mathlib.Core.List.{List, [], _∷_, _++_}
 use lib.Dec.{eqb}
 use Rattle.luck_text.specs.Bytes.{if_then_else_}
-use Rattle.luck_lines.specs.Line.{lineAnswer}
-use Rattle.luck_lines.specs.Row.{newline, answerRow}
+use Rattle.luck_line.specs.Line.{lineAnswer}
+use Rattle.luck_line.specs.Row.{newline, answerRow}
 
 -- what is left of an input when it ends: a last line that lacks its newline, or nothing
 unfoldable pub lastLine : List ℕ → List (List ℕ)

@@ -10,8 +10,8 @@ use lib.Dec.{eqb, ltb}
 use Rattle.luck_text.specs.Bytes.{if_then_else_, part, run}
 use Rattle.luck_text.specs.Walk.{Turn, stop, goes, walkFrom}
 use Rattle.luck_answer.specs.Answer.{refused}
-use Rattle.luck_lines.specs.Line.{longest, lineAnswer}
-use Rattle.luck_lines.specs.Row.{newline, answerRow}
+use Rattle.luck_line.specs.Line.{longest, lineAnswer}
+use Rattle.luck_line.specs.Row.{newline, answerRow}
 use Rattle.luck_lines.specs.Lines.{linesFrom, rows}
 use Rattle.luck_lines.specs.declared.stream.Fed.{Fed}
 

@@ -1,5 +1,3 @@
-// The lines of the program `bodies`: what is answered for one line, the row that says it, and the listing of a stream of them.
+// The lines of the program `bodies` as a stream: the listing of an input, however it is cut.
 pub mod buffer;
-pub mod line;
-pub mod row;
 pub mod stream;

@@ -8,8 +8,8 @@ ghost use Rattle.luck_text.specs.Bytes.{byteAt};
 ghost use lib.ListN.{length, drop};
 ghost use Rattle.luck_lines.specs.Stream.{lineLength, rowOf, feed, finish, fedOf, inFront};
 ghost use Rattle.luck_lines.specs.Inner.{unendedAt};
-use crate::line;
-use crate::row;
+use luck_line::line;
+use luck_line::row;
 
 // `used` bytes of the input were taken and `wrote` bytes of the output written. `long`: the line that goes on after them is too long already.
 pub struct Fed {

@@ -1,0 +1,140 @@
+-- Laws of a line's head, one for each way that the code takes.
+-- Assumes nothing.
+use Prim.Native.Nat.{ℕ, _+_, _*_, _-_, _≤_, _<_}
+use native.Mathlib.Nat.{le-of-eq}
+use native.Mathlib.Omega.{arith}
+use mathlib.Core.Path.{_≡_, refl, sym, ap, ap₂, _∙_}
+use mathlib.Core.Bool.{Bool, true, false}
+use mathlib.Core.List.{List}
+use mathlib.Core.Option.{Option, none, some}
+use lib.ListN.{length, take, drop, length-drop, List·getD-eq-default}
+use lib.Seq.{take-all}
+use borrow.Author.Tests.{le-leb, lt-leb, eq-eqb, ne-eqb, lt-ltb, le-ltb}
+use Rattle.luck_text.specs.Bytes.{if_then_else_, byteAt, isDigit}
+use Rattle.luck_answer.specs.Answer.{Answer, refused}
+use Rattle.luck_linter.specs.Checks.{Check, answer}
+use Rattle.luck_line.specs.Line.{twoDigits, capturesIn, replacementWith, plainCheck, checkBy, checkOf, bodyAnswer, lineAnswer}
+
+pub part-whole : (l : List ℕ) (a : ℕ) → take (length l - a) (drop a l) ≡ drop a l
+part-whole l a = take-all (length l - a) (drop a l) (le-of-eq (length-drop a l))
+
+-- ---- The columns of captures
+
+module _ (tens units : ℕ) where
+  pub tens-no-digit : isDigit tens ≡ false → none ≡ twoDigits tens units
+  unfolding twoDigits if_then_else_
+  tens-no-digit e = rw e
+
+  module _ (e : isDigit tens ≡ true) where
+    pub units-no-digit : isDigit units ≡ false → none ≡ twoDigits tens units
+    unfolding twoDigits if_then_else_
+    units-no-digit f = rw (e, f)
+
+    module _ (f : isDigit units ≡ true) where
+      pub below-ten : (tens - 48) * 10 + (units - 48) < 10 → none ≡ twoDigits tens units
+      unfolding twoDigits if_then_else_
+      below-ten h = rw (e, f, lt-leb 10 ((tens - 48) * 10 + (units - 48)) h)
+
+      pub above-32 : 10 ≤ (tens - 48) * 10 + (units - 48) → 32 < (tens - 48) * 10 + (units - 48) → none ≡ twoDigits tens units
+      unfolding twoDigits if_then_else_
+      above-32 l h = rw (e, f, le-leb 10 ((tens - 48) * 10 + (units - 48)) l, lt-leb ((tens - 48) * 10 + (units - 48)) 32 h)
+
+      pub counted : 10 ≤ (tens - 48) * 10 + (units - 48) → (tens - 48) * 10 + (units - 48) ≤ 32
+          → some (some ((tens - 48) * 10 + (units - 48))) ≡ twoDigits tens units
+      unfolding twoDigits if_then_else_
+      counted l h = rw (e, f, le-leb 10 ((tens - 48) * 10 + (units - 48)) l, le-leb ((tens - 48) * 10 + (units - 48)) 32 h)
+
+  blank-no-digit : tens ≡ 32 → isDigit tens ≡ false
+  unfolding isDigit
+  blank-no-digit e = rw e
+
+  pub blank : tens ≡ 32 → units ≡ 32 → some none ≡ capturesIn tens units
+  unfolding capturesIn if_then_else_
+  blank e f = rw (eq-eqb tens 32 e, eq-eqb units 32 f)
+
+  module _ (e : tens ≡ 32) (f : units ≡ 32 → ⊥) where
+    pub one-digit : isDigit units ≡ true → some (some (units - 48)) ≡ capturesIn tens units
+    unfolding capturesIn if_then_else_
+    one-digit d = rw (eq-eqb tens 32 e, ne-eqb units 32 f, d)
+
+    pub no-digit : isDigit units ≡ false → none ≡ capturesIn tens units
+    unfolding capturesIn if_then_else_
+    no-digit d = rw (eq-eqb tens 32 e, ne-eqb units 32 f, d) (tens-no-digit (blank-no-digit e))
+
+  pub two : (tens ≡ 32 → ⊥) → twoDigits tens units ≡ capturesIn tens units
+  unfolding capturesIn if_then_else_
+  two e = rw (ne-eqb tens 32 e)
+
+-- ---- The kind
+
+module _ (kind tens units : ℕ) where
+  pub of-replacement : kind ≡ 71 → replacementWith (capturesIn tens units) ≡ checkBy kind tens units
+  unfolding checkBy if_then_else_
+  of-replacement e = rw (eq-eqb kind 71 e)
+
+  module _ (e : kind ≡ 71 → ⊥) where
+    pub of-plain : tens ≡ 32 → units ≡ 32 → plainCheck kind ≡ checkBy kind tens units
+    unfolding checkBy if_then_else_
+    of-plain f g = rw (ne-eqb kind 71 e, eq-eqb tens 32 f, eq-eqb units 32 g)
+
+    pub units-not-blank : tens ≡ 32 → (units ≡ 32 → ⊥) → none ≡ checkBy kind tens units
+    unfolding checkBy if_then_else_
+    units-not-blank f g = rw (ne-eqb kind 71 e, eq-eqb tens 32 f, ne-eqb units 32 g)
+
+    pub tens-not-blank : (tens ≡ 32 → ⊥) → none ≡ checkBy kind tens units
+    unfolding checkBy if_then_else_
+    tens-not-blank f = rw (ne-eqb kind 71 e, ne-eqb tens 32 f)
+
+-- an answer by a check that is known to be this one
+pub by-check : (check wanted : Option Check) (version : ℕ) (body : List ℕ) (a : Answer) → a ≡ bodyAnswer check version body → check ≡ wanted → a ≡ bodyAnswer wanted version body
+by-check check wanted version body a e f = e ∙ ap (λ x. bodyAnswer x version body) f
+
+pub misfit : (wanted : Option Check) (version : ℕ) (body : List ℕ) → none ≡ wanted → refused 30 0 ≡ bodyAnswer wanted version body
+unfolding bodyAnswer
+misfit wanted version body e = ap (λ x. bodyAnswer x version body) e
+
+pub checked : (wanted : Option Check) (check : Check) (version : ℕ) (body : List ℕ) → some check ≡ wanted → answer check version body ≡ bodyAnswer wanted version body
+unfolding bodyAnswer
+checked wanted check version body e = ap (λ x. bodyAnswer x version body) e
+
+-- ---- The line
+
+module _ (line : List ℕ) where
+  pub too-long : 4005 < length line → refused 31 0 ≡ lineAnswer line
+  unfolding lineAnswer if_then_else_
+  too-long h = rw (lt-ltb 4005 (length line) h)
+
+  module _ (h : length line ≤ 4005) where
+    by-head : (a : Answer) → a ≡ bodyAnswer (checkOf line) (byteAt line 1 - 48) (drop 5 line) → a ≡ lineAnswer line
+    unfolding lineAnswer if_then_else_
+    by-head a e = e ∙ rw (le-ltb 4005 (length line) h)
+
+    no-version : isDigit (byteAt line 1) ≡ false → none ≡ checkOf line
+    unfolding checkOf if_then_else_
+    no-version e = rw e
+
+    pub not-a-digit : isDigit (byteAt line 1) ≡ false → refused 30 0 ≡ lineAnswer line
+    not-a-digit e = by-head _ (misfit _ _ _ (no-version e))
+
+    no-space : isDigit (byteAt line 1) ≡ true → (byteAt line 4 ≡ 32 → ⊥) → none ≡ checkOf line
+    unfolding checkOf if_then_else_
+    no-space e f = rw (e, ne-eqb (byteAt line 4) 32 f)
+
+    pub not-a-space : isDigit (byteAt line 1) ≡ true → (byteAt line 4 ≡ 32 → ⊥) → refused 30 0 ≡ lineAnswer line
+    not-a-space e f = by-head _ (misfit _ _ _ (no-space e f))
+
+    cut : (d : Bool) → isDigit (byteAt line 1) ≡ d → length line < 5 → refused 30 0 ≡ lineAnswer line
+    cut true e s = not-a-space e (λ g. let z = List·getD-eq-default line 0 {n = 4} (omega arith) in absurd (omega (arith, z, g)))
+    cut false e s = not-a-digit e
+
+    pub too-short : length line < 5 → refused 30 0 ≡ lineAnswer line
+    too-short s = cut (isDigit (byteAt line 1)) refl s
+
+    head : isDigit (byteAt line 1) ≡ true → byteAt line 4 ≡ 32 → checkBy (byteAt line 0) (byteAt line 2) (byteAt line 3) ≡ checkOf line
+    unfolding checkOf if_then_else_
+    head e f = rw (e, eq-eqb (byteAt line 4) 32 f)
+
+    pub whole-head : isDigit (byteAt line 1) ≡ true → byteAt line 4 ≡ 32 → (a : Answer) (version : ℕ) → version ≡ byteAt line 1 - 48
+        → a ≡ bodyAnswer (checkBy (byteAt line 0) (byteAt line 2) (byteAt line 3)) version (take (length line - 5) (drop 5 line)) → a ≡ lineAnswer line
+    whole-head e f a version v w =
+        by-head a (w ∙ ap₂ (λ x y. bodyAnswer (checkBy (byteAt line 0) (byteAt line 2) (byteAt line 3)) x y) v (part-whole line 5) ∙ ap (λ x. bodyAnswer x (byteAt line 1 - 48) (drop 5 line)) (head e f))

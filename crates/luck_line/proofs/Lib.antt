@@ -1,0 +1,3 @@
+pub mod Heads
+pub mod Rows
+pub mod Answers

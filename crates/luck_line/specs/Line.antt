@@ -1,0 +1,83 @@
+-- What a line of the program `bodies` asks for, and what is answered (document 01): kind, version digit, two columns of captures, a space, the body.
+-- Assumes nothing.
+use Prim.Native.Nat.{ℕ, _+_, _*_, _-_}
+use Prim.Native.Char.{code}
+use mathlib.Core.Bool.{Bool, true, false, _&&_}
+use mathlib.Core.List.{List, [], _∷_}
+use mathlib.Core.Option.{Option, none, some}
+use lib.ListN.{length, drop}
+use lib.Dec.{eqb, leb, ltb}
+use Rattle.luck_text.specs.Bytes.{if_then_else_, byteAt, isDigit}
+use Rattle.luck_answer.specs.Answer.{Answer, refused, answerOf}
+use Rattle.luck_linter.specs.Checks.{Check, format, pattern, pack, date, replacement, answer}
+use Rattle.luck_line.specs.declared.line.LineChecked.{LineChecked}
+use Rattle.luck_line.specs.declared.line.LineChecked.the-variants.{TooLong, Misfit, Body}
+
+-- the longest line that is checked, its newline not counted; a longer one is 31
+abbrev pub longest : ℕ
+longest = 4005
+
+abbrev pub isBlank : ℕ → Bool
+isBlank b = eqb b (code " ")
+
+-- the value of a byte that is a digit
+abbrev pub digit : ℕ → ℕ
+digit b = b - code "0"
+
+-- a count of 10 to 32 in two digits; a leading zero does not fit
+unfoldable pub twoDigits : ℕ → ℕ → Option (Option ℕ)
+twoDigits tens units =
+    let count = digit tens * 10 + digit units in
+    if isDigit tens && isDigit units && leb 10 count && leb count 32 then some (some count) else none
+
+-- the captures of a replacement in their two columns, right-justified, blank where their count is not known; `none` where they do not fit
+unfoldable pub capturesIn : ℕ → ℕ → Option (Option ℕ)
+capturesIn tens units =
+    if isBlank tens && isBlank units then some none
+    else if isBlank tens && isDigit units then some (some (digit units))
+    else twoDigits tens units
+
+unfoldable pub replacementWith : Option (Option ℕ) → Option Check
+replacementWith none = none
+replacementWith (some count) = some (replacement count)
+
+-- the other kinds
+unfoldable pub plainCheck : ℕ → Option Check
+plainCheck kind =
+    if eqb kind (code "F") then some format
+    else if eqb kind (code "P") then some pattern
+    else if eqb kind (code "K") then some (pack false)
+    else if eqb kind (code "S") then some (pack true)
+    else if eqb kind (code "D") then some date else none
+
+-- by the kind and the two columns, which are blank but for G
+unfoldable pub checkBy : ℕ → ℕ → ℕ → Option Check
+checkBy kind tens units =
+    if eqb kind (code "G") then replacementWith (capturesIn tens units)
+    else if isBlank tens && isBlank units then plainCheck kind else none
+
+-- by the head; a line of fewer than five bytes has no space at its fifth place, which reads as 0
+unfoldable pub checkOf : List ℕ → Option Check
+checkOf line =
+    if isDigit (byteAt line 1) && isBlank (byteAt line 4) then checkBy (byteAt line 0) (byteAt line 2) (byteAt line 3) else none
+
+-- 30 where the head does not fit; else the check of the body, which gives 25 for a digit that is no version
+unfoldable pub bodyAnswer : Option Check → ℕ → List ℕ → Answer
+bodyAnswer none version body = refused 30 0
+bodyAnswer (some check) version body = answer check version body
+
+-- 31, 30, 25, then the body
+unfoldable pub lineAnswer : List ℕ → Answer
+lineAnswer line =
+    if ltb longest (length line) then refused 31 0 else bodyAnswer (checkOf line) (digit (byteAt line 1)) (drop 5 line)
+
+-- the numbers of these answers
+abbrev pub lineNumbers : List ℕ
+lineNumbers =
+    0 ∷ 1 ∷ 2 ∷ 3 ∷ 4 ∷ 5 ∷ 6 ∷ 7 ∷ 8 ∷ 9 ∷ 10 ∷ 11 ∷ 12 ∷ 13 ∷ 14 ∷ 15 ∷ 16 ∷ 17 ∷ 18 ∷ 19 ∷ 20 ∷ 21 ∷ 22 ∷ 23 ∷ 25 ∷ 30 ∷ 31 ∷ []
+
+-- the code's answers
+abbrev pub lineAnswerOf : LineChecked → Answer
+lineAnswerOf TooLong = refused 31 0
+lineAnswerOf Misfit = refused 30 0
+lineAnswerOf (Body checked) = answerOf checked

@@ -1,0 +1,3 @@
+// A line of the program `bodies`: its head and body, the check that they ask for, and the row that it gives.
+pub mod line;
+pub mod row;

@@ -1,0 +1,78 @@
+// A row of the listing.
+ghost use mathlib.Core.Path.{_≡_};
+ghost use Prim.Native.Nat.{_+_, _%_, _<_};
+ghost use Rattle.luck_answer.specs.Answer.{answerOf};
+ghost use Rattle.luck_line.specs.Line.{lineAnswerOf};
+ghost use Rattle.luck_line.specs.Row.{column, row, answerRow};
+use crate::line::LineChecked;
+use luck_answer::format_pattern;
+use luck_answer::format_pattern::Checked;
+
+// The digit at a power of ten, or a blank in the place of a leading zero.
+fn column(power: u64, n: u64) -> u8
+    requires { ⌜ 0 < power ⌝ }
+    ensures { λ r. ⌜ r ≡ column power n ⌝ }
+{
+    if n < power {
+        return 32;
+    }
+    48 + (n / power % 10) as u8
+}
+
+fn last_column(n: u64) -> u8
+    ensures { λ r. ⌜ r ≡ 48 + n % 10 ⌝ }
+{
+    48 + (n % 10) as u8
+}
+
+// Number, offset and count in 4, 7 and 7 columns.
+fn row_of(number: u64, offset: u64, count: u64) -> [u8; 19]
+    ensures { λ r. ⌜ r ≡ row number offset count ⌝ }
+{
+    [
+        column(1000, number),
+        column(100, number),
+        column(10, number),
+        last_column(number),
+        column(1000000, offset),
+        column(100000, offset),
+        column(10000, offset),
+        column(1000, offset),
+        column(100, offset),
+        column(10, offset),
+        last_column(offset),
+        column(1000000, count),
+        column(100000, count),
+        column(10000, count),
+        column(1000, count),
+        column(100, count),
+        column(10, count),
+        last_column(count),
+        10,
+    ]
+}
+
+fn of_body(checked: Checked) -> [u8; 19]
+    ensures { λ r. ⌜ r ≡ answerRow (answerOf checked) ⌝ }
+{
+    match checked {
+        Checked::Accepted(count) => row_of(0, 0, count as u64),
+        Checked::Refused(fault) => row_of(
+            format_pattern::number(fault) as u64,
+            format_pattern::offset(fault) as u64,
+            0,
+        ),
+        Checked::NotUtf8(place) => row_of(23, place as u64, 0),
+        Checked::UnknownVersion => row_of(25, 0, 0),
+    }
+}
+
+pub fn of_line(checked: LineChecked) -> [u8; 19]
+    ensures { λ r. ⌜ r ≡ answerRow (lineAnswerOf checked) ⌝ }
+{
+    match checked {
+        LineChecked::TooLong => row_of(31, 0, 0),
+        LineChecked::Misfit => row_of(30, 0, 0),
+        LineChecked::Body(answer) => of_body(answer),
+    }
+}
