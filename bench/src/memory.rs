@@ -14,6 +14,8 @@ use crate::texts;
 const ARCHIVE: &str = env!("LUCK_ARCHIVE");
 /// What the library may call. None of them allocates.
 const COPYING: [&str; 4] = ["memcmp", "memcpy", "memmove", "memset"];
+/// In KiB.
+const NOISE: u64 = 512;
 const INPUTS: [usize; 3] = [10 * MB, 100 * MB, 1000 * MB];
 
 pub fn run(plan: &Plan, tables: &mut Tables, program: &Path) -> Result<(), String> {
@@ -23,15 +25,23 @@ pub fn run(plan: &Plan, tables: &mut Tables, program: &Path) -> Result<(), Strin
         return Ok(());
     }
     let lines = texts::lines(MB);
+    let mut residents = Vec::new();
     for size in INPUTS.map(|size| plan.size(size)) {
         let resident = resident(program, &lines, size)?;
+        residents.push(resident);
         tables.memory(
             &format!("bodies, {} of lines by a pipe", size_name(size)),
             "most ever resident",
             &format!("{resident} KiB"),
         );
     }
-    Ok(())
+    if is_constant(&residents) { Ok(()) } else { Err(format!("bodies: its memory is not constant: {residents:?} KiB")) }
+}
+
+/// Whether no figure is much above another: which pages of the system's own library are read differs from run to run.
+fn is_constant(residents: &[u64]) -> bool {
+    let (least, greatest) = (residents.iter().min(), residents.iter().max());
+    least.zip(greatest).is_some_and(|(least, greatest)| greatest - least <= NOISE)
 }
 
 /// All that the archive leaves to others. Another function than those that copy is an error.
@@ -118,6 +128,11 @@ mod tests {
     fn a_name_that_another_object_defines_is_no_call_of_others() {
         let symbols = "\na.o:\n0000000000000000 T one\n                 U two\n                 U memcpy\n\nb.o:\n0000000000000010 T two\n                 w malloc\n";
         assert_eq!(undefined(symbols).into_iter().collect::<Vec<_>>(), ["malloc", "memcpy"]);
+    }
+
+    #[test]
+    fn memory_that_grows_is_not_constant() {
+        assert!(is_constant(&[1244, 1220, 1216]) && !is_constant(&[1244, 1344, 2244]) && !is_constant(&[]));
     }
 
     #[test]
