@@ -254,6 +254,7 @@ static answer call(const question *q, uint8_t *output)
     holds(a.number < NUMBERS, "the number is one of luck.h", &a);
     calls[q->asked]++;
     numbers[q->asked][a.number]++;
+    kinds[a.kind <= KINDS ? a.kind : 0]++;
     return a;
 }
 
@@ -411,7 +412,6 @@ static void trial_holds(const question *q, const answer *a)
 {
     holds((a->number == 25) == !is_version(q->version), "25 where the version is none of 1 to 6, and only there", a);
     holds(a->number == 29 ? a->kind >= 1 && a->kind <= KINDS : a->kind == 0, "a kind of 1 to 10 with 29, and only with it", a);
-    kinds[a->kind]++;
     holds(a->number != 26 || a->written == q->room, "26 only where the output is full", a);
     holds(a->steps <= q->budget, "the steps are at most the budget", a);
     holds(a->number != 27 || a->steps == q->budget, "27 only where the budget is spent", a);
