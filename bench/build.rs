@@ -7,12 +7,15 @@ use std::path::Path;
 const LIBRARY_VARIABLE: &str = "LUCK_LIB";
 const DEFAULT_LIBRARY: &str = "target/staticlib";
 const LIBRARIES: [&str; 2] = ["luck", "luck_token_exports"];
+/// Says to the program which archive it is linked with.
+const ARCHIVE_VARIABLE: &str = "LUCK_ARCHIVE";
 
 fn main() {
     println!("cargo:rerun-if-env-changed={LIBRARY_VARIABLE}");
     let root = Path::new(&env::var("CARGO_MANIFEST_DIR").unwrap()).join("..");
     let folder = root.join(env::var(LIBRARY_VARIABLE).unwrap_or_else(|_| DEFAULT_LIBRARY.to_owned()));
     println!("cargo:rustc-link-search=native={}", folder.display());
+    println!("cargo:rustc-env={ARCHIVE_VARIABLE}={}", folder.join("libluck.a").display());
     for library in LIBRARIES {
         let archive = folder.join(format!("lib{library}.a"));
         println!("cargo:rerun-if-changed={}", archive.display());

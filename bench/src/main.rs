@@ -1,14 +1,20 @@
-//! Times the proved library beside what it is to keep up with, and prints two tables. `README.md` says how to read them.
+//! Times the proved library beside what it is to keep up with, and prints tables of times, memory and stack. `README.md` says how to read
+//! them.
 
 mod checks;
 mod clock;
 mod decode;
+mod deep;
+mod depths;
 mod document;
+mod functions;
 mod lines;
 mod listing;
 mod measure;
+mod memory;
 mod plan;
 mod real_lua;
+mod stack;
 mod table;
 mod texts;
 mod trial;
@@ -43,8 +49,8 @@ use std::thread;
 use plan::Plan;
 use table::Tables;
 
-const USAGE: &str = "usage: bench --write | bench [--quick] [utf8] [checks] [decode] [trial] [bodies]";
-const PARTS: [&str; 5] = ["utf8", "checks", "decode", "trial", "bodies"];
+const USAGE: &str = "usage: bench --write | bench [--quick] [utf8] [checks] [decode] [trial] [bodies] [memory] [stack]";
+const PARTS: [&str; 7] = ["utf8", "checks", "decode", "trial", "bodies", "memory", "stack"];
 
 struct Options {
     plan: Plan,
@@ -102,13 +108,16 @@ fn run(Options { plan, is_written, parts }: &Options) -> Result<(), String> {
 /// `folder` is for files that live as long as the measuring.
 fn measured(plan: &Plan, parts: &[String], root: &Path, folder: &Path) -> Result<Tables, String> {
     let mut tables = Tables::default();
+    let program = root.join("target/bin/bodies");
     for part in parts {
         match part.as_str() {
             "utf8" => utf8::run(plan, &mut tables)?,
             "checks" => checks::run(plan, &mut tables)?,
             "decode" => decode::run(plan, &mut tables)?,
             "trial" => trial::run(plan, &mut tables, folder)?,
-            _ => lines::run(plan, &mut tables, &root.join("target/bin/bodies"), folder)?,
+            "bodies" => lines::run(plan, &mut tables, &program, folder)?,
+            "memory" => memory::run(plan, &mut tables, &program)?,
+            _ => depths::run(plan, &mut tables)?,
         }
     }
     Ok(tables)

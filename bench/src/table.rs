@@ -1,4 +1,4 @@
-//! What was measured, as two tables that are read as text and as Markdown.
+//! What was measured, as tables that are read as text and as Markdown.
 
 use std::fmt::{self, Write as _};
 
@@ -8,6 +8,8 @@ use crate::measure::{Measured, Spread, TIMES};
 pub struct Tables {
     rows: Vec<Vec<String>>,
     growths: Vec<Vec<String>>,
+    memory: Vec<Vec<String>>,
+    stack: Vec<Vec<String>>,
     notes: Vec<String>,
 }
 
@@ -28,6 +30,17 @@ impl Tables {
         let last = growth.last().map(|spread| format!("{:.2} to {:.2}", spread.least, spread.greatest));
         row.extend(last);
         self.growths.push(row);
+    }
+
+    /// `measure` says what the value is of the workload.
+    pub fn memory(&mut self, workload: &str, measure: &str, value: &str) {
+        eprintln!("{workload}: {measure}: {value}");
+        self.memory.push([workload, measure, value].map(str::to_owned).to_vec());
+    }
+
+    pub fn stack(&mut self, function: &str, input: &str, bytes: usize) {
+        eprintln!("{function} on {input}: {bytes} bytes of stack");
+        self.stack.push(vec![function.to_owned(), input.to_owned(), bytes.to_string()]);
     }
 
     /// What was not measured, and why.
@@ -53,17 +66,42 @@ fn time_name(seconds: f64) -> String {
     format!("{value:.decimals$} {unit}")
 }
 
+const TIMES_ABOUT: &str = "The time of a call, and the library's over the baseline's in the same round.";
+const GROWTH_ABOUT: &str = "The library's time for a byte (or a step) at 1, 2, 4 and 8 times the text over that at 1.";
+const MEMORY_ABOUT: &str =
+    "The library allocates nothing, and what `bodies` has in memory does not depend on the input's length.";
+const STACK_ABOUT: &str = "The greatest stack of a call, in bytes: that of an empty function is not counted.";
+
 impl fmt::Display for Tables {
     fn fmt(&self, f: &mut fmt::Formatter<'_>) -> fmt::Result {
-        let head = ["workload", "beside", "library", "baseline", "ratio", "least", "greatest"].map(str::to_owned);
-        writeln!(f, "{}", lined_up(&head, &self.rows))?;
-        writeln!(f, "Growth of the library: the time for a byte (or a step) at 1, 2, 4 and 8 times the text over that at 1.\n")?;
-        let mut head = vec!["workload".to_owned(), "text at 1 x".to_owned()];
-        head.extend(TIMES.map(|times| format!("{times} x")));
-        head.push("rounds at the last".to_owned());
-        write!(f, "{}", lined_up(&head, &self.growths))?;
-        self.notes.iter().try_for_each(|note| write!(f, "\n{note}\n"))
+        let times = TIMES.map(|times| format!("{times} x"));
+        let [one, two, four, eight] = times.each_ref().map(String::as_str);
+        let sections = [
+            section(
+                "Times",
+                TIMES_ABOUT,
+                &["workload", "beside", "library", "baseline", "ratio", "least", "greatest"],
+                &self.rows,
+            ),
+            section(
+                "Growth",
+                GROWTH_ABOUT,
+                &["workload", "text at 1 x", one, two, four, eight, "rounds at the last"],
+                &self.growths,
+            ),
+            section("Memory", MEMORY_ABOUT, &["workload", "measure", "value"], &self.memory),
+            section("Stack", STACK_ABOUT, &["function", "input", "bytes"], &self.stack),
+        ];
+        let parts: Vec<String> =
+            sections.into_iter().flatten().chain(self.notes.iter().map(|note| format!("{note}\n"))).collect();
+        write!(f, "{}", parts.join("\n"))
     }
+}
+
+/// Nothing where nothing was measured.
+fn section(title: &str, about: &str, head: &[&str], rows: &[Vec<String>]) -> Option<String> {
+    let head: Vec<String> = head.iter().map(|&name| name.to_owned()).collect();
+    (!rows.is_empty()).then(|| format!("## {title}\n\n{about}\n\n{}", lined_up(&head, rows)))
 }
 
 /// The columns of words, which come first.
@@ -93,4 +131,21 @@ fn lined_up(head: &[String], rows: &[Vec<String>]) -> String {
     line(&rule);
     rows.iter().for_each(|row| line(row));
     table
+}
+
+#[cfg(test)]
+mod tests {
+    use super::*;
+
+    #[test]
+    fn only_what_was_measured_is_shown() {
+        let mut tables = Tables::default();
+        tables.memory("bodies, 10 MB", "most ever resident", "1204 KiB");
+        tables.stack("luck_check_date", "`%`, version 4", 120);
+        tables.note("A note.".to_owned());
+        let table = "| function        | input          | bytes |\n| --------------- | -------------- | ----: |\n";
+        let shown = tables.to_string();
+        assert!(shown.starts_with("## Memory\n\n") && !shown.contains("## Times") && !shown.contains("## Growth"));
+        assert!(shown.contains(table) && shown.ends_with("|   120 |\n\nA note.\n"), "{shown}");
+    }
 }
