@@ -1,18 +1,7 @@
 // Replays stored answers, one file for each kind, and prints how many ran and how many differ. Each line is compared with
 // what `stdout` holds, so a file that is short of records is noticed as well as an answer that differs.
-mod bytes;
-mod checks;
-mod literal_checks;
-mod literals;
-mod question;
-mod reader;
-mod real_lua;
-mod replay;
-mod report;
-mod tally;
-mod trials;
-
-use crate::replay::Format;
+use stored_answers::replay;
+use stored_answers::replay::Format;
 
 fn main() {
     luck_answers();

@@ -1,0 +1,64 @@
+// Stored answers of the checks. A record: a question, and the answer: its number in one byte, the offset in two, the two characters in
+// four each, and the count in two.
+ghost use Prim.Native.Nat.{_+_, _≤_};
+ghost use lib.ListN.{length};
+ghost use Rattle.stored_answers.specs.Places.{AnswerLies, Passes};
+use crate::bytes;
+use crate::question;
+use crate::question::Asked;
+use crate::question::Question;
+use crate::tally::Turn;
+use luck_structs::answer;
+use luck_structs::answer::Answer;
+
+pub fn turn(file: &[u8], at: usize) -> Turn
+    requires { ⌜ at ≤ length (now file) ⌝ }
+    ensures { λ r. ⌜ Passes at (length (now (file .entry))) r ⌝ }
+{
+    let asked = question::question_at(file, at, 13);
+    match asked {
+        Asked::Whole(question) => Turn::Record {
+            agrees: agrees(file, question),
+            next: question.next,
+        },
+        Asked::Bad => Turn::Bad,
+    }
+}
+
+fn agrees(file: &[u8], question: Question) -> bool
+    requires { ⌜ AnswerLies 13 (length (now file)) question ⌝ }
+{
+    if !question::is_kind(question.kind) {
+        return false;
+    }
+    let given = answer::of_checked(question::ask(file, question, question.version));
+    is_same(given, answer_at(file, question.answer))
+}
+
+pub fn answer_at(file: &[u8], at: usize) -> Answer
+    requires { ⌜ at + 13 ≤ length (now file) ⌝ }
+{
+    Answer {
+        number: bytes::byte_at(file, at),
+        first: bytes::word_at(file, at + 3),
+        second: bytes::word_at(file, at + 7),
+        offset: bytes::short_at(file, at + 1),
+        count: bytes::short_at(file, at + 11),
+    }
+}
+
+pub fn is_same(given: Answer, stored: Answer) -> bool {
+    if given.number != stored.number {
+        return false;
+    }
+    if given.offset != stored.offset {
+        return false;
+    }
+    if given.first != stored.first {
+        return false;
+    }
+    if given.second != stored.second {
+        return false;
+    }
+    given.count == stored.count
+}

@@ -1,0 +1,12 @@
+// Stored answers, replayed: a file is read record by record, the library is asked, and the records that differ are counted.
+mod bytes;
+mod checks;
+mod literal_checks;
+mod literals;
+mod question;
+mod reader;
+mod real_lua;
+pub mod replay;
+mod report;
+mod tally;
+mod trials;

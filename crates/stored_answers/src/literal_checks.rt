@@ -1,0 +1,97 @@
+// Stored answers of the check of a literal. A record: a question, the literal's start in four bytes, whether it was skipped in one, an answer
+// as the checks have it, whether there is a span in one, and its start and end in four each.
+ghost use Prim.Native.Nat.{_+_, _≤_};
+ghost use lib.ListN.{length};
+ghost use Rattle.stored_answers.specs.Places.{AnswerLies, Passes};
+use crate::bytes;
+use crate::checks;
+use crate::question;
+use crate::question::Asked;
+use crate::question::Question;
+use crate::tally::Turn;
+use luck_linter::rules::format_string;
+use luck_linter::rules::format_string::LiteralChecked;
+use luck_structs::answer::Answer;
+use luck_structs::literal;
+use luck_structs::literal::Literal;
+
+pub fn turn(file: &[u8], at: usize) -> Turn
+    requires { ⌜ at ≤ length (now file) ⌝ }
+    ensures { λ r. ⌜ Passes at (length (now (file .entry))) r ⌝ }
+{
+    let asked = question::question_at(file, at, 27);
+    match asked {
+        Asked::Whole(question) => Turn::Record {
+            agrees: agrees(file, question),
+            next: question.next,
+        },
+        Asked::Bad => Turn::Bad,
+    }
+}
+
+fn agrees(file: &[u8], question: Question) -> bool
+    requires { ⌜ AnswerLies 27 (length (now file)) question ⌝ }
+{
+    let start = bytes::word_at(file, question.answer);
+    let given = literal::of_checked(ask(file, question, start));
+    is_same(given, answer_at(file, question.answer + 4))
+}
+
+fn ask(file: &[u8], question: Question, start: u32) -> LiteralChecked
+    requires { ⌜ AnswerLies 27 (length (now file)) question ⌝ }
+{
+    let from = question.text;
+    let to = question.answer;
+    let captures = question.captures;
+    format_string::check_literal(
+        question.kind,
+        question.version,
+        captures,
+        start,
+        &file[from..to],
+    )
+}
+
+// A skipped literal has an answer of zeros, and one without a span a span of zeros.
+fn answer_at(file: &[u8], at: usize) -> Literal
+    requires { ⌜ at + 23 ≤ length (now file) ⌝ }
+{
+    let answer = checks::answer_at(file, at + 1);
+    Literal {
+        number: answer.number,
+        first: answer.first,
+        second: answer.second,
+        skipped: bytes::byte_at(file, at) != 0,
+        spanned: bytes::byte_at(file, at + 14) != 0,
+        start: bytes::word_at(file, at + 15),
+        end: bytes::word_at(file, at + 19),
+        offset: answer.offset,
+        count: answer.count,
+    }
+}
+
+fn answer_of(literal: Literal) -> Answer {
+    Answer {
+        number: literal.number,
+        first: literal.first,
+        second: literal.second,
+        offset: literal.offset,
+        count: literal.count,
+    }
+}
+
+fn is_same(given: Literal, stored: Literal) -> bool {
+    if given.skipped != stored.skipped {
+        return false;
+    }
+    if given.spanned != stored.spanned {
+        return false;
+    }
+    if given.start != stored.start {
+        return false;
+    }
+    if given.end != stored.end {
+        return false;
+    }
+    checks::is_same(answer_of(given), answer_of(stored))
+}

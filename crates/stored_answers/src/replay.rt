@@ -1,0 +1,68 @@
+// The replay of a stored file, record by record.
+ghost use Prim.Native.Nat.{_≤_};
+ghost use lib.ListN.{length};
+ghost use Rattle.stored_answers.specs.Places.{Passes};
+use crate::checks;
+use crate::literal_checks;
+use crate::literals;
+use crate::reader;
+use crate::reader::Loaded;
+use crate::real_lua;
+use crate::report;
+use crate::tally;
+use crate::tally::Replay;
+use crate::tally::Turn;
+use crate::trials;
+
+// What the records of a file are.
+pub enum Format {
+    Literals,
+    Checks,
+    LiteralChecks,
+    RealLua,
+    Trials,
+}
+
+pub fn run(name: &[u8], path: &[u8], format: Format) {
+    let mut file = [0u8; 262144];
+    run_in(name, path, format, &mut file);
+}
+
+// With a buffer that is larger than the file.
+fn run_in(name: &[u8], path: &[u8], format: Format, file: &mut [u8]) {
+    let loaded = reader::load(path, file);
+    match loaded {
+        Loaded::Length(n) => report::replayed(name, replay(format, &file[0..n])),
+        _ => report::not_read(name, loaded),
+    }
+}
+
+fn replay(format: Format, file: &[u8]) -> Replay {
+    let mut tally = tally::none();
+    let mut at = 0;
+    while at < file.len() {
+        let passed = turn(format, file, at);
+        match passed {
+            Turn::Bad => return Replay::BadFile,
+            Turn::Record { agrees, next } => {
+                tally = tally::count(tally, agrees);
+                at = next;
+            }
+        }
+    }
+    Replay::Whole(tally)
+}
+
+// The record that stands at a place.
+fn turn(format: Format, file: &[u8], at: usize) -> Turn
+    requires { ⌜ at ≤ length (now file) ⌝ }
+    ensures { λ r. ⌜ Passes at (length (now (file .entry))) r ⌝ }
+{
+    match format {
+        Format::Literals => literals::turn(file, at),
+        Format::Checks => checks::turn(file, at),
+        Format::LiteralChecks => literal_checks::turn(file, at),
+        Format::RealLua => real_lua::turn(file, at),
+        Format::Trials => trials::turn(file, at),
+    }
+}
