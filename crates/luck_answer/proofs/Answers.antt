@@ -10,7 +10,7 @@ use lib.Dec.{eqb}
 use lib.ListN.{length}
 use Rattle.luck_text.specs.Bytes.{among}
 use Rattle.luck_token.specs.Version.{isVersion}
-use Rattle.luck_text.specs.Utf8.{sequence, sequenceAt, noneIllFormed, illFormed}
+use Rattle.luck_utf8.specs.Utf8.{sequence, sequenceAt, noneIllFormed, illFormed}
 use Rattle.luck_text.specs.Walk.{Turn, stop, goes, walk, walkFrom}
 use Rattle.luck_text.proofs.Cases.{by-test}
 use Rattle.luck_answer.specs.Answer.{Answer, afterVersion, afterUtf8, checkText}

@@ -9,7 +9,7 @@ use lib.ListN.{length, drop, List·getD-eq-default}
 use lib.Dec.{eqb}
 use borrow.Author.Tests.{lt-ltb, le-ltb, le-leb, lt-leb, eq-eqb, ne-eqb}
 use Rattle.luck_text.specs.Bytes.{if_then_else_, byteAt, ascii, among, isDigit, run}
-use Rattle.luck_text.specs.Utf8.{charAt}
+use Rattle.luck_utf8.specs.Utf8.{charAt}
 use Rattle.luck_token.specs.Version.{rulesOf}
 use Rattle.luck_text.specs.Walk.{Turn, stop, goes, walkFrom}
 use Rattle.luck_token.specs.declared.version.Rules.{Rules}

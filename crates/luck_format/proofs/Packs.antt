@@ -12,7 +12,7 @@ use lib.ListN.{length, drop}
 use lib.Dec.{eqb}
 use borrow.Author.Tests.{lt-ltb, le-ltb, le-leb, lt-leb, eq-eqb, ne-eqb}
 use Rattle.luck_text.specs.Bytes.{if_then_else_, byteAt, part, ascii, among, isDigit, run, numeral}
-use Rattle.luck_text.specs.Utf8.{charAt}
+use Rattle.luck_utf8.specs.Utf8.{charAt}
 use Rattle.luck_text.specs.Scan.{most}
 use Rattle.luck_text.specs.Walk.{Turn, walkFrom}
 use Rattle.luck_text.specs.Walk.Turn.{stop, goes}

@@ -10,7 +10,7 @@ use mathlib.Core.Option.{Option, none, some}
 use lib.ListN.{length, drop}
 use lib.Dec.{eqb, leb, ltb}
 use Rattle.luck_text.specs.Bytes.{if_then_else_, byteAt, part, ascii, between, among, isDigit, run, numeral}
-use Rattle.luck_text.specs.Utf8.{charAt}
+use Rattle.luck_utf8.specs.Utf8.{charAt}
 use Rattle.luck_text.specs.Walk.{Turn, stop, goes, walkFrom}
 use Rattle.luck_answer.specs.Answer.{Answer, accepted, refused, refusedWith, checkText}
 

@@ -1,7 +1,7 @@
 // The check of a format of string.pack and string.packsize.
 ghost use mathlib.Core.Path.{_≡_};
 ghost use Prim.Native.Nat.{ℕ, _+_, _-_, _<_, _≤_};
-ghost use Rattle.luck_text.specs.Utf8.{charAt};
+ghost use Rattle.luck_utf8.specs.Utf8.{charAt};
 ghost use lib.ListN.{length};
 ghost use Rattle.luck_answer.specs.Answer.{walkedOf, answerOf};
 ghost use Rattle.luck_format.specs.Pack.{getnumlimit, fixedString, numberedOption, getoption, luckSize, state, isPowerOfTwo, isMisaligned, aligned as alignedOf, alignToNext, packTurn, packWalk, checkPack};
@@ -13,7 +13,7 @@ use luck_answer::format_pattern::Text;
 use luck_answer::format_pattern::Walked;
 use luck_text::scan;
 use luck_text::scan::Class;
-use luck_text::utf8;
+use luck_utf8::utf8;
 
 pub enum PackOption {
     // a number of this many bytes

@@ -9,7 +9,7 @@ use mathlib.Core.Option.{Option, none, some}
 use lib.ListN.{length, drop, length-take}
 use Rattle.luck_text.specs.Bytes.{part, among}
 use Rattle.luck_token.specs.Version.{rulesOf}
-use Rattle.luck_text.specs.Utf8.{illFormed}
+use Rattle.luck_utf8.specs.Utf8.{illFormed}
 use Rattle.luck_token.specs.declared.version.Rules.{Rules}
 use Rattle.luck_text.proofs.Cases.{by-test}
 use Rattle.luck_answer.specs.Answer.{Answer}

@@ -13,7 +13,7 @@ use lib.Dec.{eqb}
 use borrow.Author.Tests.{eq-eqb, ne-eqb}
 use Rattle.luck_text.specs.Bytes.{if_then_else_, byteAt, part}
 use Rattle.luck_token.specs.Version.{isVersion, rulesOf}
-use Rattle.luck_text.specs.Utf8.{illFormed}
+use Rattle.luck_utf8.specs.Utf8.{illFormed}
 use Rattle.luck_token.specs.Literal.{isShort, shortStringBody}
 use Rattle.luck_token.specs.Span.{u32-max, spanOf, shiftedBy}
 use Rattle.luck_token.specs.declared.version.Rules.{Rules}

@@ -9,7 +9,7 @@ use lib.ListN.{length}
 use lib.Dec.{eqb}
 use Rattle.luck_text.specs.Bytes.{if_then_else_, part, isDigit, ascii, among}
 use Rattle.luck_token.specs.Version.{isVersion, rulesOf}
-use Rattle.luck_text.specs.Utf8.{illFormed, charAt}
+use Rattle.luck_utf8.specs.Utf8.{illFormed, charAt}
 use Rattle.luck_token.specs.Literal.{isShort}
 use Rattle.luck_token.specs.Span.{spanOf}
 use Rattle.luck_token.specs.declared.version.Rules.{Rules}

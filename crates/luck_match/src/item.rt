@@ -30,7 +30,7 @@ pub enum Item {
 }
 
 // The closing `]` of the set whose `[` stands at `opening`: one member is taken after `[` or `[^`, even a `]`, and `%` takes one more byte.
-fn set_end(pattern: &[u8], opening: usize) -> Found
+pub fn set_end(pattern: &[u8], opening: usize) -> Found
     requires { ⌜ opening < length (now pattern) ⌝ }
     ensures { λ r. ⌜ (foundOf r ≡ closingOf (setEnd (now (pattern .entry)) opening)) × ClosesIn r opening (length (now (pattern .entry))) ⌝ }
 {

@@ -7,6 +7,7 @@ ghost use Rattle.luck_match.specs.Class.{matchClass};
 ghost use Rattle.luck_match.specs.Match.{newLevel, startCapture, endCapture, captureToClose, longestFirst, expand, match};
 ghost use Rattle.luck_match.specs.Inner.{AreMasks, SingleIn, singleOf, captureOf, capturesOf, positional, Sound};
 ghost use Rattle.luck_matcher.specs.Inner.{outcomeOf, AttemptIn};
+use crate::ahead;
 use luck_match::capture;
 use luck_match::capture::Captures;
 use luck_match::capture::Close;
@@ -380,7 +381,8 @@ pub fn do_match(
     }
 }
 
-// max_expand's second loop: the rest of the pattern at new levels, from `longest` down to `shortest`.
+// max_expand's second loop: the rest of the pattern at new levels, from `longest` down to `shortest`. Where what it tests first fails, no level is
+// opened.
 fn max_expand(
     masks: &[u8; 256],
     subject: &[u8],
@@ -403,30 +405,40 @@ fn max_expand(
         × AttemptIn r (now (kept .exit)) (length (now (subject .entry)))
         ⌝ }
 {
+    let mut is_open = false;
+    let count = captures.count;
+    if 0 < count {
+        is_open = captures.pairs[count - 1].len == capture::UNFINISHED;
+    }
+    let first = ahead::first_test(pattern, next, level, is_open);
     let mut place = longest;
     let mut steps = used;
     loop {
-        let r = do_match(
-            masks,
-            subject,
-            pattern,
-            next,
-            place,
-            level,
-            budget,
-            steps,
-            captures,
-            kept,
-        );
-        if r.number != 1 {
-            return Attempt {
-                end: r.end,
-                steps: r.steps,
-                number: r.number,
-                more: r.more,
-            };
+        if ahead::fails_at(masks, subject, pattern, first, place, budget, steps) {
+            steps += first.steps;
+        } else {
+            let r = do_match(
+                masks,
+                subject,
+                pattern,
+                next,
+                place,
+                level,
+                budget,
+                steps,
+                captures,
+                kept,
+            );
+            if r.number != 1 {
+                return Attempt {
+                    end: r.end,
+                    steps: r.steps,
+                    number: r.number,
+                    more: r.more,
+                };
+            }
+            steps = r.steps;
         }
-        steps = r.steps;
         if place <= shortest {
             return Attempt {
                 end: 0,
@@ -439,7 +451,8 @@ fn max_expand(
     }
 }
 
-// min_expand: the rest of the pattern at new levels, after no byte, after the byte that fitted, and after each further one that fits.
+// min_expand: the rest of the pattern at new levels, after no byte, after the byte that fitted, and after each further one that fits; no level is opened
+// where what it tests first fails.
 fn min_expand(
     masks: &[u8; 256],
     subject: &[u8],
@@ -463,50 +476,46 @@ fn min_expand(
         ⌝ }
 {
     let next = end + 1;
-    let first = do_match(
-        masks,
-        subject,
-        pattern,
-        next,
-        place,
-        level,
-        budget,
-        used,
-        captures,
-        kept,
-    );
-    if first.number != 1 {
-        return Attempt {
-            end: first.end,
-            steps: first.steps,
-            number: first.number,
-            more: first.more,
-        };
+    let mut is_open = false;
+    let count = captures.count;
+    if 0 < count {
+        is_open = captures.pairs[count - 1].len == capture::UNFINISHED;
     }
-    let mut tried = place + 1;
-    let mut steps = first.steps;
+    let first = ahead::first_test(pattern, next, level, is_open);
+    // the latest place whose byte was tested
+    let mut tested = place;
+    let mut tried = place;
+    let mut steps = used;
     loop {
-        let r = do_match(
-            masks,
-            subject,
-            pattern,
-            next,
-            tried,
-            level,
-            budget,
-            steps,
-            captures,
-            kept,
-        );
-        if r.number != 1 {
-            return Attempt {
-                end: r.end,
-                steps: r.steps,
-                number: r.number,
-                more: r.more,
-            };
+        if ahead::fails_at(masks, subject, pattern, first, tried, budget, steps) {
+            steps += first.steps;
+        } else {
+            let r = do_match(
+                masks,
+                subject,
+                pattern,
+                next,
+                tried,
+                level,
+                budget,
+                steps,
+                captures,
+                kept,
+            );
+            if r.number != 1 {
+                return Attempt {
+                    end: r.end,
+                    steps: r.steps,
+                    number: r.number,
+                    more: r.more,
+                };
+            }
+            steps = r.steps;
         }
-        steps = r.steps;
+        if tried == tested {
+            tried += 1;
+            continue;
+        }
         if budget <= steps {
             return Attempt {
                 end: 0,
@@ -524,6 +533,7 @@ fn min_expand(
                 more: 0,
             };
         }
+        tested = tried;
         tried += 1;
     }
 }

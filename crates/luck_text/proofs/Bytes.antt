@@ -6,14 +6,14 @@ use native.Mathlib.Numerals.{add-one}
 use native.Mathlib.Omega.{arith}
 use mathlib.Core.Path.{_≡_, refl, sym, ap, subst, _∙_}
 use mathlib.Core.Logic.{_⊎_, inl, inr, ⊎-elim}
-use mathlib.Core.Bool.{Bool, true, false, _&&_, _||_}
+use mathlib.Core.Bool.{Bool, true, false, not, _&&_, _||_, true≢false}
 use mathlib.Core.List.{List, [], _∷_}
 use lib.ListN.{length, drop, length-drop, drop-of-length-le}
-use lib.Seq.{drop-cons, take-nil}
-use lib.Dec.{leb}
+use lib.Seq.{drop-cons, take-nil, getD-take, getD-drop, length-take-le}
+use lib.Dec.{leb, eqb}
 use borrow.Author.Tests.{le-leb, lt-leb, leb-true, leb-false, eq-eqb, ne-eqb}
 use Rattle.luck_text.specs.Bytes.{if_then_else_, byteAt, part, between, among, isDigit, isXdigit, run, digitValue, numeralFrom, numeral}
-use Rattle.luck_text.specs.Scan.{most, grown}
+use Rattle.luck_text.specs.Scan.{neither, most, grown}
 use Rattle.luck_text.proofs.Cases.{by-test, order, and-right, second-false}
 
 -- ---- A range
@@ -43,6 +43,42 @@ module _ (b : ℕ) (set : List ℕ) (p : ℕ) where
   pub among-end : length set ≤ p → false ≡ among b (drop p set)
   unfolding among
   among-end h = rw (drop-of-length-le set h)
+
+-- ---- A part
+
+-- what holds of each byte of a part holds of the text's from place to place
+pub all-of-part : (P : ℕ → Type 0) (text : List ℕ) (p size : ℕ) → p + size ≤ length text
+    → ((k : ℕ) → k < length (part text p (p + size)) → P (byteAt (part text p (p + size)) k)) → (k : ℕ) → p ≤ k → k < p + size → P (byteAt text k)
+all-of-part P text p size h f k l m =
+    let n = length-take-le (p + size - p) (drop p text) (omega (arith, length-drop p text)) in
+    let q : p + (k - p) ≡ k = omega arith in
+    subst P (getD-take (p + size - p) (drop p text) (k - p) 0 (omega arith) ∙ getD-drop p text (k - p) 0 ∙ ap (byteAt text) q) (f (k - p) (omega arith))
+
+-- ---- Neither of two bytes
+
+module _ (a b x : ℕ) where
+  pub is-first : x ≡ a → false ≡ neither a b x
+  unfolding neither
+  is-first e = rw (eq-eqb x a e)
+
+  pub not-first : (x ≡ a → ⊥) → not (eqb x b) ≡ neither a b x
+  unfolding neither
+  not-first h = rw (ne-eqb x a h)
+
+  pub neither-of : (x ≡ a → ⊥) → (x ≡ b → ⊥) → neither a b x ≡ true
+  unfolding neither
+  neither-of h g = rw (ne-eqb x a h, ne-eqb x b g)
+
+  pub neither-first : neither a b x ≡ true → x ≡ a → ⊥
+  neither-first h e = true≢false (sym h ∙ sym (is-first e))
+
+  pub neither-second : neither a b x ≡ true → x ≡ b → ⊥
+  unfolding neither
+  neither-second h e = true≢false (sym h ∙ go (eqb x a) (eq-eqb x b e))
+    where
+      go : (t : Bool) → eqb x b ≡ true → not (t || eqb x b) ≡ false
+      go true f = refl
+      go false f = rw f
 
 -- ---- A run
 

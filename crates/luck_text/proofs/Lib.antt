@@ -1,5 +1,4 @@
 pub mod Cases
 pub mod Walk
 pub mod Bytes
-pub mod Sequences
 pub mod Among

@@ -3,7 +3,7 @@
 use Prim.Native.Nat.{ℕ, suc, _+_, _*_, _-_, _%_, _≤_, _<_, min, max}
 use native.Mathlib.Omega.{arith}
 use mathlib.Core.Path.{_≡_, refl, sym, ap, ap₂, subst, _∙_}
-use mathlib.Core.Bool.{Bool, true, false, not, _&&_, _||_}
+use mathlib.Core.Bool.{Bool, true, false, not, _&&_, _||_, true≢false}
 use mathlib.Core.List.{List, [], _∷_}
 use lib.ListN.{length, take, drop, length-drop, List·getD-eq-default}
 use lib.Seq.{take-all}
@@ -11,7 +11,7 @@ use lib.Dec.{eqb, leb, ltb}
 use borrow.Author.Tests.{lt-ltb, le-ltb, le-leb, lt-leb, eq-eqb, ne-eqb, leb-true, leb-false}
 use mathlib.Core.Logic.{inl, inr, ⊎-elim}
 use Rattle.luck_text.specs.Bytes.{if_then_else_, byteAt, between, part, isDigit, isXdigit, run, digitValue, numeralFrom, numeral}
-use Rattle.luck_text.specs.Utf8.{isChar, utf8Bytes}
+use Rattle.luck_utf8.specs.Utf8.{isChar, utf8Bytes}
 use Rattle.luck_token.specs.Whitespace.{lineBreak, stripLineBreak}
 use Rattle.luck_text.specs.Scan.{most}
 use Rattle.luck_token.specs.Literal.{
@@ -35,13 +35,14 @@ use Rattle.luck_token.specs.Literal.{
   piece,
   malformed,
 }
-use Rattle.luck_token.specs.Inner.{IsPiece}
+use Rattle.luck_token.specs.Inner.{IsPiece, plain}
 use Rattle.luck_token.specs.declared.version.Rules.{Rules}
 use Rattle.luck_token.specs.declared.string.Piece.{Piece as Found}
 use Rattle.luck_token.specs.declared.string.Escape.{Escape}
 use Rattle.luck_token.specs.declared.string.Escape.the-variants.{Decimal}
 use Rattle.luck_text.proofs.Cases.{by-test, if-true, if-false, and-left, and-right, both-true, first-false, second-false, order}
-use Rattle.luck_text.proofs.Bytes.{within, below, above, digit-more, digit-end, hex-value}
+use Rattle.luck_text.proofs.Bytes.{within, below, above, neither-first, neither-second, digit-more, digit-end, hex-value}
+use Rattle.luck_token.proofs.Breaks.{no-break}
 
 -- ---- The text
 
@@ -247,6 +248,14 @@ module _ (rules : Rules) (body : List ℕ) (p : ℕ) where
   unfolding pieceAt
   piece-short long e = rw e
 
+-- a plain byte is a piece by itself
+pub plain-is : (long : Bool) (rules : Rules) (body : List ℕ) (p : ℕ) → plain long (byteAt body p) ≡ true → piece (byteAt body p ∷ []) 1 ≡ pieceAt long rules body p
+plain-is true rules body p e =
+    let lfcr = rules .«lfcr_line_break» in
+    long-byte lfcr body p (sym (no-break lfcr body p (neither-first 13 10 (byteAt body p) e) (neither-second 13 10 (byteAt body p) e)))
+    ∙ piece-long rules body p true refl
+plain-is false rules body p e = short-byte rules body p (neither-first 92 92 (byteAt body p) e) ∙ piece-short rules body p false refl
+
 -- a piece that was found is the one that is wanted
 pub as-piece : {body : List ℕ} {p : ℕ} {found : Found} (v w : Piece) → v ≡ w → IsPiece v body p found → IsPiece w body p found
 as-piece v w e t = record { is = t .is ∙ e; inside = t .inside }
@@ -285,3 +294,17 @@ module _ (raw : List ℕ) (level : ℕ) (e : level ≡ equals raw 1) where
   brackets h o c =
       sym (by-level ∙ if-true _ _ _ (both-true (leb (level + 2 + (level + 2)) (length raw) && opens) closes
       (both-true (leb (level + 2 + (level + 2)) (length raw)) opens (le-leb _ _ h) o) c))
+
+-- a quoted text has no opening bracket
+pub quoted : (raw : List ℕ) → isShort raw ≡ true → 0 ≡ bracketWidth raw
+unfolding isShort bracketAt
+quoted raw e =
+    let first = byteAt raw 0 in
+    let quote = eqb first 34 || eqb first 39 in
+    let is-quote : quote ≡ true = and-right (leb 2 (length raw)) quote (and-left (leb 2 (length raw) && quote) (eqb (byteAt raw (length raw - 1)) first) e) in
+    let level = equals raw 1 in
+    let here = eqb first 91 in
+    let count = eqb (equals raw (0 + 1)) level in
+    no-opening raw level refl
+    (first-false (here && count) (eqb (byteAt raw (0 + 1 + level)) 91)
+    (first-false here count (ne-eqb first 91 (λ b. true≢false (sym is-quote ∙ ap (λ (x : ℕ). eqb x 34 || eqb x 39) b)))))

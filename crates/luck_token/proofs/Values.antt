@@ -1,24 +1,24 @@
 -- Laws of a literal's value and of decoding it: a turn of the walk, what is written so far, and the outcomes.
 -- Assumes nothing.
 use Prim.Native.Nat.{ℕ, zero, suc, _+_, _-_, _≤_, _<_}
-use native.Mathlib.Nat.{le-refl}
+use native.Mathlib.Nat.{le-refl, add-zero}
 use native.Mathlib.Numerals.{add-one}
 use native.Mathlib.Omega.{arith}
-use mathlib.Core.Path.{_≡_, refl, sym, ap, subst, _∙_}
+use mathlib.Core.Path.{_≡_, refl, sym, ap, ap₂, subst, _∙_}
 use mathlib.Core.Logic.{⊎-elim}
 use mathlib.Core.Bool.{Bool, true, false, _&&_}
 use mathlib.Core.List.{List, [], _∷_, _++_, append-assoc, append-nil}
 use mathlib.Core.Option.{Option, none, some}
-use lib.ListN.{length, drop, set, length-append, length-set}
-use lib.Seq.{drop-cons, set-append-seam, sets}
-use lib.Dec.{leb, ltb}
+use lib.ListN.{length, take, drop, set, length-append, length-drop}
+use lib.Seq.{take-all, take-suc, drop-length, drop-cons, getD-drop, length-take-le, take-at, set-append-seam, sets, length-sets}
+use lib.Dec.{eqb, leb, ltb}
 use borrow.Author.Tests.{lt-ltb, le-ltb, le-leb, lt-leb, leb-true, ltb-true}
-use Rattle.luck_text.specs.Bytes.{if_then_else_, part}
+use Rattle.luck_text.specs.Bytes.{if_then_else_, byteAt, part}
 use Rattle.luck_text.specs.Walk.{Turn, walkFrom}
 use Rattle.luck_text.specs.Walk.Turn.{stop, goes}
 use Rattle.luck_token.specs.Version.{isVersion, rulesOf}
-use Rattle.luck_text.specs.Utf8.{utf8Bytes, illFormed}
-use Rattle.luck_token.specs.Whitespace.{stripLineBreak}
+use Rattle.luck_utf8.specs.Utf8.{utf8Bytes, illFormed}
+use Rattle.luck_token.specs.Whitespace.{lineBreak, stripLineBreak}
 use Rattle.luck_token.specs.Literal.{
   Piece,
   piece,
@@ -28,6 +28,7 @@ use Rattle.luck_token.specs.Literal.{
   bracketWidth,
   equals,
   longStringBody,
+  longPiece,
   pieceAt,
   taken,
   wholeValue,
@@ -35,12 +36,14 @@ use Rattle.luck_token.specs.Literal.{
   literalValue,
 }
 use Rattle.luck_token.specs.Decode.{Outcome, value, refused, withRoom, ofText, decodeString, answerOf, numbered, outputOf}
-use Rattle.luck_token.specs.Inner.{IsPiece, sizeOf, HasRoom}
+use Rattle.luck_token.specs.Inner.{IsPiece, Lies, sizeOf, plain, stores, Within, Written}
 use Rattle.luck_token.specs.declared.version.Rules.{Rules}
 use Rattle.luck_token.specs.declared.string.Piece.{Piece as Found}
+use Rattle.luck_token.specs.declared.string.Size.{Size}
 use Rattle.luck_token.specs.declared.string.Size.the-variants as size
 use Rattle.luck_token.specs.declared.string.Decoded.the-variants as decoded
 use Rattle.luck_text.proofs.Cases.{by-test, if-true, if-false, and-left}
+use Rattle.luck_token.proofs.Literals.{plain-is, quoted}
 use Rattle.luck_text.proofs.Walk.{walk-end, walk-stop, walk-goes, walk-related}
 
 -- ---- The walk over the pieces
@@ -54,16 +57,6 @@ four-bytes c =
   where
     Few : List ℕ → Type 0
     Few l = length l ≤ 4
-
--- a value that there is room for
-pub room-for : (o : Option (List ℕ)) (output : List ℕ) → HasRoom o output → (v : List ℕ) × (o ≡ some v) × (length v ≤ length output)
-room-for none output r = absurd r
-room-for (some v) output r = (v, refl, r)
-
--- the bytes so far are no more than the value has
-abbrev NoLonger : List ℕ → Option (List ℕ) → Type 0
-NoLonger before none = Unit {0}
-NoLonger before (some v) = length before ≤ length v
 
 module _ (long : Bool) (rules : Rules) (body : List ℕ) where
   abbrev pub item : ℕ → List ℕ → Turn (List ℕ) (Option (List ℕ))
@@ -89,40 +82,58 @@ module _ (long : Bool) (rules : Rules) (body : List ℕ) where
     unfolding wholeValue
     done l = sym (walk-end item wholeValue (length body) p before l) ∙ h
 
-  goes-longer : (before : List ℕ) (q : Piece) (w : ℕ) (after : List ℕ) → taken before q ≡ goes w after → length before ≤ length after
-  unfolding taken
-  goes-longer before malformed w after e = let z : _≡_ {A = ℕ} 0 1 = cc in absurd (omega arith)
-  goes-longer before (piece bytes width) w after e = let q : before ++ bytes ≡ after = cc in omega (arith, ap length q, length-append before bytes)
+  -- a plain byte is a piece
+  pub plain-piece : (p : ℕ) → plain long (byteAt body p) ≡ true → piece (byteAt body p ∷ []) 1 ≡ pieceAt long rules body p
+  plain-piece p e = plain-is long rules body p e
 
-  stops-none : (before : List ℕ) (q : Piece) (a : Option (List ℕ)) → taken before q ≡ stop a → a ≡ none
-  unfolding taken
-  stops-none before malformed a e = cc
-  stops-none before (piece bytes width) a e = let z : _≡_ {A = ℕ} 0 1 = cc in absurd (omega arith)
+  module _ (whole : Option (List ℕ)) where
+    passed : (k p : ℕ) (before : List ℕ) → on p before ≡ whole → p + k ≤ length body → ((j : ℕ) → p ≤ j → j < p + k → plain long (byteAt body j) ≡ true)
+        → on (p + k) (before ++ take k (drop p body)) ≡ whole
+    passed zero p before h i f = rw (add-zero p, append-nil before) h
+    passed (suc k) p before h i f =
+        let one = turn p before whole h (byteAt body p ∷ []) 1 (plain-piece p (f p (le-refl p) (omega arith))) (omega arith) (omega arith) in
+        let e : p + 1 + k ≡ p + suc k = omega arith in
+        let more : on (p + 1 + k) ((before ++ (byteAt body p ∷ [])) ++ take k (drop (p + 1) body)) ≡ whole = passed k (p + 1) (before ++ (byteAt body p ∷ [])) one (omega arith) (λ j l m. f j (omega arith) (omega arith)) in
+        let split : (before ++ (byteAt body p ∷ [])) ++ take k (drop (p + 1) body) ≡ before ++ take (suc k) (drop p body) =
+        rw (append-assoc, drop-cons body p 0 (omega arith), add-one p) in
+        ap₂ on (sym e) (sym split) ∙ more
 
-  through : (before after : List ℕ) (a : Option (List ℕ)) → length before ≤ length after → NoLonger after a → NoLonger before a
-  through before after none h r = tt
-  through before after (some v) h r = omega arith
-
-  ended : (p : ℕ) (before : List ℕ) → NoLonger before (wholeValue p before)
-  unfolding wholeValue
-  ended p before = le-refl (length before)
-
-  pub no-longer : (p : ℕ) (before v : List ℕ) → on p before ≡ some v → length before ≤ length v
-  no-longer p before v e =
-      subst (NoLonger before) e
-      (walk-related item wholeValue NoLonger (λ q s a f. subst (NoLonger s) (sym (stops-none s (pieceAt long rules body q) a f)) tt)
-      (λ q s w s′ a f r. through s s′ a (goes-longer s (pieceAt long rules body q) w s′ f) r) ended (length body) p before)
-
-  -- where there is room for the whole value, there is room for one more piece
-  pub room-left : (p : ℕ) (before bytes : List ℕ) (output : List ℕ) → on p (before ++ bytes) ≡ valueOf long rules body → HasRoom (valueOf long rules body) output
-      → length before + length bytes ≤ length output
-  room-left p before bytes output e r =
-      let v = room-for (valueOf long rules body) output r in
-      omega (arith, length-append before bytes, no-longer p (before ++ bytes) (v .0) (e ∙ v .1), v .2)
+    -- plain bytes stand for themselves
+    pub plain-part : (p end : ℕ) (before : List ℕ) → on p before ≡ whole → p ≤ end → end ≤ length body → ((j : ℕ) → p ≤ j → j < end → plain long (byteAt body j) ≡ true)
+        → on end (before ++ part body p end) ≡ whole
+    plain-part p end before h l i f =
+        let e : p + (end - p) ≡ end = omega arith in
+        subst (λ (q : ℕ). on q (before ++ part body p end) ≡ whole) e (passed (end - p) p before h (omega arith) (λ j m n. f j m (omega arith)))
 
   -- what is known of a piece that was found, once its shape is
   pub seen : {p : ℕ} {found : Found} (shape : Found) → found ≡ shape → IsPiece (pieceAt long rules body p) body p found → IsPiece (pieceAt long rules body p) body p shape
   seen {p} shape e t = subst (λ (x : Found). IsPiece (pieceAt long rules body p) body p x) e t
+
+  -- a body of plain bytes is its value
+  pub plain-value : ((k : ℕ) → k < length body → plain long (byteAt body k) ≡ true) → some body ≡ valueOf long rules body
+  plain-value f =
+      let all = plain-part (valueOf long rules body) 0 (length body) [] start (omega arith) (le-refl (length body)) (λ j l m. f j m) in
+      let e : part body 0 (length body) ≡ body = take-all (length body - 0) body (omega arith) in
+      ap some (sym e) ∙ done (length body) (part body 0 (length body)) (valueOf long rules body) all (le-refl (length body))
+
+-- a long string is never malformed
+module _ (rules : Rules) (body : List ℕ) where
+  abbrev There : List ℕ → Option (List ℕ) → Type 0
+  There before o = o ≡ none → ⊥
+
+  no-stop : (p : ℕ) (before : List ℕ) (a : Option (List ℕ)) → taken before (pieceAt true rules body p) ≡ stop a → There before a
+  unfolding taken pieceAt longPiece
+  no-stop p before a =
+      by-test (λ (q : Piece). taken before q ≡ stop a → There before a) (eqb (lineBreak (rules .«lfcr_line_break») body p) 0) _ _
+      (λ _ e _. let z : _≡_ {A = ℕ} 0 1 = cc in omega arith) (λ _ e _. let z : _≡_ {A = ℕ} 0 1 = cc in omega arith)
+
+  value-there : (p : ℕ) (before : List ℕ) → There before (wholeValue p before)
+  unfolding wholeValue
+  value-there p before e = let z : _≡_ {A = ℕ} 0 1 = cc in omega arith
+
+  pub long-value : (long : Bool) → long ≡ true → valueOf long rules body ≡ none → ⊥
+  unfolding valueOf
+  long-value long t = rw t (walk-related (item true rules body) wholeValue There no-stop (λ p s w s′ a e r. r) value-there (length body) 0 [])
 
 -- ---- The output
 
@@ -136,6 +147,107 @@ stored (b ∷ bytes) before output output₀ at e q h =
     rw (e, q, drop-cons output₀ (length before) 0 (omega arith), set-append-seam, longer, append-assoc) in
     stored bytes (before ++ (b ∷ [])) (set output at b) output₀ (suc at) (omega arith) one (omega arith)
     ∙ ap (λ (l : List ℕ). l ++ drop (length l) output₀) (append-assoc before (b ∷ []) bytes)
+
+-- bytes that are stored where they fit, in an output that holds the bytes so far, if they fit
+pub record Holds (before output₀ output : List ℕ) : Type 0 where
+  pub same : length output ≡ length output₀
+  pub front : length before ≤ length output₀ → output ≡ before ++ drop (length before) output₀
+
+module _ (output : List ℕ) (p : ℕ) (bytes : List ℕ) where
+  pub stores-fit : p + length bytes ≤ length output → sets output p bytes ≡ stores output p bytes
+  unfolding stores
+  stores-fit h = sym (if-true _ _ _ (le-leb (p + length bytes) (length output) h))
+
+  pub stores-none : length output < p + length bytes → output ≡ stores output p bytes
+  unfolding stores
+  stores-none h = sym (if-false _ _ _ (lt-leb (p + length bytes) (length output) h))
+
+  pub length-stores : length (stores output p bytes) ≡ length output
+  unfolding stores
+  length-stores = by-test (λ (l : List ℕ). length l ≡ length output) (leb (p + length bytes) (length output)) _ _ (λ _. length-sets output p bytes) (λ _. refl)
+
+  pub holds-more : (before output₀ new : List ℕ) → p ≡ length before → new ≡ stores output p bytes → Holds before output₀ output → Holds (before ++ bytes) output₀ new
+  holds-more before output₀ new e n h =
+      record {
+        same = ap length n ∙ length-stores ∙ h .same;
+        front =
+            λ m. let s = length-append before bytes in
+            n ∙ sym (stores-fit (omega (arith, h .same))) ∙ stored bytes before output output₀ p e (h .front (omega arith)) (omega arith);
+      }
+
+  pub stores-nothing : bytes ≡ [] → output ≡ stores output p bytes
+  unfolding stores
+  stores-nothing e = rw e (by-test (λ (l : List ℕ). output ≡ l) (leb (p + 0) (length output)) output output (λ _. refl) (λ _. refl))
+
+-- bytes of a text, copied one by one
+sets-last : (bytes output : List ℕ) (p b : ℕ) → set (sets output p bytes) (p + length bytes) b ≡ sets output p (bytes ++ (b ∷ []))
+sets-last [] output p b = rw (add-zero p)
+sets-last (x ∷ bytes) output p b =
+    let e : p + suc (length bytes) ≡ suc p + length bytes = omega arith in
+    ap (λ (q : ℕ). set (sets output p (x ∷ bytes)) q b) e ∙ sets-last bytes (set output p x) (suc p) b
+
+pub part-none : (text output : List ℕ) (from p : ℕ) → output ≡ sets output p (part text from from)
+part-none text output from p = let e : from - from ≡ 0 = omega arith in rw e
+
+module _ (text : List ℕ) (from i : ℕ) (l : from ≤ i) where
+  pub part-length : i ≤ length text → length (part text from i) ≡ i - from
+  part-length h = length-take-le (i - from) (drop from text) (omega (arith, length-drop from text))
+
+  part-more : i < length text → part text from (i + 1) ≡ part text from i ++ (byteAt text i ∷ [])
+  part-more h =
+      let n : i + 1 - from ≡ suc (i - from) = omega arith in
+      let q : from + (i - from) ≡ i = omega arith in
+      ap (λ (k : ℕ). take k (drop from text)) n ∙ take-suc (drop from text) (i - from) 0 (omega (arith, length-drop from text))
+      ∙ ap (λ (b : ℕ). part text from i ++ (b ∷ [])) (getD-drop from text (i - from) 0 ∙ ap (byteAt text) q)
+
+  pub copied : (output output₀ : List ℕ) (p : ℕ) → i < length text → output ≡ sets output₀ p (part text from i)
+      → set output (p + (i - from)) (byteAt text i) ≡ sets output₀ p (part text from (i + 1))
+  copied output output₀ p h e =
+      let n = part-length (omega arith) in
+      rw (e, part-more h, ← sets-last (part text from i) output₀ p (byteAt text i), n)
+
+-- ---- The loop: the bytes so far, of which the output holds all if they fit, and from which the walk on gives the whole value
+
+abbrev pub Kept : Bool → Rules → List ℕ → List ℕ → List ℕ → ℕ → ℕ → Type 0
+Kept long rules body output₀ output at n =
+    (before : List ℕ) × (n ≡ length before) × (n ≤ at) × (at ≤ length body) × (on long rules body at before ≡ valueOf long rules body) × Holds before output₀ output
+
+module _ (long : Bool) (rules : Rules) (body output₀ output : List ℕ) (at n : ℕ) (kept : Kept long rules body output₀ output at n) where
+  kept-bytes : (bytes new : List ℕ) (end : ℕ) → length bytes ≤ end - at → at ≤ end → end ≤ length body → on long rules body end (kept .0 ++ bytes) ≡ valueOf long rules body
+      → new ≡ stores output n bytes → Kept long rules body output₀ new end (n + length bytes)
+  kept-bytes bytes new end s l i o w = (
+    kept .0 ++ bytes,
+    omega (arith, length-append (kept .0) bytes),
+    omega arith,
+    i,
+    o,
+    holds-more output n bytes (kept .0) output₀ new (kept .1) w (kept .5),
+  )
+
+  pub kept-piece : (bytes new : List ℕ) (width m : ℕ) → m ≡ length bytes → piece bytes width ≡ pieceAt long rules body at → Lies 1 width at (length body) → m ≤ width
+      → new ≡ stores output n bytes → Kept long rules body output₀ new (at + width) (n + m)
+  kept-piece bytes new width m q e l s w =
+      subst (λ (k : ℕ). Kept long rules body output₀ new (at + width) (n + k)) (sym q)
+      (kept-bytes bytes new (at + width) (omega arith) (omega arith) (l .1) (turn long rules body at (kept .0) (valueOf long rules body) (kept .4) bytes width e (l .0) (l .1)) w)
+
+  pub kept-part : (new : List ℕ) (end : ℕ) → at ≤ end → end ≤ length body → ((j : ℕ) → at ≤ j → j < end → plain long (byteAt body j) ≡ true)
+      → new ≡ stores output n (part body at end) → Kept long rules body output₀ new end (n + (end - at))
+  kept-part new end l i f w =
+      let s = part-length body at end l i in
+      subst (λ (k : ℕ). Kept long rules body output₀ new end (n + k)) s
+      (kept-bytes (part body at end) new end (omega arith) l i (plain-part long rules body (valueOf long rules body) at end (kept .0) (kept .4) l i f) w)
+
+  pub kept-end : length body ≤ at
+      → (size.Length n ≡ sizeOf (valueOf long rules body)) × (Within (size.Length n) (length body) × Written (valueOf long rules body) output₀ output)
+  kept-end l =
+      let e = done long rules body at (kept .0) (valueOf long rules body) (kept .4) l in
+      (ap size.Length (kept .1) ∙ ap sizeOf e, (omega (arith, kept .2, kept .3), subst (λ (o : Option (List ℕ)). Written o output₀ output) e (kept .5 .front)))
+
+  pub kept-bad : malformed ≡ pieceAt long rules body at → at < length body
+      → (size.Malformed ≡ sizeOf (valueOf long rules body)) × (Within size.Malformed (length body) × Written (valueOf long rules body) output₀ output)
+  kept-bad q l =
+      let e = bad long rules body at (kept .0) (valueOf long rules body) (kept .4) q l in
+      (ap sizeOf e, (tt, subst (λ (o : Option (List ℕ)). Written o output₀ output) e tt))
 
 pub written : (o : Option (List ℕ)) (before output₀ : List ℕ) → some before ≡ o → length before ≤ length output₀
     → before ++ drop (length before) output₀ ≡ outputOf (withRoom (length output₀) o) output₀
@@ -152,6 +264,14 @@ pub has-size : (o : Option (List ℕ)) (n : ℕ) → size.Length n ≡ sizeOf o 
 has-size none n e = let z : _≡_ {A = ℕ} 0 1 = cc in absurd (omega arith)
 has-size (some v) n e = (v, refl, cc)
 
+-- a body stands at its own front
+pub whole : (body : List ℕ) → Written (some body) body body
+whole body l = rw (drop-length body, append-nil body)
+
+-- a value that is no longer than its body has room where the body has
+pub in-room : (n : ℕ) (found : Size) → found ≡ size.Length n → {len room : ℕ} → Within found len → len ≤ room → n ≤ room
+in-room n found e {len} w l = let h : Within (size.Length n) len = subst (λ (x : Size). Within x len) e w in omega arith
+
 module _ (o : Option (List ℕ)) (output : List ℕ) where
   pub undecodable : o ≡ none → (numbered decoded.Undecodable ≡ answerOf (withRoom (length output) o)) × (output ≡ outputOf (withRoom (length output) o) output)
   unfolding numbered answerOf withRoom outputOf
@@ -164,8 +284,18 @@ module _ (o : Option (List ℕ)) (output : List ℕ) where
         let t = lt-leb (length (h .0)) (length output) (omega (arith, h .2)) in
         (rw (h .1, t), rw (h .1, t))
 
-    pub room : n ≤ length output → HasRoom o output
-    room l = rw (h .1) (omega (arith, h .2))
+    pub copied-value : (buffer₀ buffer : List ℕ) → Written o buffer₀ buffer → n ≤ length buffer₀ → n ≤ length output
+        → sets output 0 (part buffer 0 n) ≡ outputOf (withRoom (length output) o) output
+    copied-value buffer₀ buffer w l m =
+        let v = h .0 in
+        let f : Written (some v) buffer₀ buffer = subst (λ (x : Option (List ℕ)). Written x buffer₀ buffer) (h .1) w in
+        let e : part buffer 0 n ≡ v = rw (f (omega (arith, h .2))) (take-at v (drop (length v) buffer₀) (n - 0) (omega (arith, h .2))) in
+        ap (sets output 0) e ∙ stored v [] output output 0 refl refl (omega (arith, h .2)) ∙ written o v output (sym (h .1)) (omega (arith, h .2))
+
+    pub written-value : (new : List ℕ) → Written o output new → n ≤ length output → new ≡ outputOf (withRoom (length output) o) output
+    written-value new w m =
+        let f : Written (some (h .0)) output new = subst (λ (x : Option (List ℕ)). Written x output new) (h .1) w in
+        f (omega (arith, h .2)) ∙ written o (h .0) output (sym (h .1)) (omega (arith, h .2))
 
     pub fits : n ≤ length output → numbered (decoded.Value n) ≡ answerOf (withRoom (length output) o)
     unfolding numbered answerOf withRoom if_then_else_
@@ -193,9 +323,9 @@ module _ (rules : Rules) (raw : List ℕ) where
       ap (λ (w : ℕ). valueOf true rules (stripLineBreak (rules .«lfcr_line_break») (part raw w (length raw - w)))) e
       ∙ sym (if-true _ _ _ (lt-ltb 0 (bracketWidth raw) (omega arith)))
 
-  pub short-literal : bracketWidth raw ≤ 0 → isShort raw ≡ true → valueOf false rules (part raw 1 (length raw - 1)) ≡ literalValue rules raw
+  pub short-literal : isShort raw ≡ true → valueOf false rules (part raw 1 (length raw - 1)) ≡ literalValue rules raw
   unfolding literalValue
-  short-literal h e = sym (if-false _ _ _ (le-ltb 0 (bracketWidth raw) h) ∙ if-true _ _ _ e)
+  short-literal e = sym (if-false _ _ _ (le-ltb 0 (bracketWidth raw) (omega (arith, quoted raw e))) ∙ if-true _ _ _ e)
 
   pub no-literal : bracketWidth raw ≤ 0 → isShort raw ≡ false → literalValue rules raw ≡ none
   unfolding literalValue

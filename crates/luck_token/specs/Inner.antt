@@ -2,10 +2,16 @@
 -- Assumes nothing.
 use Prim.Native.Nat.{ℕ, _+_, _<_, _≤_}
 use mathlib.Core.Path.{_≡_}
-use mathlib.Core.List.{List, [], _∷_}
+use mathlib.Core.Bool.{Bool, true, false}
+use mathlib.Core.List.{List, [], _∷_, _++_}
 use mathlib.Core.Option.{Option, none, some}
-use lib.ListN.{length}
-use Rattle.luck_text.specs.Utf8.{utf8Bytes}
+use Prim.Native.Char.{code}
+use lib.ListN.{length, drop}
+use lib.Seq.{sets}
+use lib.Dec.{leb}
+use Rattle.luck_text.specs.Bytes.{if_then_else_}
+use Rattle.luck_text.specs.Scan.{neither}
+use Rattle.luck_utf8.specs.Utf8.{utf8Bytes}
 use Rattle.luck_token.specs.Literal.{Piece, piece, malformed}
 use Rattle.luck_token.specs.declared.string.Piece.{Piece as Found}
 use Rattle.luck_token.specs.declared.string.Piece.the-variants.{Byte, Character, Nothing, Malformed}
@@ -38,7 +44,21 @@ abbrev pub sizeOf : Option (List ℕ) → Size
 sizeOf none = size.Malformed
 sizeOf (some bytes) = size.Length (length bytes)
 
--- there is a value, and room for it
-abbrev pub HasRoom : Option (List ℕ) → List ℕ → Type 0
-HasRoom none output = ⊥
-HasRoom (some bytes) output = length bytes ≤ length output
+-- a byte of a long or a short string that is a piece by itself: no line break or backslash begins with it
+abbrev pub plain : Bool → ℕ → Bool
+plain true b = neither (code "\r") (code "\n") b
+plain false b = neither (code "\\") (code "\\") b
+
+-- the output with these bytes at a place, where they fit
+unfoldable pub stores : List ℕ → ℕ → List ℕ → List ℕ
+stores output p bytes = if leb (p + length bytes) (length output) then sets output p bytes else output
+
+-- a value has no more bytes than its body
+abbrev pub Within : Size → ℕ → Type 0
+Within (size.Length n) len = n ≤ len
+Within size.Malformed len = Unit {0}
+
+-- a value that fits stands at the front of the output, and behind it what was there
+abbrev pub Written : Option (List ℕ) → List ℕ → List ℕ → Type 0
+Written none old new = Unit {0}
+Written (some bytes) old new = length bytes ≤ length old → new ≡ bytes ++ drop (length bytes) old

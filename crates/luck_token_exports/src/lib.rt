@@ -5,19 +5,19 @@ ghost use lib.ListN.{length};
 ghost use Rattle.luck_text.specs.Bytes.{isLuaWhitespace};
 ghost use Rattle.luck_token.specs.Literal.{shortStringBody};
 ghost use Rattle.luck_token.specs.Span.{spanOf, shiftedBy};
-ghost use Rattle.luck_text.specs.Utf8.{illFormed, charAt};
+ghost use Rattle.luck_utf8.specs.Utf8.{illFormed, charAt};
 ghost use Rattle.luck_token.specs.Version.{rulesOf};
 ghost use Rattle.luck_token.specs.Whitespace.{stripLineBreak};
 ghost use Rattle.luck_token_exports.specs.Answers.{placeOr, bodyOf};
-use luck_text::utf8;
-use luck_text::utf8::Char;
-use luck_text::utf8::Utf8;
 use luck_token::span::Span;
 use luck_token::string;
 use luck_token::string::ShortString;
 use luck_token::version;
 use luck_token::version::Rules;
 use luck_token::whitespace;
+use luck_utf8::utf8;
+use luck_utf8::utf8::Char;
+use luck_utf8::utf8::Utf8;
 
 #[no_mangle]
 pub extern "C" fn luck_token_rules(version: u32) -> Rules

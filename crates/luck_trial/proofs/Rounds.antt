@@ -18,13 +18,12 @@ use Rattle.luck_pattern.specs.Items.{Item, items}
 use Rattle.luck_token.specs.Version.{isVersion}
 use Rattle.luck_pattern.specs.Replacement.{pieces}
 use Rattle.luck_match.specs.Class.{matchClass}
-use Rattle.luck_match.specs.Match.{Outcome, matched, failed, stopped, newLevel, match}
+use Rattle.luck_match.specs.Match.{Outcome, matched, failed, stopped, match}
 use Rattle.luck_trial.specs.Replace.{Wrote, append, addPieces}
 use Rattle.luck_trial.specs.Gsub.{Answer, answer, andWrote, Rounds, Writer, endsAgain, copyByte, copyRest, round, anchoredRound, roundsFrom, rounds, strGsub, writerOf, gsub}
-use Rattle.luck_match.specs.Inner.{pairsOf, capturesOf, capturesIn, Sound}
+use Rattle.luck_match.specs.Inner.{capturesIn}
 use Rattle.luck_matcher.specs.Inner.{outcomeBy, outcomeOf}
 use Rattle.luck_trial.specs.Inner.{wroteOf, WroteAs, Reported, writerBy}
-use Rattle.luck_match.specs.declared.capture.Captures.{Captures}
 use Rattle.luck_matcher.specs.declared.matcher.Attempt.{Attempt}
 use Rattle.luck_trial.specs.declared.replace.Wrote.{Wrote as Written}
 use Rattle.luck_trial.proofs.Runs.{WroteFine, append-fine}
@@ -77,15 +76,6 @@ module _ (inClass : ℕ → ℕ → Bool) (sub : List ℕ) (budget room : ℕ) (
         (λ v low high s last out n. enough (budget - u) (suc (budget - v)) s last out n v (omega arith) (omega arith))
 
 -- ---- An attempt of the code
-
--- a new level below none is the first
-pub first-level : (sub : List ℕ) (budget : ℕ) (is : List Item) (s u : ℕ) (captures : Captures) → captures .count ≡ 0 → (o : Outcome)
-    → o ≡ newLevel 0 u (λ m. match matchClass sub budget is s m (capturesOf captures) u) → o ≡ match matchClass sub budget is s 1 [] u
-unfolding newLevel if_then_else_ pairsOf
-first-level sub budget is s u captures z o e = e ∙ ap (λ (n : ℕ). match matchClass sub budget is s 1 (pairsOf n (captures .pairs)) u) z
-
-pub none-sound : (s : ℕ) (captures : Captures) → captures .count ≡ 0 → Sound s captures
-none-sound s captures z = record { few = omega arith; each = λ i h. absurd (omega arith) }
 
 module _ (r : Attempt) (kept : List ℕ) where
   pub is-match : r .number ≡ 0 → outcomeOf r kept ≡ matched (r .end) (capturesIn (r .more) kept) (r .steps)

@@ -11,10 +11,8 @@ ghost use Rattle.luck_trial.specs.Gsub.{outputAfter, report, reportOf, a
 ghost use Rattle.luck_match.specs.Inner.{AreMasks};
 ghost use Rattle.luck_trial.specs.Inner.{writerBy, Reported};
 use crate::replace;
-use luck_match::capture::Captures;
-use luck_match::capture::Pair;
+use luck_attempt::attempt;
 use luck_match::class;
-use luck_matcher::matcher;
 use luck_token::version;
 
 // Number 0 is done; a kind from 1 to 10 goes with 29, and 0 with every other number.
@@ -42,6 +40,7 @@ fn run_rounds(
         (rounds matchClass (now (subject .entry)) budget (length (now (output .entry))) (writerBy «is_51» (now (replacement .entry)) (now (subject .entry)) (length (now (output .entry)))) (items (now (pattern .entry)) 0) 0 none [] 0 0)
         ⌝ }
 {
+    let lead = attempt::lead_of(pattern);
     let mut kept = [0usize; 64];
     let mut place = 0;
     // one more than the end of the last match, 0 where there was none
@@ -50,16 +49,14 @@ fn run_rounds(
     let mut replacements = 0;
     let mut steps = 0;
     'rounds: loop {
-        let attempt = matcher::do_match(
+        let attempt = attempt::attempt_at(
             masks,
             subject,
             pattern,
-            0,
+            lead,
             place,
-            0,
             budget,
             steps,
-            no_captures(),
             &mut kept,
         );
         steps = attempt.steps;
@@ -126,15 +123,6 @@ fn run_rounds(
     }
 }
 
-fn no_captures() -> Captures
-    ensures { λ r. ⌜ r .count ≡ 0 ⌝ }
-{
-    Captures {
-        count: 0,
-        pairs: [Pair { start: 0, len: 0 }; 32],
-    }
-}
-
 // The one attempt of an anchored pattern; the rest of the subject is copied.
 fn run_anchored(
     masks: &[u8; 256],
@@ -152,18 +140,7 @@ fn run_anchored(
         ⌝ }
 {
     let mut kept = [0usize; 64];
-    let attempt = matcher::do_match(
-        masks,
-        subject,
-        pattern,
-        1,
-        0,
-        0,
-        budget,
-        0,
-        no_captures(),
-        &mut kept,
-    );
+    let attempt = attempt::attempt(masks, subject, pattern, 1, 0, budget, 0, &mut kept);
     let steps = attempt.steps;
     if 1 < attempt.number {
         return Trial {

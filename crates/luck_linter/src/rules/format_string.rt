@@ -17,13 +17,13 @@ use luck_pattern::replacement;
 use luck_pattern::replacement::Captures;
 use luck_text::scan;
 use luck_text::scan::Class;
-use luck_text::utf8;
-use luck_text::utf8::Utf8;
 use luck_token::span::Span;
 use luck_token::string;
 use luck_token::string::ShortString;
 use luck_token::version;
 use luck_token::version::Rules;
+use luck_utf8::utf8;
+use luck_utf8::utf8::Utf8;
 
 pub enum LiteralChecked {
     UnknownKind,

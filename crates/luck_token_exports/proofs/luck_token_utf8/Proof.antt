@@ -1,7 +1,7 @@
 -- `luck_token_exports::luck_token_utf8` meets its contract. Assumes nothing.
 use mathlib.Core.Path.{sym, ap, _∙_}
 use lib.ListN.{length}
-use Rattle.luck_text.specs.Utf8.{placeOf}
+use Rattle.luck_utf8.specs.Utf8.{placeOf}
 use Rattle.luck_token_exports.specs.Answers.{placeOr}
 use borrow.Author.Needs.{needs}
 use Rattle.luck_token_exports.proofs.luck_token_utf8.Statement.{statement}

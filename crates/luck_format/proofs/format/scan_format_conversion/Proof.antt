@@ -3,7 +3,7 @@ use mathlib.Core.Path.{sym, ap, _∙_}
 use native.Mathlib.Omega.{arith}
 use mathlib.Core.Logic.{⊎-elim}
 use Rattle.luck_text.specs.Walk.{stop}
-use Rattle.luck_text.specs.declared.utf8.Char.{Char}
+use Rattle.luck_utf8.specs.declared.utf8.Char.{Char}
 use Rattle.luck_answer.specs.Answer.{refusedWith}
 use Rattle.luck_format.proofs.Formats as formats
 use borrow.Author.Needs.{needs}

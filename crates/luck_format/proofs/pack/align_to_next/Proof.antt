@@ -4,7 +4,7 @@ use Prim.Native.Nat.{_+_}
 use native.Mathlib.Omega.{arith}
 use lib.ListN.{length}
 use Rattle.luck_text.specs.Walk.Turn.{stop}
-use Rattle.luck_text.specs.declared.utf8.Char.{Char}
+use Rattle.luck_utf8.specs.declared.utf8.Char.{Char}
 use Rattle.luck_answer.specs.Answer.{refusedWith, refusal}
 use Rattle.luck_format.specs.Pack.{state}
 use Rattle.luck_format.specs.Inner.{optionRead, alignmentRead, packTurnOf}

@@ -6,7 +6,7 @@ use Rattle.luck_text.specs.Bytes.{byteAt}
 use Rattle.luck_format.specs.Inner.{OptionIn, faults}
 use Rattle.luck_answer.specs.Answer.{refusedWith}
 use Rattle.luck_format.specs.declared.pack.PackOption.the-variants.{Sized, Counted, SetMaxAlignment}
-use Rattle.luck_text.specs.declared.utf8.Char.{Char}
+use Rattle.luck_utf8.specs.declared.utf8.Char.{Char}
 use Rattle.luck_format.proofs.Packs.{sized-number, sized-string, largest-alignment, fixed-string, unknown-option, makes-number, makes-string, makes-alignment, of-size, of-fault, back}
 use borrow.Author.Needs.{needs}
 use Rattle.luck_format.proofs.pack.scan_sized_option.Statement.{statement}

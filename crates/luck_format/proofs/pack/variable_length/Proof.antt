@@ -1,6 +1,6 @@
 -- `luck_format::pack::variable_length` meets its contract. Assumes nothing.
 use mathlib.Core.Path.{ap}
-use Rattle.luck_text.specs.declared.utf8.Char.{Char}
+use Rattle.luck_utf8.specs.declared.utf8.Char.{Char}
 use Rattle.luck_answer.specs.declared.format_pattern.PatternError.the-variants.{VariableLengthPackOption}
 use Rattle.luck_format.specs.declared.pack.Turn.the-variants.{Fault}
 use borrow.Author.Needs.{needs}

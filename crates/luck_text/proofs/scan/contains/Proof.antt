@@ -1,4 +1,4 @@
--- `luck_token::scan::contains` meets its contract. Assumes nothing.
+-- `luck_text::scan::contains` meets its contract. Assumes nothing.
 use mathlib.Core.Path.{_≡_, refl, _∙_}
 use Prim.Native.Nat.{_-_, _≤_}
 use native.Mathlib.Omega.{arith}

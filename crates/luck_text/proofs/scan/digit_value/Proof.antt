@@ -1,4 +1,4 @@
--- `luck_token::scan::digit_value` meets its contract. Assumes nothing.
+-- `luck_text::scan::digit_value` meets its contract. Assumes nothing.
 use native.Mathlib.Omega.{arith}
 use Rattle.luck_text.proofs.Bytes.{digit-none, digit-decimal, digit-between, digit-capital, digit-above, digit-small-letter}
 use borrow.Author.Needs.{needs}

@@ -1,4 +1,4 @@
--- `luck_token::scan::is_in` meets its contract. Assumes nothing.
+-- `luck_text::scan::is_in` meets its contract. Assumes nothing.
 use mathlib.Core.Path.{_≡_, refl, sym, ap, subst, _∙_}
 use Rattle.luck_text.specs.Scan.{inClass}
 use borrow.Author.Needs.{needs}

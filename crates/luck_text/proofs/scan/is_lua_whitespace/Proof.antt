@@ -1,4 +1,4 @@
--- `luck_token::scan::is_lua_whitespace` meets its contract. Assumes nothing.
+-- `luck_text::scan::is_lua_whitespace` meets its contract. Assumes nothing.
 use native.Mathlib.Omega.{arith}
 use borrow.Author.Tests.{ltb-true, ltb-false, leb-true, leb-false, eqb-true, eqb-false, not-true, not-false, lt-ltb, le-ltb, le-leb, lt-leb, eq-eqb, ne-eqb}
 use Rattle.luck_text.specs.Bytes.{isLuaWhitespace}

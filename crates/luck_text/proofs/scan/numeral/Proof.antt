@@ -1,4 +1,4 @@
--- `luck_token::scan::numeral` meets its contract. The number so far stays at the largest; the invariant has the exact one beside it. Assumes nothing.
+-- `luck_text::scan::numeral` meets its contract. The number so far stays at the largest; the invariant has the exact one beside it. Assumes nothing.
 use mathlib.Core.Path.{_≡_, refl, sym, ap, subst, _∙_}
 use Prim.Native.Nat.{ℕ, zero, suc, _+_, _-_, _*_, _≤_, _<_, min, max}
 use native.Mathlib.Omega.{arith}

@@ -1,44 +1,61 @@
 -- `luck_token::string::decode_body` meets its contract. Assumes nothing.
-use mathlib.Core.Path.{_≡_, refl, sym, ap, subst, _∙_}
-use Rattle.luck_token.specs.Literal.{valueOf}
+use mathlib.Core.Path.{sym, ap, _∙_}
+use mathlib.Core.List.{List}
+use mathlib.Core.Option.{Option}
+use Prim.Native.Nat.{ℕ}
+use lib.ListN.{length}
+use borrow.Author.Tests.{not-true}
+use Rattle.luck_token.specs.Decode.{withRoom, answerOf, outputOf}
 use Rattle.luck_token.proofs.Values as values
 use borrow.Author.Needs.{needs}
 use Rattle.luck_token.proofs.string.decode_body.Statement.{statement}
 use Rattle.luck_token.proofs.string.decode_body.Tie as tie
 
-measure-requires : tie.Need-measure-requires
-measure-requires c κs = search needs
+has-special-requires : tie.Need-has-special-requires
+has-special-requires c κs = search needs
 
-enum-told : tie.Need-enum-told
-enum-told c = search needs
-
-enum-known-size : tie.Need-enum-known-size
-enum-known-size c = search needs
-
-returns : tie.Need-returns
-returns c = values.too-short (valueOf (c .before .before .before .before .before .before .before .args .long) (c .before .before .before .before .before .before .before .args .rules) (c .before .before .before .before .before .before .before .args .body .now)) (c .before .before .before .before .before .before .before .args .output .now) _ (values.has-size (valueOf (c .before .before .before .before .before .before .before .args .long) (c .before .before .before .before .before .before .before .args .rules) (c .before .before .before .before .before .before .before .args .body .now)) (c .before .before .size .given .0 .0) (sym (c .before .before .size .given .1) ∙ c .before .before .before .before .measure .ensures)) (c .if1 .taken)
-
-write-requires : tie.Need-write-requires
-write-requires c κs = values.room (valueOf (c .before .before .before .before .before .before .before .before .args .long) (c .before .before .before .before .before .before .before .before .args .rules) (c .before .before .before .before .before .before .before .before .args .body .now)) (c .before .before .before .before .before .before .before .before .args .output .now) _ (values.has-size (valueOf (c .before .before .before .before .before .before .before .before .args .long) (c .before .before .before .before .before .before .before .before .args .rules) (c .before .before .before .before .before .before .before .before .args .body .now)) (c .before .before .before .size .given .0 .0) (sym (c .before .before .before .size .given .1) ∙ c .before .before .before .before .before .measure .ensures)) (c .before .if1 .left)
-
-returns-2 : tie.Need-returns-2
-returns-2 c = values.undecodable (valueOf (c .before .before .before .before .before .args .long) (c .before .before .before .before .before .args .rules) (c .before .before .before .before .before .args .body .now)) (c .before .before .before .before .before .args .output .now) (values.no-size (valueOf (c .before .before .before .before .before .args .long) (c .before .before .before .before .before .args .rules) (c .before .before .before .before .before .args .body .now)) (sym (c .enum-told .given .1) ∙ c .before .before .measure .ensures))
+decode-plain-requires : tie.Need-decode-plain-requires
+decode-plain-requires c κs = search needs
 
 same-length : tie.Need-same-length
 same-length c = search needs
 
+returns : tie.Need-returns
+returns c =
+    let e = values.plain-value (c .before .before .before .before .before .before .before .before .before .args .long) (c .before .before .before .before .before .before .before .before .before .args .rules) (c .before .before .before .before .before .before .before .before .before .args .body .now) (c .before .before .before .before .before .has-special .ensures (not-true _ (c .before .before .before .before .if2 .taken))) in (
+      c .before .before .decode-plain .ensures .0 ∙ ap (λ (o : Option (List ℕ)). answerOf (withRoom (length (c .before .before .before .before .before .before .before .before .before .args .output .now)) o)) e,
+      c .before .before .decode-plain .ensures .1 ∙ ap (λ (o : Option (List ℕ)). outputOf (withRoom (length (c .before .before .before .before .before .before .before .before .before .args .output .now)) o) (c .before .before .before .before .before .before .before .before .before .args .output .now)) e,
+    )
+
+decode-long-requires : tie.Need-decode-long-requires
+decode-long-requires c κs = search needs
+
+same-length-2 : tie.Need-same-length-2
+same-length-2 c = search needs
+
+returns-2 : tie.Need-returns-2
+returns-2 c = search needs
+
+decode-pieces-requires : tie.Need-decode-pieces-requires
+decode-pieces-requires c κs = search needs
+
+same-length-3 : tie.Need-same-length-3
+same-length-3 c = search needs
+
 returns-3 : tie.Need-returns-3
-returns-3 c = (values.fits (valueOf (c .before .before .before .before .before .before .before .before .before .before .before .args .long) (c .before .before .before .before .before .before .before .before .before .before .before .args .rules) (c .before .before .before .before .before .before .before .before .before .before .before .args .body .now)) (c .before .before .before .before .before .before .before .before .before .before .before .args .output .now) _ (values.has-size (valueOf (c .before .before .before .before .before .before .before .before .before .before .before .args .long) (c .before .before .before .before .before .before .before .before .before .before .before .args .rules) (c .before .before .before .before .before .before .before .before .before .before .before .args .body .now)) (c .before .before .before .before .before .before .size .given .0 .0) (sym (c .before .before .before .before .before .before .size .given .1) ∙ c .before .before .before .before .before .before .before .before .measure .ensures)) (c .before .before .before .before .if1 .left), c .before .before .write .ensures)
+returns-3 c = search needs
 
 pub decode-body-spec : {M : Type 1} → statement M
 decode-body-spec =
     tie.close
     (tie.spec
-    measure-requires
-    enum-told
-    enum-known-size
-    returns
-    write-requires
-    returns-2
+    has-special-requires
+    decode-plain-requires
     same-length
+    returns
+    decode-long-requires
+    same-length-2
+    returns-2
+    decode-pieces-requires
+    same-length-3
     returns-3)

@@ -1,10 +1,10 @@
 -- `luck_token::string::decode_literal` meets its contract. Assumes nothing.
-use mathlib.Core.Path.{_≡_, refl, sym, ap, subst, _∙_}
-use Prim.Native.Nat.{ℕ, zero, suc, _+_, _-_, _*_, _≤_, _<_, min, max}
+use mathlib.Core.Path.{sym, ap, _∙_}
 use native.Mathlib.Omega.{arith}
-use mathlib.Core.List.{List, [], _∷_, _++_}
-use mathlib.Core.Option.{Option, none, some}
-use mathlib.Core.Bool.{Bool, true, false, not, _&&_, _||_}
+use mathlib.Core.Bool.{true}
+use mathlib.Core.List.{List}
+use mathlib.Core.Option.{Option}
+use Prim.Native.Nat.{ℕ}
 use lib.ListN.{length}
 use Rattle.luck_token.specs.Literal.{valueOf}
 use Rattle.luck_token.specs.Decode.{withRoom, answerOf, outputOf}
@@ -14,11 +14,20 @@ use borrow.Author.Needs.{needs}
 use Rattle.luck_token.proofs.string.decode_literal.Statement.{statement}
 use Rattle.luck_token.proofs.string.decode_literal.Tie as tie
 
-bracket-width-requires : tie.Need-bracket-width-requires
-bracket-width-requires c κs = search needs
+is-short-requires : tie.Need-is-short-requires
+is-short-requires c κs = search needs
 
-long-string-body-requires : tie.Need-long-string-body-requires
-long-string-body-requires c κs = omega (arith, c .before .bracket-width .ensures, values.twice-in (c .before .before .before .before .args .rules) (c .before .before .before .before .args .raw .now) (omega (arith, c .before .bracket-width .ensures)))
+sub-end : tie.Need-sub-end
+sub-end c = omega (arith, both-quotes (c .before .before .before .before .args .raw .now) (sym (c .before .is-short .ensures) ∙ c .if1 .taken))
+
+sub-decode-body : tie.Need-sub-decode-body
+sub-decode-body c = omega (arith, both-quotes (c .before .before .before .before .args .raw .now) (sym (c .before .is-short .ensures) ∙ c .if1 .taken))
+
+part-decode-body-start : tie.Need-part-decode-body-start
+part-decode-body-start c = omega (arith, both-quotes (c .before .before .before .before .args .raw .now) (sym (c .before .is-short .ensures) ∙ c .if1 .taken))
+
+part-decode-body-end : tie.Need-part-decode-body-end
+part-decode-body-end c = omega (arith, both-quotes (c .before .before .before .before .args .raw .now) (sym (c .before .is-short .ensures) ∙ c .if1 .taken))
 
 decode-body-requires : tie.Need-decode-body-requires
 decode-body-requires c κs = search needs
@@ -28,25 +37,16 @@ same-length c = search needs
 
 returns : tie.Need-returns
 returns c =
-    let e = ap (valueOf true (c .before .before .before .before .before .before .before .before .before .args .rules)) (c .before .before .before .before .long-string-body .ensures) ∙ values.long-literal (c .before .before .before .before .before .before .before .before .before .args .rules) (c .before .before .before .before .before .before .before .before .before .args .raw .now) (c .before .before .before .before .before .before .bracket-width .result) (c .before .before .before .before .before .before .bracket-width .ensures) (c .before .before .before .before .before .if1 .taken) in (
+    let e = values.short-literal (c .before .before .before .before .before .before .before .before .before .args .rules) (c .before .before .before .before .before .before .before .before .before .args .raw .now) (sym (c .before .before .before .before .before .before .is-short .ensures) ∙ c .before .before .before .before .before .if1 .taken) in (
       c .before .before .decode-body .ensures .0 ∙ ap (λ (o : Option (List ℕ)). answerOf (withRoom (length (c .before .before .before .before .before .before .before .before .before .args .output .now)) o)) e,
       c .before .before .decode-body .ensures .1 ∙ ap (λ (o : Option (List ℕ)). outputOf (withRoom (length (c .before .before .before .before .before .before .before .before .before .args .output .now)) o) (c .before .before .before .before .before .before .before .before .before .args .output .now)) e,
     )
 
-is-short-requires : tie.Need-is-short-requires
-is-short-requires c κs = search needs
+bracket-width-requires : tie.Need-bracket-width-requires
+bracket-width-requires c κs = search needs
 
-sub-end : tie.Need-sub-end
-sub-end c = omega (arith, both-quotes (c .before .before .before .before .before .before .args .raw .now) (sym (c .before .is-short .ensures) ∙ c .if2 .taken))
-
-sub-decode-body : tie.Need-sub-decode-body
-sub-decode-body c = omega (arith, both-quotes (c .before .before .before .before .before .before .args .raw .now) (sym (c .before .is-short .ensures) ∙ c .if2 .taken))
-
-part-decode-body-start : tie.Need-part-decode-body-start
-part-decode-body-start c = omega (arith, both-quotes (c .before .before .before .before .before .before .args .raw .now) (sym (c .before .is-short .ensures) ∙ c .if2 .taken))
-
-part-decode-body-end : tie.Need-part-decode-body-end
-part-decode-body-end c = omega (arith, both-quotes (c .before .before .before .before .before .before .args .raw .now) (sym (c .before .is-short .ensures) ∙ c .if2 .taken))
+long-string-body-requires : tie.Need-long-string-body-requires
+long-string-body-requires c κs = omega (arith, c .before .bracket-width .ensures, values.twice-in (c .before .before .before .before .before .before .args .rules) (c .before .before .before .before .before .before .args .raw .now) (omega (arith, c .before .bracket-width .ensures)))
 
 decode-body-requires-2 : tie.Need-decode-body-requires-2
 decode-body-requires-2 c κs = search needs
@@ -56,28 +56,28 @@ same-length-2 c = search needs
 
 returns-2 : tie.Need-returns-2
 returns-2 c =
-    let e = values.short-literal (c .before .before .before .before .before .before .before .before .before .before .before .args .rules) (c .before .before .before .before .before .before .before .before .before .before .before .args .raw .now) (omega (arith, c .before .before .before .before .before .before .before .before .bracket-width .ensures, c .before .before .before .before .before .before .before .if1 .left)) (sym (c .before .before .before .before .before .before .is-short .ensures) ∙ c .before .before .before .before .before .if2 .taken) in (
+    let e = ap (valueOf true (c .before .before .before .before .before .before .before .before .before .before .before .args .rules)) (c .before .before .before .before .long-string-body .ensures) ∙ values.long-literal (c .before .before .before .before .before .before .before .before .before .before .before .args .rules) (c .before .before .before .before .before .before .before .before .before .before .before .args .raw .now) (c .before .before .before .before .before .before .bracket-width .result) (c .before .before .before .before .before .before .bracket-width .ensures) (c .before .before .before .before .before .if2 .taken) in (
       c .before .before .decode-body2 .ensures .0 ∙ ap (λ (o : Option (List ℕ)). answerOf (withRoom (length (c .before .before .before .before .before .before .before .before .before .before .before .args .output .now)) o)) e,
       c .before .before .decode-body2 .ensures .1 ∙ ap (λ (o : Option (List ℕ)). outputOf (withRoom (length (c .before .before .before .before .before .before .before .before .before .before .before .args .output .now)) o) (c .before .before .before .before .before .before .before .before .before .before .before .args .output .now)) e,
     )
 
 returns-3 : tie.Need-returns-3
-returns-3 c = values.undecodable _ (c .before .before .before .before .before .before .args .output .now) (values.no-literal (c .before .before .before .before .before .before .args .rules) (c .before .before .before .before .before .before .args .raw .now) (omega (arith, c .before .before .before .bracket-width .ensures, c .before .before .if1 .left)) (sym (c .before .is-short .ensures) ∙ c .if2 .left))
+returns-3 c = values.undecodable _ (c .before .before .before .before .before .before .args .output .now) (values.no-literal (c .before .before .before .before .before .before .args .rules) (c .before .before .before .before .before .before .args .raw .now) (omega (arith, c .before .bracket-width .ensures, c .if2 .left)) (sym (c .before .before .before .is-short .ensures) ∙ c .before .before .if1 .left))
 
 pub decode-literal-spec : {M : Type 1} → statement M
 decode-literal-spec =
     tie.close
     (tie.spec
-    bracket-width-requires
-    long-string-body-requires
-    decode-body-requires
-    same-length
-    returns
     is-short-requires
     sub-end
     sub-decode-body
     part-decode-body-start
     part-decode-body-end
+    decode-body-requires
+    same-length
+    returns
+    bracket-width-requires
+    long-string-body-requires
     decode-body-requires-2
     same-length-2
     returns-2

@@ -1,7 +1,7 @@
 -- `luck_token::string::decode_string` meets its contract. Assumes nothing.
 use mathlib.Core.Path.{_≡_, refl, sym, ap, subst, _∙_}
 use lib.ListN.{length}
-use Rattle.luck_text.specs.Utf8.{placeOf}
+use Rattle.luck_utf8.specs.Utf8.{placeOf}
 use Rattle.luck_token.specs.Literal.{literalValue}
 use Rattle.luck_token.specs.Decode.{Outcome, withRoom, answerOf, numbered, outputOf}
 use Rattle.luck_token.specs.declared.version.Rules.{Rules}

@@ -1,68 +1,68 @@
--- `luck_token::string::write` meets its contract. The invariant has the bytes so far, which stand at the front of the output. Assumes nothing.
-use mathlib.Core.Path.{_≡_, refl, sym, ap, subst, _∙_}
-use Prim.Native.Nat.{ℕ, zero, suc, _+_, _-_, _*_, _≤_, _<_, min, max}
+-- `luck_token::string::write` meets its contract. The invariant has the bytes so far, which the output holds if they fit. Assumes nothing.
+use mathlib.Core.Path.{_≡_, refl, sym, subst, _∙_}
+use Prim.Native.Nat.{ℕ, _+_, _-_}
 use native.Mathlib.Omega.{arith}
-use mathlib.Core.Option.{Option, none, some}
-use lib.ListN.{length, drop, length-append, length-set}
-use lib.Seq.{length-sets}
-use Rattle.luck_text.specs.Utf8.{utf8Bytes}
-use Rattle.luck_token.specs.Literal.{valueOf}
+use mathlib.Core.Logic.{⊎-elim}
+use mathlib.Core.List.{List, [], _∷_}
+use lib.ListN.{length}
+use Rattle.luck_text.specs.Bytes.{byteAt}
+use Rattle.luck_utf8.specs.Utf8.{utf8Bytes}
 use Rattle.luck_token.specs.declared.string.Piece.the-variants.{Byte, Character, Nothing, Malformed}
 use Rattle.luck_token.proofs.Values as values
-use mathlib.Core.List.{List, [], _∷_, _++_, append-nil}
-use Rattle.luck_token.specs.Inner.{Inside}
 use borrow.Author.Needs.{needs}
 use Rattle.luck_token.proofs.string.write.Statement.{statement}
 use Rattle.luck_token.proofs.string.write.Tie as tie
 
 abbrev Inv-loop : tie.InvT-loop
-Inv-loop body long rules output₀ at₀ size₀ output at size =
-    (before : List ℕ) × (size ≡ length before) × (at ≤ length body) × (values.on long rules body at before ≡ valueOf long rules body)
-    × (output ≡ before ++ drop (length before) output₀) × (length output ≡ length output₀)
+Inv-loop body long rules output₀ at₀ size₀ singles₀ output at size singles = values.Kept long rules body output₀ output at size
 
 abbrev μ-loop : tie.MeasureT-loop
-μ-loop body long rules output₀ at₀ size₀ output at size = length body - at
-
--- a byte is taken, and there is room for it
-byte-arm : (c : tie.After-known-told Inv-loop μ-loop)
-    → Inside (Byte (c .before .piece .given .0 .0) (c .before .piece .given .0 .1 .0)) (c .before .before .before .before .before .loop .at) (length (c .before .before .before .before .before .before .before .before .args .body .now))
-    × (values.on (c .before .before .before .before .before .before .before .before .args .long) (c .before .before .before .before .before .before .before .before .args .rules) (c .before .before .before .before .before .before .before .before .args .body .now) (c .before .before .before .before .before .loop .at + c .before .piece .given .0 .1 .0) (c .before .before .before .before .before .loop .inv .0 ++ (c .before .piece .given .0 .0 ∷ [])) ≡ valueOf (c .before .before .before .before .before .before .before .before .args .long) (c .before .before .before .before .before .before .before .before .args .rules) (c .before .before .before .before .before .before .before .before .args .body .now))
-    × (length (c .before .before .before .before .before .loop .inv .0) + length ((c .before .piece .given .0 .0 ∷ [])) ≤ length (c .before .before .before .before .before .before .before .before .args .output .now))
-byte-arm c =
-    let l = c .before .before .before .before .before .loop in
-    let a = c .before .before .before .before .before .before .before .before .args in
-    let v = c .before .piece .given in
-    let t = values.seen (a .long) (a .rules) (a .body .now) (Byte (v .0 .0) (v .0 .1 .0)) (v .1) (c .before .before .before .piece-at .ensures) in
-    let on = values.turn (a .long) (a .rules) (a .body .now) (l .at) (l .inv .0) _ (l .inv .3) ((v .0 .0 ∷ [])) (v .0 .1 .0) (t .is) (omega (arith, t .inside)) (omega (arith, t .inside)) in
-    (t .inside, on, values.room-left (a .long) (a .rules) (a .body .now) _ (l .inv .0) ((v .0 .0 ∷ [])) (a .output .now) on (c .before .before .before .before .before .before .before .before .pre))
-
--- a character is taken, and there is room for it
-character-arm : (c : tie.After-write-char-arg Inv-loop μ-loop)
-    → Inside (Character (c .before .before .piece2 .given .0 .0) (c .before .before .piece2 .given .0 .1 .0)) (c .before .before .before .before .before .before .loop .at) (length (c .before .before .before .before .before .before .before .before .before .args .body .now))
-    × (values.on (c .before .before .before .before .before .before .before .before .before .args .long) (c .before .before .before .before .before .before .before .before .before .args .rules) (c .before .before .before .before .before .before .before .before .before .args .body .now) (c .before .before .before .before .before .before .loop .at + c .before .before .piece2 .given .0 .1 .0) (c .before .before .before .before .before .before .loop .inv .0 ++ utf8Bytes (c .before .before .piece2 .given .0 .0)) ≡ valueOf (c .before .before .before .before .before .before .before .before .before .args .long) (c .before .before .before .before .before .before .before .before .before .args .rules) (c .before .before .before .before .before .before .before .before .before .args .body .now))
-    × (length (c .before .before .before .before .before .before .loop .inv .0) + length (utf8Bytes (c .before .before .piece2 .given .0 .0)) ≤ length (c .before .before .before .before .before .before .before .before .before .args .output .now))
-character-arm c =
-    let l = c .before .before .before .before .before .before .loop in
-    let a = c .before .before .before .before .before .before .before .before .before .args in
-    let v = c .before .before .piece2 .given in
-    let t = values.seen (a .long) (a .rules) (a .body .now) (Character (v .0 .0) (v .0 .1 .0)) (v .1) (c .before .before .before .before .piece-at .ensures) in
-    let on = values.turn (a .long) (a .rules) (a .body .now) (l .at) (l .inv .0) _ (l .inv .3) (utf8Bytes (v .0 .0)) (v .0 .1 .0) (t .is) (omega (arith, t .inside)) (omega (arith, t .inside)) in
-    (t .inside, on, values.room-left (a .long) (a .rules) (a .body .now) _ (l .inv .0) (utf8Bytes (v .0 .0)) (a .output .now) on (c .before .before .before .before .before .before .before .before .before .pre))
-
--- a piece without bytes is passed over
-nothing-arm : (c : tie.After-known-told3 Inv-loop μ-loop)
-    → Inside (Nothing (c .before .piece3 .given .0 .0)) (c .before .before .before .before .before .loop .at) (length (c .before .before .before .before .before .before .before .before .args .body .now))
-    × (values.on (c .before .before .before .before .before .before .before .before .args .long) (c .before .before .before .before .before .before .before .before .args .rules) (c .before .before .before .before .before .before .before .before .args .body .now) (c .before .before .before .before .before .loop .at + c .before .piece3 .given .0 .0) (c .before .before .before .before .before .loop .inv .0 ++ []) ≡ valueOf (c .before .before .before .before .before .before .before .before .args .long) (c .before .before .before .before .before .before .before .before .args .rules) (c .before .before .before .before .before .before .before .before .args .body .now))
-nothing-arm c =
-    let l = c .before .before .before .before .before .loop in
-    let a = c .before .before .before .before .before .before .before .before .args in
-    let v = c .before .piece3 .given in
-    let t = values.seen (a .long) (a .rules) (a .body .now) (Nothing (v .0 .0)) (v .1) (c .before .before .before .piece-at .ensures) in
-    let on = values.turn (a .long) (a .rules) (a .body .now) (l .at) (l .inv .0) _ (l .inv .3) ([]) (v .0 .0) (t .is) (omega (arith, t .inside)) (omega (arith, t .inside)) in
-    (t .inside, on)
+μ-loop body long rules output₀ at₀ size₀ singles₀ output at size singles = length body - at
 
 loop-holds : tie.Need-loop-holds Inv-loop μ-loop
-loop-holds c = ([], refl, omega arith, values.start _ _ _, refl, refl)
+loop-holds c = ([], refl, omega arith, omega arith, values.start _ _ _, record { same = refl; front = λ _. refl })
+
+plain-blocks-requires : tie.Need-plain-blocks-requires Inv-loop μ-loop
+plain-blocks-requires c κs = omega arith
+
+put-part-requires : tie.Need-put-part-requires Inv-loop μ-loop
+put-part-requires c κs = (omega arith, c .before .before .plain-blocks .ensures .1)
+
+sub-size : tie.Need-sub-size Inv-loop μ-loop
+sub-size c = omega arith
+
+add-size : tie.Need-add-size Inv-loop μ-loop
+add-size c = omega (arith, c .before .before .before .before .before .before .before .before .loop .inv .2, c .before .before .before .before .before .plain-blocks .ensures .0, c .before .before .before .before .before .plain-blocks .ensures .1)
+
+loop-less : tie.Need-loop-less Inv-loop μ-loop
+loop-less c = omega (arith, c .before .before .before .before .if2 .taken, c .before .before .before .before .before .plain-blocks .ensures .1)
+
+loop-again : tie.Need-loop-again Inv-loop μ-loop
+loop-again c = values.kept-part (c .before .before .before .before .before .before .before .before .before .before .before .args .long) (c .before .before .before .before .before .before .before .before .before .before .before .args .rules) (c .before .before .before .before .before .before .before .before .before .before .before .args .body .now) (c .before .before .before .before .before .before .before .before .before .before .before .args .output .now) (c .before .before .before .before .before .before .before .before .loop .output) (c .before .before .before .before .before .before .before .before .loop .at) (c .before .before .before .before .before .before .before .before .loop .size) (c .before .before .before .before .before .before .before .before .loop .inv) _ (c .before .before .before .before .before .plain-blocks .result) (c .before .before .before .before .before .plain-blocks .ensures .0) (c .before .before .before .before .before .plain-blocks .ensures .1) (c .before .before .before .before .before .plain-blocks .ensures .2) (c .before .before .put-part .ensures)
+
+sub-singles : tie.Need-sub-singles Inv-loop μ-loop
+sub-singles c = ⊎-elim (λ w. omega (arith, w)) (λ w. omega (arith, w)) (c .before .if1 .came)
+
+shared-slice-read-byte : tie.Need-shared-slice-read-byte Inv-loop μ-loop
+shared-slice-read-byte c = search needs
+
+is-plain-requires : tie.Need-is-plain-requires Inv-loop μ-loop
+is-plain-requires c κs = search needs
+
+put-byte-requires : tie.Need-put-byte-requires Inv-loop μ-loop
+put-byte-requires c κs = search needs
+
+add-size-2 : tie.Need-add-size-2 Inv-loop μ-loop
+add-size-2 c = omega (arith, c .before .before .before .before .before .before .before .before .before .before .loop .inv .2, c .before .before .before .before .before .before .before .before .before .loop-test .taken)
+
+add-at : tie.Need-add-at Inv-loop μ-loop
+add-at c = omega (arith, c .before .before .before .before .before .before .before .before .before .loop-test .taken)
+
+loop-less-2 : tie.Need-loop-less-2 Inv-loop μ-loop
+loop-less-2 c = omega (arith, c .before .before .before .before .before .before .before .before .before .loop-test .taken)
+
+loop-again-2 : tie.Need-loop-again-2 Inv-loop μ-loop
+loop-again-2 c = values.kept-piece (c .before .before .before .before .before .before .before .before .before .before .before .before .before .args .long) (c .before .before .before .before .before .before .before .before .before .before .before .before .before .args .rules) (c .before .before .before .before .before .before .before .before .before .before .before .before .before .args .body .now) (c .before .before .before .before .before .before .before .before .before .before .before .before .before .args .output .now) (c .before .before .before .before .before .before .before .before .before .before .loop .output) (c .before .before .before .before .before .before .before .before .before .before .loop .at) (c .before .before .before .before .before .before .before .before .before .before .loop .size) (c .before .before .before .before .before .before .before .before .before .before .loop .inv) (byteAt (c .before .before .before .before .before .before .before .before .before .before .before .before .before .args .body .now) (c .before .before .before .before .before .before .before .before .before .before .loop .at) ∷ []) _ 1 1 refl (values.plain-piece (c .before .before .before .before .before .before .before .before .before .before .before .before .before .args .long) (c .before .before .before .before .before .before .before .before .before .before .before .before .before .args .rules) (c .before .before .before .before .before .before .before .before .before .before .before .before .before .args .body .now) (c .before .before .before .before .before .before .before .before .before .before .loop .at) (sym (c .before .before .before .before .before .is-plain .ensures) ∙ c .before .before .before .before .if3 .taken)) (omega arith, omega (arith, c .before .before .before .before .before .before .before .before .before .loop-test .taken)) (omega arith) (c .before .before .put-byte .ensures)
 
 piece-at-requires : tie.Need-piece-at-requires Inv-loop μ-loop
 piece-at-requires c κs = search needs
@@ -70,100 +70,72 @@ piece-at-requires c κs = search needs
 enum-known-piece : tie.Need-enum-known-piece Inv-loop μ-loop
 enum-known-piece c = search needs
 
-slice-write-output : tie.Need-slice-write-output Inv-loop μ-loop
-slice-write-output c = omega (arith, byte-arm c .0, byte-arm c .2, c .before .before .before .before .before .loop .inv .5)
+put-byte-requires-2 : tie.Need-put-byte-requires-2 Inv-loop μ-loop
+put-byte-requires-2 c κs = search needs
 
-add-size : tie.Need-add-size Inv-loop μ-loop
-add-size c = omega (arith, byte-arm c .0, byte-arm c .2, c .before .before .before .before .before .loop .inv .5)
+add-size-3 : tie.Need-add-size-3 Inv-loop μ-loop
+add-size-3 c = omega (arith, c .before .before .before .before .before .before .before .before .before .before .before .before .before .before .loop .inv .2, c .before .before .before .before .before .before .before .before .before .before .before .before .before .loop-test .taken)
 
-add-at : tie.Need-add-at Inv-loop μ-loop
-add-at c = omega (arith, byte-arm c .0, byte-arm c .2, c .before .before .before .before .before .loop .inv .5)
+add-at-2 : tie.Need-add-at-2 Inv-loop μ-loop
+add-at-2 c = omega (arith, (values.seen (c .before .before .before .before .before .before .before .before .before .before .before .before .before .before .before .before .before .args .long) (c .before .before .before .before .before .before .before .before .before .before .before .before .before .before .before .before .before .args .rules) (c .before .before .before .before .before .before .before .before .before .before .before .before .before .before .before .before .before .args .body .now) (Byte (c .before .before .before .before .before .piece .given .0 .0) (c .before .before .before .before .before .piece .given .0 .1 .0)) (c .before .before .before .before .before .piece .given .1) (c .before .before .before .before .before .before .before .piece-at .ensures)) .inside)
 
-loop-less : tie.Need-loop-less Inv-loop μ-loop
-loop-less c = omega (arith, byte-arm c .0, byte-arm c .2, c .before .before .before .before .before .loop .inv .5)
+loop-less-3 : tie.Need-loop-less-3 Inv-loop μ-loop
+loop-less-3 c = omega (arith, (values.seen (c .before .before .before .before .before .before .before .before .before .before .before .before .before .before .before .before .before .args .long) (c .before .before .before .before .before .before .before .before .before .before .before .before .before .before .before .before .before .args .rules) (c .before .before .before .before .before .before .before .before .before .before .before .before .before .before .before .before .before .args .body .now) (Byte (c .before .before .before .before .before .piece .given .0 .0) (c .before .before .before .before .before .piece .given .0 .1 .0)) (c .before .before .before .before .before .piece .given .1) (c .before .before .before .before .before .before .before .piece-at .ensures)) .inside)
 
-loop-again : tie.Need-loop-again Inv-loop μ-loop
-loop-again c = (
-  c .before .before .before .before .before .loop .inv .0 ++ (c .before .piece .given .0 .0 ∷ []),
-  omega (arith, length-append (c .before .before .before .before .before .loop .inv .0) (c .before .piece .given .0 .0 ∷ [])),
-  omega (arith, byte-arm c .0),
-  byte-arm c .1,
-  values.stored (c .before .piece .given .0 .0 ∷ []) (c .before .before .before .before .before .loop .inv .0) (c .before .before .before .before .before .loop .output) (c .before .before .before .before .before .before .before .before .args .output .now) (c .before .before .before .before .before .loop .size) (c .before .before .before .before .before .loop .inv .1) (c .before .before .before .before .before .loop .inv .4) (byte-arm c .2),
-  length-set (c .before .before .before .before .before .loop .output) (c .before .before .before .before .before .loop .size) (c .before .piece .given .0 .0) ∙ c .before .before .before .before .before .loop .inv .5,
-)
+loop-again-3 : tie.Need-loop-again-3 Inv-loop μ-loop
+loop-again-3 c = let t = values.seen (c .before .before .before .before .before .before .before .before .before .before .before .before .before .before .before .before .before .args .long) (c .before .before .before .before .before .before .before .before .before .before .before .before .before .before .before .before .before .args .rules) (c .before .before .before .before .before .before .before .before .before .before .before .before .before .before .before .before .before .args .body .now) (Byte (c .before .before .before .before .before .piece .given .0 .0) (c .before .before .before .before .before .piece .given .0 .1 .0)) (c .before .before .before .before .before .piece .given .1) (c .before .before .before .before .before .before .before .piece-at .ensures) in values.kept-piece (c .before .before .before .before .before .before .before .before .before .before .before .before .before .before .before .before .before .args .long) (c .before .before .before .before .before .before .before .before .before .before .before .before .before .before .before .before .before .args .rules) (c .before .before .before .before .before .before .before .before .before .before .before .before .before .before .before .before .before .args .body .now) (c .before .before .before .before .before .before .before .before .before .before .before .before .before .before .before .before .before .args .output .now) (c .before .before .before .before .before .before .before .before .before .before .before .before .before .before .loop .output) (c .before .before .before .before .before .before .before .before .before .before .before .before .before .before .loop .at) (c .before .before .before .before .before .before .before .before .before .before .before .before .before .before .loop .size) (c .before .before .before .before .before .before .before .before .before .before .before .before .before .before .loop .inv) (c .before .before .before .before .before .piece .given .0 .0 ∷ []) _ (c .before .before .before .before .before .piece .given .0 .1 .0) 1 refl (t .is) (t .inside) (t .inside .0) (c .before .before .put-byte2 .ensures)
 
 enum-known-piece-2 : tie.Need-enum-known-piece-2 Inv-loop μ-loop
 enum-known-piece-2 c = search needs
 
-write-char-requires : tie.Need-write-char-requires Inv-loop μ-loop
-write-char-requires c κs = (character-arm c .0 .0, omega (arith, character-arm c .2, c .before .before .before .before .before .before .loop .inv .5))
+put-char-requires : tie.Need-put-char-requires Inv-loop μ-loop
+put-char-requires c κs = (values.seen (c .before .before .before .before .before .before .before .before .before .before .before .before .before .before .args .long) (c .before .before .before .before .before .before .before .before .before .before .before .before .before .before .args .rules) (c .before .before .before .before .before .before .before .before .before .before .before .before .before .before .args .body .now) (Character (c .before .before .piece2 .given .0 .0) (c .before .before .piece2 .given .0 .1 .0)) (c .before .before .piece2 .given .1) (c .before .before .before .before .piece-at .ensures)) .inside .0
 
-add-size-2 : tie.Need-add-size-2 Inv-loop μ-loop
-add-size-2 c = omega (arith, c .before .before .write-char .ensures .0, character-arm (c .before .before .before) .0, character-arm (c .before .before .before) .2)
+add-size-4 : tie.Need-add-size-4 Inv-loop μ-loop
+add-size-4 c = let t = values.seen (c .before .before .before .before .before .before .before .before .before .before .before .before .before .before .before .before .before .args .long) (c .before .before .before .before .before .before .before .before .before .before .before .before .before .before .before .before .before .args .rules) (c .before .before .before .before .before .before .before .before .before .before .before .before .before .before .before .before .before .args .body .now) (Character (c .before .before .before .before .before .piece2 .given .0 .0) (c .before .before .before .before .before .piece2 .given .0 .1 .0)) (c .before .before .before .before .before .piece2 .given .1) (c .before .before .before .before .before .before .before .piece-at .ensures) in omega (arith, c .before .before .before .before .before .before .before .before .before .before .before .before .before .before .loop .inv .2, t .inside, c .before .before .put-char .ensures .0, values.four-bytes (c .before .before .before .before .before .piece2 .given .0 .0))
 
-add-at-2 : tie.Need-add-at-2 Inv-loop μ-loop
-add-at-2 c = omega (arith, c .before .before .write-char .ensures .0, character-arm (c .before .before .before) .0, character-arm (c .before .before .before) .2)
+add-at-3 : tie.Need-add-at-3 Inv-loop μ-loop
+add-at-3 c = omega (arith, (values.seen (c .before .before .before .before .before .before .before .before .before .before .before .before .before .before .before .before .before .args .long) (c .before .before .before .before .before .before .before .before .before .before .before .before .before .before .before .before .before .args .rules) (c .before .before .before .before .before .before .before .before .before .before .before .before .before .before .before .before .before .args .body .now) (Character (c .before .before .before .before .before .piece2 .given .0 .0) (c .before .before .before .before .before .piece2 .given .0 .1 .0)) (c .before .before .before .before .before .piece2 .given .1) (c .before .before .before .before .before .before .before .piece-at .ensures)) .inside)
 
-loop-less-2 : tie.Need-loop-less-2 Inv-loop μ-loop
-loop-less-2 c = omega (arith, c .before .before .write-char .ensures .0, character-arm (c .before .before .before) .0, character-arm (c .before .before .before) .2)
+loop-less-4 : tie.Need-loop-less-4 Inv-loop μ-loop
+loop-less-4 c = omega (arith, (values.seen (c .before .before .before .before .before .before .before .before .before .before .before .before .before .before .before .before .before .args .long) (c .before .before .before .before .before .before .before .before .before .before .before .before .before .before .before .before .before .args .rules) (c .before .before .before .before .before .before .before .before .before .before .before .before .before .before .before .before .before .args .body .now) (Character (c .before .before .before .before .before .piece2 .given .0 .0) (c .before .before .before .before .before .piece2 .given .0 .1 .0)) (c .before .before .before .before .before .piece2 .given .1) (c .before .before .before .before .before .before .before .piece-at .ensures)) .inside)
 
-loop-again-2 : tie.Need-loop-again-2 Inv-loop μ-loop
-loop-again-2 c = (
-  c .before .before .before .before .before .before .before .before .before .loop .inv .0 ++ utf8Bytes (c .before .before .before .before .before .piece2 .given .0 .0),
-  omega (arith, c .before .before .write-char .ensures .0, length-append (c .before .before .before .before .before .before .before .before .before .loop .inv .0) (utf8Bytes (c .before .before .before .before .before .piece2 .given .0 .0))),
-  omega (arith, character-arm (c .before .before .before) .0),
-  character-arm (c .before .before .before) .1,
-  c .before .before .write-char .ensures .1 ∙ values.stored (utf8Bytes (c .before .before .before .before .before .piece2 .given .0 .0)) (c .before .before .before .before .before .before .before .before .before .loop .inv .0) (c .before .before .before .before .before .before .before .before .before .loop .output) (c .before .before .before .before .before .before .before .before .before .before .before .before .args .output .now) (c .before .before .before .before .before .before .before .before .before .loop .size) (c .before .before .before .before .before .before .before .before .before .loop .inv .1) (c .before .before .before .before .before .before .before .before .before .loop .inv .4) (character-arm (c .before .before .before) .2),
-  ap length (c .before .before .write-char .ensures .1) ∙ length-sets (c .before .before .before .before .before .before .before .before .before .loop .output) (c .before .before .before .before .before .before .before .before .before .loop .size) (utf8Bytes (c .before .before .before .before .before .piece2 .given .0 .0)) ∙ c .before .before .before .before .before .before .before .before .before .loop .inv .5,
-)
+loop-again-4 : tie.Need-loop-again-4 Inv-loop μ-loop
+loop-again-4 c =
+    let t = values.seen (c .before .before .before .before .before .before .before .before .before .before .before .before .before .before .before .before .before .args .long) (c .before .before .before .before .before .before .before .before .before .before .before .before .before .before .before .before .before .args .rules) (c .before .before .before .before .before .before .before .before .before .before .before .before .before .before .before .before .before .args .body .now) (Character (c .before .before .before .before .before .piece2 .given .0 .0) (c .before .before .before .before .before .piece2 .given .0 .1 .0)) (c .before .before .before .before .before .piece2 .given .1) (c .before .before .before .before .before .before .before .piece-at .ensures) in
+    values.kept-piece (c .before .before .before .before .before .before .before .before .before .before .before .before .before .before .before .before .before .args .long) (c .before .before .before .before .before .before .before .before .before .before .before .before .before .before .before .before .before .args .rules) (c .before .before .before .before .before .before .before .before .before .before .before .before .before .before .before .before .before .args .body .now) (c .before .before .before .before .before .before .before .before .before .before .before .before .before .before .before .before .before .args .output .now) (c .before .before .before .before .before .before .before .before .before .before .before .before .before .before .loop .output) (c .before .before .before .before .before .before .before .before .before .before .before .before .before .before .loop .at) (c .before .before .before .before .before .before .before .before .before .before .before .before .before .before .loop .size) (c .before .before .before .before .before .before .before .before .before .before .before .before .before .before .loop .inv) (utf8Bytes (c .before .before .before .before .before .piece2 .given .0 .0)) _ (c .before .before .before .before .before .piece2 .given .0 .1 .0) (c .before .before .put-char .result) (c .before .before .put-char .ensures .0) (t .is) (omega (arith, t .inside), t .inside .1 .1) (omega (arith, t .inside, c .before .before .put-char .ensures .0, values.four-bytes (c .before .before .before .before .before .piece2 .given .0 .0))) (c .before .before .put-char .ensures .1)
 
 enum-known-piece-3 : tie.Need-enum-known-piece-3 Inv-loop μ-loop
 enum-known-piece-3 c = search needs
 
-add-at-3 : tie.Need-add-at-3 Inv-loop μ-loop
-add-at-3 c = omega (arith, nothing-arm c .0)
+add-at-4 : tie.Need-add-at-4 Inv-loop μ-loop
+add-at-4 c = omega (arith, (values.seen (c .before .before .before .before .before .before .before .before .before .before .before .before .before .args .long) (c .before .before .before .before .before .before .before .before .before .before .before .before .before .args .rules) (c .before .before .before .before .before .before .before .before .before .before .before .before .before .args .body .now) (Nothing (c .before .piece3 .given .0 .0)) (c .before .piece3 .given .1) (c .before .before .before .piece-at .ensures)) .inside)
 
-loop-less-3 : tie.Need-loop-less-3 Inv-loop μ-loop
-loop-less-3 c = omega (arith, nothing-arm c .0)
+loop-less-5 : tie.Need-loop-less-5 Inv-loop μ-loop
+loop-less-5 c = omega (arith, (values.seen (c .before .before .before .before .before .before .before .before .before .before .before .before .before .args .long) (c .before .before .before .before .before .before .before .before .before .before .before .before .before .args .rules) (c .before .before .before .before .before .before .before .before .before .before .before .before .before .args .body .now) (Nothing (c .before .piece3 .given .0 .0)) (c .before .piece3 .given .1) (c .before .before .before .piece-at .ensures)) .inside)
 
-loop-again-3 : tie.Need-loop-again-3 Inv-loop μ-loop
-loop-again-3 c =
-    let l = c .before .before .before .before .before .loop in (
-      l .inv .0 ++ [],
-      omega (arith, length-append (l .inv .0) []),
-      omega (arith, nothing-arm c .0),
-      nothing-arm c .1,
-      l .inv .4 ∙ ap (λ (x : List ℕ). x ++ drop (length x) (c .before .before .before .before .before .before .before .before .args .output .now)) (sym (append-nil (l .inv .0))),
-      l .inv .5,
-    )
+loop-again-5 : tie.Need-loop-again-5 Inv-loop μ-loop
+loop-again-5 c =
+    let t = values.seen (c .before .before .before .before .before .before .before .before .before .before .before .before .before .args .long) (c .before .before .before .before .before .before .before .before .before .before .before .before .before .args .rules) (c .before .before .before .before .before .before .before .before .before .before .before .before .before .args .body .now) (Nothing (c .before .piece3 .given .0 .0)) (c .before .piece3 .given .1) (c .before .before .before .piece-at .ensures) in
+    let l = c .before .before .before .before .before .before .before .before .before .before .loop in
+    let e : l .size + 0 ≡ l .size = omega arith in
+    subst (values.Kept (c .before .before .before .before .before .before .before .before .before .before .before .before .before .args .long) (c .before .before .before .before .before .before .before .before .before .before .before .before .before .args .rules) (c .before .before .before .before .before .before .before .before .before .before .before .before .before .args .body .now) (c .before .before .before .before .before .before .before .before .before .before .before .before .before .args .output .now) (l .output) (l .at + c .before .piece3 .given .0 .0)) e
+    (values.kept-piece (c .before .before .before .before .before .before .before .before .before .before .before .before .before .args .long) (c .before .before .before .before .before .before .before .before .before .before .before .before .before .args .rules) (c .before .before .before .before .before .before .before .before .before .before .before .before .before .args .body .now) (c .before .before .before .before .before .before .before .before .before .before .before .before .before .args .output .now) (c .before .before .before .before .before .before .before .before .before .before .loop .output) (c .before .before .before .before .before .before .before .before .before .before .loop .at) (c .before .before .before .before .before .before .before .before .before .before .loop .size) (c .before .before .before .before .before .before .before .before .before .before .loop .inv) [] (l .output) (c .before .piece3 .given .0 .0) 0 refl (t .is) (t .inside) (omega arith) (values.stores-nothing (l .output) (l .size) [] refl))
 
 enum-told : tie.Need-enum-told Inv-loop μ-loop
 enum-told c = search needs
 
 same-length : tie.Need-same-length Inv-loop μ-loop
-same-length c = c .before .before .before .before .loop .inv .5
+same-length c = c .before .before .before .before .before .before .before .before .before .loop .inv .5 .same
 
 returns : tie.Need-returns Inv-loop μ-loop
-returns c =
-    let l = c .before .before .before .before .loop in
-    let a = c .before .before .before .before .before .before .before .args in
-    let t = values.seen (a .long) (a .rules) (a .body .now) Malformed (c .enum-told .given .1) (c .before .before .piece-at .ensures) in
-    let r = values.room-for (valueOf (a .long) (a .rules) (a .body .now)) (a .output .now) (c .before .before .before .before .before .before .before .pre) in
-    let e : none ≡ some (r .0) = values.bad (a .long) (a .rules) (a .body .now) (l .at) (l .inv .0) _ (l .inv .3) (t .is) (c .before .before .before .loop-test .taken) ∙ r .1 in
-    let z : _≡_ {A = ℕ} 0 1 = cc in
-    absurd (omega arith)
+returns c = let t = values.seen (c .before .before .before .before .before .before .before .before .before .before .before .before .args .long) (c .before .before .before .before .before .before .before .before .before .before .before .before .args .rules) (c .before .before .before .before .before .before .before .before .before .before .before .before .args .body .now) Malformed (c .enum-told .given .1) (c .before .before .piece-at .ensures) in values.kept-bad (c .before .before .before .before .before .before .before .before .before .before .before .before .args .long) (c .before .before .before .before .before .before .before .before .before .before .before .before .args .rules) (c .before .before .before .before .before .before .before .before .before .before .before .before .args .body .now) (c .before .before .before .before .before .before .before .before .before .before .before .before .args .output .now) (c .before .before .before .before .before .before .before .before .before .loop .output) (c .before .before .before .before .before .before .before .before .before .loop .at) (c .before .before .before .before .before .before .before .before .before .loop .size) (c .before .before .before .before .before .before .before .before .before .loop .inv) (t .is) (c .before .before .before .before .before .before .before .before .loop-test .taken)
 
 same-length-2 : tie.Need-same-length-2 Inv-loop μ-loop
-same-length-2 c = c .before .loop .inv .5
+same-length-2 c = c .before .loop .inv .5 .same
 
 returns-2 : tie.Need-returns-2 Inv-loop μ-loop
-returns-2 c =
-    let l = c .before .loop in
-    let a = c .before .before .before .before .args in
-    let r = values.room-for (valueOf (a .long) (a .rules) (a .body .now)) (a .output .now) (c .before .before .before .before .pre) in
-    let all = values.done (a .long) (a .rules) (a .body .now) (l .at) (l .inv .0) _ (l .inv .3) (c .loop-test .left) in
-    let short = values.no-longer (a .long) (a .rules) (a .body .now) (l .at) (l .inv .0) (r .0) (l .inv .3 ∙ r .1) in
-    l .inv .4 ∙ values.written _ (l .inv .0) (a .output .now) all (omega (arith, r .2))
+returns-2 c = values.kept-end (c .before .before .before .before .args .long) (c .before .before .before .before .args .rules) (c .before .before .before .before .args .body .now) (c .before .before .before .before .args .output .now) (c .before .loop .output) (c .before .loop .at) (c .before .loop .size) (c .before .loop .inv) (c .loop-test .left)
 
 pub write-spec : {M : Type 1} → statement M
 write-spec =
@@ -172,23 +144,37 @@ write-spec =
     Inv-loop
     μ-loop
     loop-holds
-    piece-at-requires
-    enum-known-piece
-    slice-write-output
+    plain-blocks-requires
+    put-part-requires
+    sub-size
     add-size
-    add-at
     loop-less
     loop-again
-    enum-known-piece-2
-    write-char-requires
+    sub-singles
+    shared-slice-read-byte
+    is-plain-requires
+    put-byte-requires
     add-size-2
-    add-at-2
+    add-at
     loop-less-2
     loop-again-2
-    enum-known-piece-3
-    add-at-3
+    piece-at-requires
+    enum-known-piece
+    put-byte-requires-2
+    add-size-3
+    add-at-2
     loop-less-3
     loop-again-3
+    enum-known-piece-2
+    put-char-requires
+    add-size-4
+    add-at-3
+    loop-less-4
+    loop-again-4
+    enum-known-piece-3
+    add-at-4
+    loop-less-5
+    loop-again-5
     enum-told
     same-length
     returns

@@ -8,33 +8,30 @@ use Rattle.luck_trial.proofs.Rounds as rounds
 use Rattle.luck_trial.proofs.gsub.run_anchored.Statement.{statement}
 use Rattle.luck_trial.proofs.gsub.run_anchored.Tie as tie
 
-no-captures-requires : tie.Need-no-captures-requires
-no-captures-requires c κs = search needs
+attempt-requires : tie.Need-attempt-requires
+attempt-requires c κs =
+    let q = c .before .before .before .before .before .pre in
+    (q .0, q .1, omega arith)
 
-do-match-requires : tie.Need-do-match-requires
-do-match-requires c κs =
-    let q = c .before .before .before .before .before .before .pre in
-    (q .0, q .1, omega arith, rounds.none-sound 0 _ (c .before .no-captures .ensures))
+cast-t17 : tie.Need-cast-t17
+cast-t17 c = search needs
 
 cast-t18 : tie.Need-cast-t18
 cast-t18 c = search needs
 
-cast-t19 : tie.Need-cast-t19
-cast-t19 c = search needs
-
 returns : tie.Need-returns
 returns c =
     let d = c .before .before .before .before in
-    let a = d .before .before .before .before .before .before .before .args in
-    let o = rounds.first-level (a .subject .now) (a .budget) (items (a .pattern .now) 1) 0 0 (d .before .before .no-captures .result) (d .before .before .no-captures .ensures) _ (d .do-match .ensures .0) in
+    let a = d .before .before .before .before .before .before .args in
+    let o = d .attempt .ensures .0 in
     let u = outputs.begins 0 (a .output .now) (omega arith) in
-    rounds.reported (a .output .now) 0 (a .output .now) _ _ _ _ _ u (rounds.anchored-stops (a .subject .now) (a .budget) (a .is-51) (a .replacement .now) (items (a .pattern .now) 1) (a .output .now) (d .do-match .result) _ o (c .before .before .if1 .taken))
+    rounds.reported (a .output .now) 0 (a .output .now) _ _ _ _ _ u (rounds.anchored-stops (a .subject .now) (a .budget) (a .is-51) (a .replacement .now) (items (a .pattern .now) 1) (a .output .now) (d .attempt .result) _ o (c .before .before .if1 .taken))
 
 append-requires : tie.Need-append-requires
 append-requires c κs = omega arith
 
-cast-t22 : tie.Need-cast-t22
-cast-t22 c = search needs
+cast-t21 : tie.Need-cast-t21
+cast-t21 c = search needs
 
 same-length : tie.Need-same-length
 same-length c = search needs
@@ -42,12 +39,12 @@ same-length c = search needs
 returns-2 : tie.Need-returns-2
 returns-2 c =
     let d = c .before .before .before .before .before .before .before .before .before in
-    let a = d .before .before .before .before .before .before .before .args in
-    let o = rounds.first-level (a .subject .now) (a .budget) (items (a .pattern .now) 1) 0 0 (d .before .before .no-captures .result) (d .before .before .no-captures .ensures) _ (d .do-match .ensures .0) in
+    let a = d .before .before .before .before .before .before .args in
+    let o = d .attempt .ensures .0 in
     let u = outputs.begins 0 (a .output .now) (omega arith) in
     let more = c .before .before .before .append .ensures in
     rounds.reported (a .output .now) _ _ _ _ _ _ _ (outputs.goes-on 0 (a .output .now) 0 (a .output .now) u _ _ _ more (search needs))
-    (rounds.anchored-fails (a .subject .now) (a .budget) (a .is-51) (a .replacement .now) (items (a .pattern .now) 1) (a .output .now) (d .do-match .result) _ o (c .before .before .before .before .before .if2 .taken) _ _ more)
+    (rounds.anchored-fails (a .subject .now) (a .budget) (a .is-51) (a .replacement .now) (items (a .pattern .now) 1) (a .output .now) (d .attempt .result) _ o (c .before .before .before .before .before .if2 .taken) _ _ more)
 
 cast-add-pieces : tie.Need-cast-add-pieces
 cast-add-pieces c = search needs
@@ -55,14 +52,14 @@ cast-add-pieces c = search needs
 add-pieces-requires : tie.Need-add-pieces-requires
 add-pieces-requires c κs =
     let d = c .before .before .before .before .before .before .before in
-    let z : d .do-match .result .number ≡ 0 = omega (arith, c .before .before .before .if2 .left, c .before .before .before .before .before .if1 .left) in
-    (omega arith, omega arith, d .do-match .ensures .1 .end z, d .do-match .ensures .1 .captures z)
+    let z : d .attempt .result .number ≡ 0 = omega (arith, c .before .before .before .if2 .left, c .before .before .before .before .before .if1 .left) in
+    (omega arith, omega arith, d .attempt .ensures .1 .end z, d .attempt .ensures .1 .captures z)
+
+cast-t26 : tie.Need-cast-t26
+cast-t26 c = search needs
 
 cast-t27 : tie.Need-cast-t27
 cast-t27 c = search needs
-
-cast-t28 : tie.Need-cast-t28
-cast-t28 c = search needs
 
 same-length-2 : tie.Need-same-length-2
 same-length-2 c = search needs
@@ -70,25 +67,25 @@ same-length-2 c = search needs
 returns-3 : tie.Need-returns-3
 returns-3 c =
     let d = c .before .before .before .before .before .before .before .before .before .before .before .before .before .before in
-    let a = d .before .before .before .before .before .before .before .args in
-    let o = rounds.first-level (a .subject .now) (a .budget) (items (a .pattern .now) 1) 0 0 (d .before .before .no-captures .result) (d .before .before .no-captures .ensures) _ (d .do-match .ensures .0) in
+    let a = d .before .before .before .before .before .before .args in
+    let o = d .attempt .ensures .0 in
     let u = outputs.begins 0 (a .output .now) (omega arith) in
     let more = c .before .before .before .before .before .before .add-pieces .ensures in
-    let z : d .do-match .result .number ≡ 0 = omega (arith, c .before .before .before .before .before .before .before .before .before .before .if2 .left, c .before .before .before .before .before .before .before .before .before .before .before .before .if1 .left) in
+    let z : d .attempt .result .number ≡ 0 = omega (arith, c .before .before .before .before .before .before .before .before .before .before .if2 .left, c .before .before .before .before .before .before .before .before .before .before .before .before .if1 .left) in
     rounds.reported (a .output .now) _ _ _ _ _ _ _ (outputs.goes-on 0 (a .output .now) 0 (a .output .now) u _ _ _ more (search needs))
-    (rounds.anchored-ends (a .subject .now) (a .budget) (a .is-51) (a .replacement .now) (items (a .pattern .now) 1) (a .output .now) (d .do-match .result) _ o z _ _ more (c .before .before .if3 .taken))
+    (rounds.anchored-ends (a .subject .now) (a .budget) (a .is-51) (a .replacement .now) (items (a .pattern .now) 1) (a .output .now) (d .attempt .result) _ o z _ _ more (c .before .before .if3 .taken))
 
 sub-append : tie.Need-sub-append
 sub-append c =
     let d = c .before .before .before .before .before .before .before .before .before .before .before .before .before in
-    let z : d .do-match .result .number ≡ 0 = omega (arith, c .before .before .before .before .before .before .before .before .before .if2 .left, c .before .before .before .before .before .before .before .before .before .before .before .if1 .left) in
-    d .do-match .ensures .1 .end z
+    let z : d .attempt .result .number ≡ 0 = omega (arith, c .before .before .before .before .before .before .before .before .before .if2 .left, c .before .before .before .before .before .before .before .before .before .before .before .if1 .left) in
+    d .attempt .ensures .1 .end z
 
 part-append-start : tie.Need-part-append-start
 part-append-start c =
     let d = c .before .before .before .before .before .before .before .before .before .before .before .before .before in
-    let z : d .do-match .result .number ≡ 0 = omega (arith, c .before .before .before .before .before .before .before .before .before .if2 .left, c .before .before .before .before .before .before .before .before .before .before .before .if1 .left) in
-    d .do-match .ensures .1 .end z
+    let z : d .attempt .result .number ≡ 0 = omega (arith, c .before .before .before .before .before .before .before .before .before .if2 .left, c .before .before .before .before .before .before .before .before .before .before .before .if1 .left) in
+    d .attempt .ensures .1 .end z
 
 part-append-end : tie.Need-part-append-end
 part-append-end c = search needs
@@ -96,8 +93,8 @@ part-append-end c = search needs
 append-requires-2 : tie.Need-append-requires-2
 append-requires-2 c κs = search (needs, c .before .before .before .before .before .before .add-pieces .ensures .inside)
 
-cast-t34 : tie.Need-cast-t34
-cast-t34 c = search needs
+cast-t33 : tie.Need-cast-t33
+cast-t33 c = search needs
 
 same-length-3 : tie.Need-same-length-3
 same-length-3 c = search needs
@@ -105,39 +102,38 @@ same-length-3 c = search needs
 returns-4 : tie.Need-returns-4
 returns-4 c =
     let d = c .before .before .before .before .before .before .before .before .before .before .before .before .before .before .before .before .before .before in
-    let a = d .before .before .before .before .before .before .before .args in
-    let o = rounds.first-level (a .subject .now) (a .budget) (items (a .pattern .now) 1) 0 0 (d .before .before .no-captures .result) (d .before .before .no-captures .ensures) _ (d .do-match .ensures .0) in
+    let a = d .before .before .before .before .before .before .args in
+    let o = d .attempt .ensures .0 in
     let u = outputs.begins 0 (a .output .now) (omega arith) in
     let more = c .before .before .before .before .before .before .before .before .before .before .add-pieces .ensures in
     let rest = c .before .before .before .append2 .ensures in
-    let z : d .do-match .result .number ≡ 0 = omega (arith, c .before .before .before .before .before .before .before .before .before .before .before .before .before .before .if2 .left, c .before .before .before .before .before .before .before .before .before .before .before .before .before .before .before .before .if1 .left) in
+    let z : d .attempt .result .number ≡ 0 = omega (arith, c .before .before .before .before .before .before .before .before .before .before .before .before .before .before .if2 .left, c .before .before .before .before .before .before .before .before .before .before .before .before .before .before .before .before .if1 .left) in
     let v = outputs.goes-on 0 (a .output .now) 0 (a .output .now) u _ _ _ more (search (needs, c .before .before .before .before .before .before .before .before .before .output2 .given)) in
     rounds.reported (a .output .now) _ _ _ _ _ _ _ (outputs.goes-on 0 (a .output .now) _ _ v _ _ _ rest (search needs))
-    (rounds.anchored-copies (a .subject .now) (a .budget) (a .is-51) (a .replacement .now) (items (a .pattern .now) 1) (a .output .now) (d .do-match .result) _ o z _ _ more (c .before .before .before .before .before .before .if3 .left) (v .same) _ _ rest)
+    (rounds.anchored-copies (a .subject .now) (a .budget) (a .is-51) (a .replacement .now) (items (a .pattern .now) 1) (a .output .now) (d .attempt .result) _ o z _ _ more (c .before .before .before .before .before .before .if3 .left) (v .same) _ _ rest)
 
 pub run-anchored-spec : {M : Type 1} → statement M
 run-anchored-spec =
     tie.close
     (tie.spec
-    no-captures-requires
-    do-match-requires
+    attempt-requires
+    cast-t17
     cast-t18
-    cast-t19
     returns
     append-requires
-    cast-t22
+    cast-t21
     same-length
     returns-2
     cast-add-pieces
     add-pieces-requires
+    cast-t26
     cast-t27
-    cast-t28
     same-length-2
     returns-3
     sub-append
     part-append-start
     part-append-end
     append-requires-2
-    cast-t34
+    cast-t33
     same-length-3
     returns-4)

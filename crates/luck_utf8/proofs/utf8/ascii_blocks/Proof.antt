@@ -1,0 +1,80 @@
+-- `luck_utf8::utf8::ascii_blocks` meets its contract. The loop's invariant: every byte passed is below 80. Assumes nothing.
+use Prim.Native.Nat.{ℕ, _+_, _≤_, _<_, _-_}
+use native.Mathlib.Omega.{arith}
+use mathlib.Core.Logic.{⊎-elim}
+use borrow.Author.Needs.{needs}
+use lib.ListN.{length}
+use Rattle.luck_text.specs.Bytes.{byteAt}
+use Rattle.luck_text.proofs.Cases.{order}
+use Rattle.luck_utf8.proofs.Sequences.{part-low}
+use Rattle.luck_utf8.proofs.utf8.ascii_blocks.Statement.{statement}
+use Rattle.luck_utf8.proofs.utf8.ascii_blocks.Tie as tie
+
+abbrev Inv-loop : tie.InvT-loop
+Inv-loop text from at₀ at = (from ≤ at) × (at ≤ length text) × ((k : ℕ) → from ≤ k → k < at → byteAt text k < 0x80)
+
+abbrev μ-loop : tie.MeasureT-loop
+μ-loop text from at₀ at = length text - at
+
+loop-holds : tie.Need-loop-holds Inv-loop μ-loop
+loop-holds c = (omega arith, omega arith, λ k l m. absurd (omega arith))
+
+sub-loop : tie.Need-sub-loop Inv-loop μ-loop
+sub-loop c = search needs
+
+add-highest : tie.Need-add-highest Inv-loop μ-loop
+add-highest c = search needs
+
+sub-highest : tie.Need-sub-highest Inv-loop μ-loop
+sub-highest c = search needs
+
+part-highest-start : tie.Need-part-highest-start Inv-loop μ-loop
+part-highest-start c = search needs
+
+part-highest-end : tie.Need-part-highest-end Inv-loop μ-loop
+part-highest-end c = search needs
+
+highest-requires : tie.Need-highest-requires Inv-loop μ-loop
+highest-requires c κs = search needs
+
+returns : tie.Need-returns Inv-loop μ-loop
+returns c = c .before .before .before .before .loop .inv
+
+add-at : tie.Need-add-at Inv-loop μ-loop
+add-at c = search needs
+
+loop-less : tie.Need-loop-less Inv-loop μ-loop
+loop-less c = search needs
+
+loop-again : tie.Need-loop-again Inv-loop μ-loop
+loop-again c =
+    let l = c .before .before .before .before .loop in
+    let text = c .before .before .before .before .before .before .args .text .now in
+    let high = c .before .highest in (
+      omega arith,
+      omega arith,
+      λ k m n. ⊎-elim (λ b. l .inv .2 k m b)
+          (λ b. part-low text (l .at) 128 (high .result) (omega arith) (high .ensures) (c .if1 .left) k b n) (order k (l .at)),
+    )
+
+returns-2 : tie.Need-returns-2 Inv-loop μ-loop
+returns-2 c = c .before .loop .inv
+
+pub ascii-blocks-spec : {M : Type 1} → statement M
+ascii-blocks-spec =
+    tie.close
+    (tie.spec
+    Inv-loop
+    μ-loop
+    loop-holds
+    sub-loop
+    add-highest
+    sub-highest
+    part-highest-start
+    part-highest-end
+    highest-requires
+    returns
+    add-at
+    loop-less
+    loop-again
+    returns-2)

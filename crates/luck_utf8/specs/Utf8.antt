@@ -1,0 +1,108 @@
+-- UTF-8 as RFC 3629 has it: well-formed sequences, the character at a place, and the bytes of a character.
+-- Assumes nothing.
+use Prim.Native.Nat.{ℕ, suc, _+_, _*_, _-_, _/_, _%_}
+use mathlib.Core.Bool.{Bool, true, false, _&&_, _||_}
+use mathlib.Core.List.{List, [], _∷_}
+use mathlib.Core.Option.{Option, none, some}
+use lib.ListN.{length}
+use lib.Dec.{eqb, leb, ltb}
+use Rattle.luck_text.specs.Bytes.{if_then_else_, byteAt, between}
+use Rattle.luck_text.specs.Walk.{Turn, stop, goes, walkFrom}
+use Rattle.luck_utf8.specs.declared.utf8.Char.{Char}
+use Rattle.luck_utf8.specs.declared.utf8.Utf8.{Utf8}
+use Rattle.luck_utf8.specs.declared.utf8.Utf8.the-variants.{Valid, IllFormed}
+
+pub record Range : Type 0 where
+  pub low : ℕ
+  pub high : ℕ
+
+abbrev pub _to_ : ℕ → ℕ → Range
+_to_ a b = record { low = a; high = b }
+
+-- a row of the grammar of section 4: the first byte's range, and those of the bytes that follow it
+pub record Row : Type 0 where
+  pub lead : Range
+  pub tails : List Range
+
+abbrev pub row : Range → List Range → Row
+row lead tails = record { lead = lead; tails = tails }
+
+abbrev pub tail : Range
+tail = _to_ 0x80 0xBF
+
+unfoldable pub rfc3629 : List Row
+rfc3629 =
+    row (_to_ 0x00 0x7F) [] ∷
+    row (_to_ 0xC2 0xDF) (tail ∷ []) ∷
+    row (_to_ 0xE0 0xE0) (_to_ 0xA0 0xBF ∷ tail ∷ []) ∷
+    row (_to_ 0xE1 0xEC) (tail ∷ tail ∷ []) ∷
+    row (_to_ 0xED 0xED) (_to_ 0x80 0x9F ∷ tail ∷ []) ∷
+    row (_to_ 0xEE 0xEF) (tail ∷ tail ∷ []) ∷
+    row (_to_ 0xF0 0xF0) (_to_ 0x90 0xBF ∷ tail ∷ tail ∷ []) ∷
+    row (_to_ 0xF1 0xF3) (tail ∷ tail ∷ tail ∷ []) ∷
+    row (_to_ 0xF4 0xF4) (_to_ 0x80 0x8F ∷ tail ∷ tail ∷ []) ∷ []
+
+abbrev pub inRange : Range → ℕ → Bool
+inRange r b = between (r .low) (r .high) b
+
+-- the ranges that follow a first byte: those of its row
+unfoldable pub tailsOf : List Row → ℕ → Option (List Range)
+tailsOf [] b = none
+tailsOf (r ∷ rows) b = let more = tailsOf rows b in if inRange (r .lead) b then some (r .tails) else more
+
+-- the bytes from place p on are there, one in each range
+unfoldable pub follow : List ℕ → ℕ → List Range → Bool
+follow text p [] = true
+follow text p (r ∷ ranges) = ltb p (length text) && inRange r (byteAt text p) && follow text (p + 1) ranges
+
+unfoldable pub widthBy : List ℕ → ℕ → Option (List Range) → ℕ
+widthBy text p none = 0
+widthBy text p (some tails) = if follow text (p + 1) tails then suc (length tails) else 0
+
+-- how many bytes the well-formed sequence at place p has; 0 where it is ill-formed or the text ends there
+unfoldable pub sequence : List ℕ → ℕ → ℕ
+sequence text p = if ltb p (length text) then widthBy text p (tailsOf rfc3629 (byteAt text p)) else 0
+
+-- the place of the first ill-formed sequence, none where the whole text is well-formed
+unfoldable pub sequenceAt : List ℕ → ℕ → Unit {0} → Turn (Unit {0}) (Option ℕ)
+sequenceAt text p u = if eqb (sequence text p) 0 then stop (some p) else goes (sequence text p) tt
+
+unfoldable pub noneIllFormed : ℕ → Unit {0} → Option ℕ
+noneIllFormed p u = none
+
+unfoldable pub illFormed : List ℕ → Option ℕ
+illFormed text = walkFrom (sequenceAt text) noneIllFormed (length text) 0 tt
+
+abbrev pub placeOf : Utf8 → Option ℕ
+placeOf Valid = none
+placeOf (IllFormed p) = some p
+
+-- section 3: the bits of a code point, six to each byte after the first
+unfoldable pub codePoint : List ℕ → ℕ → ℕ → ℕ
+codePoint text p width =
+    let b0 = byteAt text p in
+    let b1 = byteAt text (p + 1) - 0x80 in
+    let b2 = byteAt text (p + 2) - 0x80 in
+    let b3 = byteAt text (p + 3) - 0x80 in
+    if eqb width 1 then b0
+    else if eqb width 2 then (b0 - 0xC0) * 0x40 + b1
+    else if eqb width 3 then ((b0 - 0xE0) * 0x40 + b1) * 0x40 + b2
+    else (((b0 - 0xF0) * 0x40 + b1) * 0x40 + b2) * 0x40 + b3
+
+-- the character at a place; at the end, inside a character and at an ill-formed sequence U+FFFD of width 1, as in luck (peek_char, literal_error)
+unfoldable pub charAt : List ℕ → ℕ → Char
+charAt text p =
+    let width = sequence text p in
+    if eqb width 0 then record { code = 0xFFFD; width = 1 } else record { code = codePoint text p width; width = width }
+
+-- a code point that has a character: no surrogate, and at most 10FFFF
+unfoldable pub isChar : ℕ → Bool
+isChar c = ltb c 0xD800 || between 0xE000 0x10FFFF c
+
+-- the bytes of a code point of at most 10FFFF
+unfoldable pub utf8Bytes : ℕ → List ℕ
+utf8Bytes c =
+    if ltb c 0x80 then c ∷ []
+    else if ltb c 0x800 then (0xC0 + c / 0x40) ∷ (0x80 + c % 0x40) ∷ []
+    else if ltb c 0x10000 then (0xE0 + c / 0x1000) ∷ (0x80 + c / 0x40 % 0x40) ∷ (0x80 + c % 0x40) ∷ []
+    else (0xF0 + c / 0x40000) ∷ (0x80 + c / 0x1000 % 0x40) ∷ (0x80 + c / 0x40 % 0x40) ∷ (0x80 + c % 0x40) ∷ []
