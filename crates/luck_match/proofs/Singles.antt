@@ -11,7 +11,7 @@ use lib.Dec.{eqb, ltb}
 use borrow.Author.Tests.{lt-ltb, le-ltb, ltb-true, ne-eqb}
 use Rattle.luck_text.specs.Bytes.{if_then_else_, byteAt}
 use Rattle.luck_text.proofs.Cases.{and-left}
-use Rattle.luck_pattern.specs.Items.{Set, Single, setOf}
+use Rattle.luck_pattern.specs.Items.{Set, Single, class, setOf}
 use Rattle.luck_match.specs.Class.{inSet, fits}
 use Rattle.luck_match.specs.Match.{byteBefore, isFrontier, fitsAt, Reach, reached, spent, reach}
 use Rattle.luck_match.specs.Inner.{singleOf}
@@ -42,6 +42,21 @@ module _ (inClass : ℕ → ℕ → Bool) (sub pat : List ℕ) (p e s : ℕ) whe
     pub fits-byte : (byteAt pat p ≡ code "." → ⊥) → (byteAt pat p ≡ code "%" → ⊥) → (byteAt pat p ≡ code "[" → ⊥) → Fits (eqb (byteAt pat p) (byteAt sub s))
     unfolding fitsAt singleOf fits if_then_else_
     fits-byte a b d = rw (lt-ltb s (length sub) h, ne-eqb (byteAt pat p) (code ".") a, ne-eqb (byteAt pat p) (code "%") b, ne-eqb (byteAt pat p) (code "[") d)
+
+-- ---- A class
+
+pub of-class : (pat : List ℕ) (p e : ℕ) → byteAt pat p ≡ code "%" → class (byteAt pat (p + 1)) ≡ singleOf pat p e
+unfolding singleOf if_then_else_
+of-class pat p e b = rw b
+
+module _ (inClass : ℕ → ℕ → Bool) (sub : List ℕ) (letter s : ℕ) where
+  pub class-end : length sub ≤ s → fitsAt inClass sub (class letter) s ≡ false
+  unfolding fitsAt
+  class-end h = rw (le-ltb s (length sub) h)
+
+  pub class-fits : s < length sub → inClass letter (byteAt sub s) ≡ fitsAt inClass sub (class letter) s
+  unfolding fitsAt fits
+  class-fits h = rw (lt-ltb s (length sub) h)
 
 module _ (inClass : ℕ → ℕ → Bool) (sub : List ℕ) where
   -- ---- Frontiers

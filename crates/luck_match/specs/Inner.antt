@@ -11,8 +11,8 @@ use lib.Dec.{eqb}
 use Rattle.luck_text.specs.Bytes.{if_then_else_, byteAt, isDigit, isXdigit}
 use Rattle.luck_pattern.specs.Pattern.{SetEnd, closes-at, cut-at, unclosed}
 use Rattle.luck_pattern.specs.Items.{Single, any, class, among-set, byte, Repeat, once, optional, star, plus, minus, Item, start-capture, position-capture, end-capture, end-anchor, balance, frontier, back-reference, single, raises, setOf, items}
-use Rattle.luck_match.specs.Class.{isLower, isUpper, isCntrl, isPunct, isSpace, toLower}
-use Rattle.luck_match.specs.Match.{Capture, opened, position, closed, failed, raised, Rest, Reach, reached, spent}
+use Rattle.luck_match.specs.Class.{isLower, isUpper, isCntrl, isPunct, isSpace, toLower, matchClass}
+use Rattle.luck_match.specs.Match.{Capture, opened, position, closed, failed, raised, Rest, Reach, reached, spent, reach}
 use Rattle.luck_match.specs.declared.subject.Found.{Found}
 use Rattle.luck_match.specs.declared.subject.Found.the-variants as found
 use Rattle.luck_match.specs.declared.single.Reached.{Reached}
@@ -77,6 +77,10 @@ pub record SingleIn (pat : List ℕ) (p e : ℕ) : Type 0 where
 
 abbrev pub reachOf : Reached → Reach
 reachOf r = elim (r .«is_spent») [ true ↦ spent (r .steps) | false ↦ reached (r .end) (r .steps) ]
+
+-- how far a class fits
+abbrev pub classReach : List ℕ → ℕ → ℕ → ℕ → ℕ → Reach
+classReach sub budget letter s u = reach matchClass sub budget (class letter) (length sub - s) s u
 
 abbrev pub ReachIn : Reached → ℕ → ℕ → Type 0
 ReachIn r s len = (s ≤ r .end) × (r .end ≤ len)

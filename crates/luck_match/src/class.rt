@@ -272,7 +272,7 @@ pub fn masks() -> [u8; 256]
 }
 
 // The bits of the class that a letter names, small or capital; 0 where it names none.
-fn class_bits(class: u8) -> u8
+pub fn class_bits(class: u8) -> u8
     ensures { λ r. ⌜ r ≡ bitsOf class ⌝ }
 {
     match class {
@@ -291,12 +291,11 @@ fn class_bits(class: u8) -> u8
     }
 }
 
-// Whether a byte fits `%` and the byte `class`.
-pub fn match_class(masks: &[u8; 256], class: u8, byte: u8) -> bool
-    requires { ⌜ AreMasks (now masks) ⌝ }
+// Whether a byte fits `%` and the byte `class`, whose bits were found before.
+pub fn match_bits(masks: &[u8; 256], class: u8, bits: u8, byte: u8) -> bool
+    requires { ⌜ AreMasks (now masks) × (bits ≡ bitsOf class) ⌝ }
     ensures { λ r. ⌜ r ≡ matchClass class byte ⌝ }
 {
-    let bits = class_bits(class);
     if bits == 0 {
         return class == byte;
     }
@@ -305,4 +304,13 @@ pub fn match_class(masks: &[u8; 256], class: u8, byte: u8) -> bool
         return mask & bits == 0;
     }
     mask & bits != 0
+}
+
+// Whether a byte fits `%` and the byte `class`.
+pub fn match_class(masks: &[u8; 256], class: u8, byte: u8) -> bool
+    requires { ⌜ AreMasks (now masks) ⌝ }
+    ensures { λ r. ⌜ r ≡ matchClass class byte ⌝ }
+{
+    let bits = class_bits(class);
+    match_bits(masks, class, bits, byte)
 }

@@ -5,7 +5,7 @@ ghost use lib.ListN.{length};
 ghost use Rattle.luck_pattern.specs.Items.{setOf, elementsOf};
 ghost use Rattle.luck_match.specs.Class.{matchClass, isAnyOf, inSet};
 ghost use Rattle.luck_match.specs.Match.{isFrontier, fitsAt, reach};
-ghost use Rattle.luck_match.specs.Inner.{AreMasks, SingleIn, singleOf, reachOf, ReachIn};
+ghost use Rattle.luck_match.specs.Inner.{AreMasks, SingleIn, singleOf, classReach, reachOf, ReachIn};
 use crate::class;
 use crate::subject;
 
@@ -119,6 +119,48 @@ pub struct Reached {
     pub steps: u32,
 }
 
+// max_expand's first loop for `%` and a letter, whose bits are found once.
+fn reach_class(
+    masks: &[u8; 256],
+    subject: &[u8],
+    letter: u8,
+    place: usize,
+    budget: u32,
+    used: u32,
+) -> Reached
+    requires { ⌜ AreMasks (now masks) × (place ≤ length (now subject)) ⌝ }
+    ensures { λ r. ⌜ (reachOf r ≡ classReach (now (subject .entry)) budget letter place used) × ReachIn r place (length (now (subject .entry))) ⌝ }
+{
+    let bits = class::class_bits(letter);
+    let mut tested = place;
+    let mut spent = used;
+    loop {
+        if budget <= spent {
+            return Reached {
+                is_spent: true,
+                end: tested,
+                steps: spent,
+            };
+        }
+        spent += 1;
+        if subject.len() <= tested {
+            return Reached {
+                is_spent: false,
+                end: tested,
+                steps: spent,
+            };
+        }
+        if !class::match_bits(masks, letter, bits, subject[tested]) {
+            return Reached {
+                is_spent: false,
+                end: tested,
+                steps: spent,
+            };
+        }
+        tested += 1;
+    }
+}
+
 // max_expand's first loop: the single is tested from `place` on, with a step for each test, until one fails.
 pub fn reach(
     masks: &[u8; 256],
@@ -136,6 +178,14 @@ pub fn reach(
         × ReachIn r place (length (now (subject .entry)))
         ⌝ }
 {
+    if pattern[at] == b'%' {
+        let r = reach_class(masks, subject, pattern[at + 1], place, budget, used);
+        return Reached {
+            is_spent: r.is_spent,
+            end: r.end,
+            steps: r.steps,
+        };
+    }
     let mut tested = place;
     let mut steps = used;
     loop {

@@ -2,7 +2,7 @@
 -- Assumes nothing.
 use Prim.Native.Nat.{ℕ, _+_, _-_, _≤_, _<_}
 use native.Mathlib.Omega.{arith}
-use mathlib.Core.Path.{_≡_, refl, sym, ap, _∙_}
+use mathlib.Core.Path.{_≡_, refl, sym, ap, subst, _∙_}
 use mathlib.Core.Logic.{⊎-elim}
 use mathlib.Core.Bool.{Bool, true, false}
 use mathlib.Core.List.{List, []}
@@ -151,15 +151,18 @@ module _ (sub : List ℕ) (budget : ℕ) (x : Single) (rest : Rest) (l : ℕ) (c
     pub trying-starts : Trying s s u
     trying-starts = record { behind = omega arith; first = λ _. (refl, refl); later = λ h. absurd (omega arith) }
 
+    pub trying-as : (k i v k' v' : ℕ) → k' ≡ k → v' ≡ v → Trying k i v → Trying k' i v'
+    trying-as k i v k' v' e f t = subst (λ (y : ℕ). Trying k' i y) (sym f) (subst (λ (y : ℕ). Trying y i v) (sym e) t)
+
     as-first : (i v : ℕ) → i ≡ s → v ≡ u → expand matchClass sub budget x minus rest i l cs v ≡ whole
     as-first i v e f = ap (λ (y : ℕ). expand matchClass sub budget x minus rest y l cs v) e ∙ ap (λ (y : ℕ). expand matchClass sub budget x minus rest s l cs y) f
 
     module _ (k i v : ℕ) (t : Trying k i v) where
-      pub at-first : i ≡ k → i ≡ s
+      pub at-first : i ≤ k → i ≡ s
       at-first e = ⊎-elim (λ h. absurd (omega (arith, t .later h .0))) (λ h. omega (arith, t .behind)) (order s i)
 
-      at-later : (i ≡ k → ⊥) → s < i
-      at-later n = ⊎-elim (λ h. h) (λ h. let e : i ≡ s = omega (arith, t .behind) in absurd (n (e ∙ sym (t .first e .1)))) (order s i)
+      at-later : k < i → s < i
+      at-later n = ⊎-elim (λ h. h) (λ h. let e : i ≡ s = omega (arith, t .behind) in absurd (omega (arith, t .first e .1))) (order s i)
 
       pub trying-ends : (r : Attempt) (kept : List ℕ) → outcomeOf r kept ≡ newLevel l v (λ m. rest i m cs v) → (r .number ≡ 1 → ⊥) → outcomeOf r kept ≡ whole
       trying-ends r kept w n =
@@ -167,22 +170,22 @@ module _ (sub : List ℕ) (budget : ℕ) (x : Single) (rest : Rest) (l : ℕ) (c
           (λ h. let e : i ≡ s = omega (arith, t .behind) in first-ends sub budget x rest l cs i v r kept w n ∙ as-first i v e (t .first e .0)) (order s i)
 
       module _ (after : ℕ) (w : failed after ≡ newLevel l v (λ m. rest i m cs v)) where
-        pub trying-second : i ≡ k → Trying k (i + 1) after
+        pub trying-second : i ≤ k → Trying k (i + 1) after
         trying-second e =
             let f = at-first e in
             record {
               behind = omega (arith, t .behind);
               first = λ z. absurd (omega arith);
-              later = λ h. (omega arith, passed-first i v after w ∙ as-first i v f (t .first f .0));
+              later = λ h. (omega (arith, t .first f .1), passed-first i v after w ∙ as-first i v f (t .first f .0));
             }
 
-        pub trying-spent : (i ≡ k → ⊥) → budget ≤ after → stopped 27 0 after ≡ whole
+        pub trying-spent : k < i → budget ≤ after → stopped 27 0 after ≡ whole
         trying-spent n h = passed-spent i v after w h ∙ t .later (at-later n) .1
 
-        pub trying-fails : (i ≡ k → ⊥) → after < budget → fitsAt matchClass sub x i ≡ false → failed (after + 1) ≡ whole
+        pub trying-fails : k < i → after < budget → fitsAt matchClass sub x i ≡ false → failed (after + 1) ≡ whole
         trying-fails n h f = passed-fails i v after w h f ∙ t .later (at-later n) .1
 
-        pub trying-next : (i ≡ k → ⊥) → after < budget → fitsAt matchClass sub x i ≡ true → i < length sub → Trying i (i + 1) (after + 1)
+        pub trying-next : k < i → after < budget → fitsAt matchClass sub x i ≡ true → i < length sub → Trying i (i + 1) (after + 1)
         trying-next n h f g =
             record {
               behind = omega (arith, t .behind);

@@ -512,28 +512,26 @@ fn min_expand(
             }
             steps = r.steps;
         }
-        if tried == tested {
-            tried += 1;
-            continue;
+        if tested < tried {
+            if budget <= steps {
+                return Attempt {
+                    end: 0,
+                    steps,
+                    number: 27,
+                    more: 0,
+                };
+            }
+            steps += 1;
+            if !single::fits(masks, subject, pattern, at, end, tried) {
+                return Attempt {
+                    end: 0,
+                    steps,
+                    number: 1,
+                    more: 0,
+                };
+            }
+            tested = tried;
         }
-        if budget <= steps {
-            return Attempt {
-                end: 0,
-                steps,
-                number: 27,
-                more: 0,
-            };
-        }
-        steps += 1;
-        if !single::fits(masks, subject, pattern, at, end, tried) {
-            return Attempt {
-                end: 0,
-                steps,
-                number: 1,
-                more: 0,
-            };
-        }
-        tested = tried;
         tried += 1;
     }
 }

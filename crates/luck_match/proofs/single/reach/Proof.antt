@@ -1,14 +1,14 @@
 -- `luck_match::single::reach` meets its contract. The loop's invariant: the reach from here is the whole answer. Assumes nothing.
 use Prim.Native.Nat.{_-_, _<_, _≤_}
 use native.Mathlib.Omega.{arith}
-use mathlib.Core.Path.{_≡_, refl, sym, _∙_}
+use mathlib.Core.Path.{_≡_, refl, sym, ap, _∙_}
 use lib.ListN.{length}
-use borrow.Author.Needs.{needs}
 use borrow.Author.Tests.{not-true, not-false}
 use Rattle.luck_match.specs.Class.{matchClass}
 use Rattle.luck_match.specs.Match.{reach}
 use Rattle.luck_match.specs.Inner.{singleOf}
-use Rattle.luck_match.proofs.Singles.{fits-inside, reach-spent, reach-stop, reach-more}
+use Rattle.luck_match.proofs.Singles.{of-class, fits-inside, reach-spent, reach-stop, reach-more}
+use borrow.Author.Needs.{needs}
 use Rattle.luck_match.proofs.single.reach.Statement.{statement}
 use Rattle.luck_match.proofs.single.reach.Tie as tie
 
@@ -22,14 +22,31 @@ Inv-loop masks subject pattern at end place budget used tested₀ steps₀ teste
 abbrev μ-loop : tie.MeasureT-loop
 μ-loop masks subject pattern at end place budget used tested₀ steps₀ tested steps = length subject - tested
 
-loop-holds : tie.Need-loop-holds Inv-loop μ-loop
-loop-holds c = (refl, omega arith, omega arith)
+shared-slice-read-if1 : tie.Need-shared-slice-read-if1 Inv-loop μ-loop
+shared-slice-read-if1 c = search needs
+
+add-reach-class : tie.Need-add-reach-class Inv-loop μ-loop
+add-reach-class c = search needs
+
+shared-slice-read-reach-class : tie.Need-shared-slice-read-reach-class Inv-loop μ-loop
+shared-slice-read-reach-class c = omega (arith, c .before .before .before .before .before .pre .1 .escape (c .before .if1 .taken), c .before .before .before .before .before .pre .1 .inside)
+
+reach-class-requires : tie.Need-reach-class-requires Inv-loop μ-loop
+reach-class-requires c κs = search needs
 
 returns : tie.Need-returns Inv-loop μ-loop
 returns c =
-    let a = c .before .before .before .before .args in
+    let a = c .before .before .before .before .before .before .args in
+    (c .reach-class .ensures .0 ∙ ap (λ x. reach matchClass (a .subject .now) (a .budget) x (length (a .subject .now) - a .place) (a .place) (a .used)) (of-class (a .pattern .now) (a .at) (a .end) (c .before .before .if1 .taken)), c .reach-class .ensures .1)
+
+loop-holds : tie.Need-loop-holds Inv-loop μ-loop
+loop-holds c = (refl, omega arith, omega arith)
+
+returns-2 : tie.Need-returns-2 Inv-loop μ-loop
+returns-2 c =
+    let a = c .before .before .before .before .before .before .args in
     let l = c .before .loop in
-    (sym (l .inv .0 ∙ reach-spent matchClass (a .subject .now) (singleOf (a .pattern .now) (a .at) (a .end)) (l .tested) (a .budget) (l .steps) (c .if1 .taken)), (l .inv .1, l .inv .2))
+    (sym (l .inv .0 ∙ reach-spent matchClass (a .subject .now) (singleOf (a .pattern .now) (a .at) (a .end)) (l .tested) (a .budget) (l .steps) (c .if2 .taken)), (l .inv .1, l .inv .2))
 
 add-steps : tie.Need-add-steps Inv-loop μ-loop
 add-steps c = search needs
@@ -37,17 +54,17 @@ add-steps c = search needs
 fits-requires : tie.Need-fits-requires Inv-loop μ-loop
 fits-requires c κs = search needs
 
-returns-2 : tie.Need-returns-2 Inv-loop μ-loop
-returns-2 c =
-    let a = c .before .before .before .before .before .before .args in
+returns-3 : tie.Need-returns-3 Inv-loop μ-loop
+returns-3 c =
+    let a = c .before .before .before .before .before .before .before .before .args in
     let l = c .before .before .before .loop in
-    (sym (l .inv .0 ∙ reach-stop matchClass (a .subject .now) (singleOf (a .pattern .now) (a .at) (a .end)) (l .tested) (a .budget) (l .steps) (c .before .before .if1 .left) (sym (c .before .fits2 .ensures) ∙ not-true _ (c .if2 .taken))), (l .inv .1, l .inv .2))
+    (sym (l .inv .0 ∙ reach-stop matchClass (a .subject .now) (singleOf (a .pattern .now) (a .at) (a .end)) (l .tested) (a .budget) (l .steps) (c .before .before .if2 .left) (sym (c .before .fits2 .ensures) ∙ not-true _ (c .if3 .taken))), (l .inv .1, l .inv .2))
 
 -- where the single fits, a byte is left
-inside : (c : tie.Else2 Inv-loop μ-loop) → c .before .before .before .loop .tested < length (c .before .before .before .before .before .before .args .subject .now)
+inside : (c : tie.Else3 Inv-loop μ-loop) → c .before .before .before .loop .tested < length (c .before .before .before .before .before .before .before .before .args .subject .now)
 inside c =
-    let a = c .before .before .before .before .before .before .args in
-    fits-inside matchClass (a .subject .now) (singleOf (a .pattern .now) (a .at) (a .end)) (c .before .before .before .loop .tested) (sym (c .before .fits2 .ensures) ∙ not-false _ (c .if2 .left))
+    let a = c .before .before .before .before .before .before .before .before .args in
+    fits-inside matchClass (a .subject .now) (singleOf (a .pattern .now) (a .at) (a .end)) (c .before .before .before .loop .tested) (sym (c .before .fits2 .ensures) ∙ not-false _ (c .if3 .left))
 
 add-tested : tie.Need-add-tested Inv-loop μ-loop
 add-tested c = omega (arith, inside c)
@@ -57,9 +74,9 @@ loop-less c = omega (arith, inside c)
 
 loop-again : tie.Need-loop-again Inv-loop μ-loop
 loop-again c =
-    let a = c .before .before .before .before .before .before .args in
+    let a = c .before .before .before .before .before .before .before .before .args in
     let l = c .before .before .before .loop in
-    (l .inv .0 ∙ reach-more matchClass (a .subject .now) (singleOf (a .pattern .now) (a .at) (a .end)) (l .tested) (a .budget) (l .steps) (c .before .before .if1 .left) (sym (c .before .fits2 .ensures) ∙ not-false _ (c .if2 .left)), omega (arith, l .inv .1), omega (arith, inside c))
+    (l .inv .0 ∙ reach-more matchClass (a .subject .now) (singleOf (a .pattern .now) (a .at) (a .end)) (l .tested) (a .budget) (l .steps) (c .before .before .if2 .left) (sym (c .before .fits2 .ensures) ∙ not-false _ (c .if3 .left)), omega (arith, l .inv .1), omega (arith, inside c))
 
 pub reach-spec : {M : Type 1} → statement M
 reach-spec =
@@ -67,11 +84,16 @@ reach-spec =
     (tie.spec
     Inv-loop
     μ-loop
-    loop-holds
+    shared-slice-read-if1
+    add-reach-class
+    shared-slice-read-reach-class
+    reach-class-requires
     returns
+    loop-holds
+    returns-2
     add-steps
     fits-requires
-    returns-2
+    returns-3
     add-tested
     loop-less
     loop-again)

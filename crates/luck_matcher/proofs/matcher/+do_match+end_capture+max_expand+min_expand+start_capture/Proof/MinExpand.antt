@@ -1,5 +1,5 @@
 -- `luck_matcher::matcher::min_expand` meets its contract. The loop's invariant: the places that are left give the same outcome. Assumes nothing.
-use Prim.Native.Nat.{ℕ, _+_, _-_, _≤_}
+use Prim.Native.Nat.{ℕ, _+_, _-_, _≤_, _<_}
 use mathlib.Core.Logic.{⊎-elim}
 use mathlib.Core.Bool.{true}
 use mathlib.Core.Option.{none}
@@ -97,24 +97,12 @@ module _ (t : ℕ) where
       (c .before .fails-at .ensures (w .0 .taken)) (test .ensures) (opened (c .before .before .before .before)) (w .3))
       (λ w. tests.passed-tried _ _ _ (c .if2 .steps) (w .2 .ensures .0) (w .4 .left) (w .6)) (c .if2 .came)
 
-  add-tried : lts.Need-add-tried (E t) (min-expand-at t) min-expand.Post Inv μ
-  add-tried c = omega (arith, c .before .before .before .before .before .before .before .before .pre .1 .3, c .before .before .before .loop .inv .1, c .before .before .before .before .before .before .before .before .good .1 .0)
-
-  loop-less : lts.Need-loop-less (E t) (min-expand-at t) min-expand.Post Inv μ
-  loop-less c = omega (arith, c .before .before .before .loop .inv .1)
-
-  loop-again : lts.Need-loop-again (E t) (min-expand-at t) min-expand.Post Inv μ
-  loop-again c =
-      let a = c .before .before .before .before .before .before .before .before .args in
-      let here = c .before .before .before .loop in
-      (tests.trying-second (a .subject .now) (a .budget) (singleOf (a .pattern .now) (a .at) (a .end)) (match matchClass (a .subject .now) (a .budget) (items (a .pattern .now) (a .end + 1))) (a .level) (capturesOf (a .t10)) (a .place) (a .used) (here .tested) (here .tried) (here .steps) (here .inv .0) _ (passed (c .before)) (c .if4 .taken), omega (arith, tests.at-first (a .subject .now) (a .budget) (singleOf (a .pattern .now) (a .at) (a .end)) (match matchClass (a .subject .now) (a .budget) (items (a .pattern .now) (a .end + 1))) (a .level) (capturesOf (a .t10)) (a .place) (a .used) (here .tested) (here .tried) (here .steps) (here .inv .0) (c .if4 .taken), c .before .before .before .before .before .before .before .before .pre .1 .3))
-
   returns-2 : lts.Need-returns-2 (E t) (min-expand-at t) min-expand.Post Inv μ
   unfolding outcomeOf outcomeBy
   returns-2 c =
       let a = c .before .before .before .before .before .before .before .before .before .args in
       let here = c .before .before .before .before .loop in
-      (tests.trying-spent (a .subject .now) (a .budget) (singleOf (a .pattern .now) (a .at) (a .end)) (match matchClass (a .subject .now) (a .budget) (items (a .pattern .now) (a .end + 1))) (a .level) (capturesOf (a .t10)) (a .place) (a .used) (here .tested) (here .tried) (here .steps) (here .inv .0) _ (passed (c .before .before)) (c .before .if4 .left) (c .if5 .taken), turns.no-match _ _ _ (λ e. omega arith))
+      (tests.trying-spent (a .subject .now) (a .budget) (singleOf (a .pattern .now) (a .at) (a .end)) (match matchClass (a .subject .now) (a .budget) (items (a .pattern .now) (a .end + 1))) (a .level) (capturesOf (a .t10)) (a .place) (a .used) (here .tested) (here .tried) (here .steps) (here .inv .0) _ (passed (c .before .before)) (c .before .if4 .taken) (c .if5 .taken), turns.no-match _ _ _ (λ e. omega arith))
 
   add-steps-2 : lts.Need-add-steps-2 (E t) (min-expand-at t) min-expand.Post Inv μ
   add-steps-2 c = omega arith
@@ -127,25 +115,33 @@ module _ (t : ℕ) where
   returns-3 c =
       let a = c .before .before .before .before .before .before .before .before .before .before .before .before .args in
       let here = c .before .before .before .before .before .before .before .loop in
-      (tests.trying-fails (a .subject .now) (a .budget) (singleOf (a .pattern .now) (a .at) (a .end)) (match matchClass (a .subject .now) (a .budget) (items (a .pattern .now) (a .end + 1))) (a .level) (capturesOf (a .t10)) (a .place) (a .used) (here .tested) (here .tried) (here .steps) (here .inv .0) _ (passed (c .before .before .before .before .before)) (c .before .before .before .before .if4 .left) (c .before .before .before .if5 .left) (sym (c .before .fits2 .ensures) ∙ not-true _ (c .if6 .taken)), turns.no-match _ _ _ (λ e. omega arith))
+      (tests.trying-fails (a .subject .now) (a .budget) (singleOf (a .pattern .now) (a .at) (a .end)) (match matchClass (a .subject .now) (a .budget) (items (a .pattern .now) (a .end + 1))) (a .level) (capturesOf (a .t10)) (a .place) (a .used) (here .tested) (here .tried) (here .steps) (here .inv .0) _ (passed (c .before .before .before .before .before)) (c .before .before .before .before .if4 .taken) (c .before .before .before .if5 .left) (sym (c .before .fits2 .ensures) ∙ not-true _ (c .if6 .taken)), turns.no-match _ _ _ (λ e. omega arith))
 
-  add-tried-2 : lts.Need-add-tried-2 (E t) (min-expand-at t) min-expand.Post Inv μ
-  add-tried-2 c =
-      let h = fits-inside _ _ _ _ (sym (c .before .fits2 .ensures) ∙ not-false _ (c .if6 .left)) in
-      omega (arith, h, c .before .before .before .before .before .before .before .before .before .before .before .before .good .1 .0)
+  -- a byte is left: it was tested, or it is the first
+  inside : (c : lts.Joined4 (E t) (min-expand-at t) min-expand.Post Inv μ) → c .before .before .before .loop .tried < length (c .before .before .before .before .before .before .before .before .args .subject .now)
+  inside c =
+      let a = c .before .before .before .before .before .before .before .before .args in
+      let here = c .before .before .before .loop in
+      ⊎-elim (λ w. fits-inside _ _ _ _ (sym (w .3 .ensures) ∙ not-false _ (w .4 .left)))
+      (λ w. omega (arith, tests.at-first (a .subject .now) (a .budget) (singleOf (a .pattern .now) (a .at) (a .end)) (match matchClass (a .subject .now) (a .budget) (items (a .pattern .now) (a .end + 1))) (a .level) (capturesOf (a .t10)) (a .place) (a .used) (here .tested) (here .tried) (here .steps) (here .inv .0) (w .0 .left), c .before .before .before .before .before .before .before .before .pre .1 .3)) (c .if4 .came)
 
-  loop-less-2 : lts.Need-loop-less-2 (E t) (min-expand-at t) min-expand.Post Inv μ
-  loop-less-2 c =
-      let h = fits-inside _ _ _ _ (sym (c .before .fits2 .ensures) ∙ not-false _ (c .if6 .left)) in
-      omega (arith, h, c .before .before .before .before .before .before .before .before .before .before .before .before .good .1 .0)
+  add-tried : lts.Need-add-tried (E t) (min-expand-at t) min-expand.Post Inv μ
+  add-tried c = omega (arith, inside c, c .before .before .before .before .before .before .before .before .good .1 .0)
 
-  loop-again-2 : lts.Need-loop-again-2 (E t) (min-expand-at t) min-expand.Post Inv μ
-  loop-again-2 c =
-      let a = c .before .before .before .before .before .before .before .before .before .before .before .before .args in
-      let here = c .before .before .before .before .before .before .before .loop in
-      let f = sym (c .before .fits2 .ensures) ∙ not-false _ (c .if6 .left) in
-      let h = fits-inside _ _ _ _ f in
-      (tests.trying-next (a .subject .now) (a .budget) (singleOf (a .pattern .now) (a .at) (a .end)) (match matchClass (a .subject .now) (a .budget) (items (a .pattern .now) (a .end + 1))) (a .level) (capturesOf (a .t10)) (a .place) (a .used) (here .tested) (here .tried) (here .steps) (here .inv .0) _ (passed (c .before .before .before .before .before)) (c .before .before .before .before .if4 .left) (c .before .before .before .if5 .left) f h, omega arith)
+  loop-less : lts.Need-loop-less (E t) (min-expand-at t) min-expand.Post Inv μ
+  loop-less c = omega (arith, inside c)
+
+  loop-again : lts.Need-loop-again (E t) (min-expand-at t) min-expand.Post Inv μ
+  loop-again c =
+      let a = c .before .before .before .before .before .before .before .before .args in
+      let here = c .before .before .before .loop in (
+        ⊎-elim
+            (λ w.
+            let f = sym (w .3 .ensures) ∙ not-false _ (w .4 .left) in
+            tests.trying-as (a .subject .now) (a .budget) (singleOf (a .pattern .now) (a .at) (a .end)) (match matchClass (a .subject .now) (a .budget) (items (a .pattern .now) (a .end + 1))) (a .level) (capturesOf (a .t10)) (a .place) (a .used) _ _ _ _ _ (w .5) (w .6) (tests.trying-next (a .subject .now) (a .budget) (singleOf (a .pattern .now) (a .at) (a .end)) (match matchClass (a .subject .now) (a .budget) (items (a .pattern .now) (a .end + 1))) (a .level) (capturesOf (a .t10)) (a .place) (a .used) (here .tested) (here .tried) (here .steps) (here .inv .0) _ (passed (c .before)) (w .0 .taken) (w .1 .left) f (inside c)))
+            (λ w. tests.trying-as (a .subject .now) (a .budget) (singleOf (a .pattern .now) (a .at) (a .end)) (match matchClass (a .subject .now) (a .budget) (items (a .pattern .now) (a .end + 1))) (a .level) (capturesOf (a .t10)) (a .place) (a .used) _ _ _ _ _ (w .1) (w .2) (tests.trying-second (a .subject .now) (a .budget) (singleOf (a .pattern .now) (a .at) (a .end)) (match matchClass (a .subject .now) (a .budget) (items (a .pattern .now) (a .end + 1))) (a .level) (capturesOf (a .t10)) (a .place) (a .used) (here .tested) (here .tried) (here .steps) (here .inv .0) _ (passed (c .before)) (w .0 .left))) (c .if4 .came),
+        omega (arith, inside c),
+      )
 
 pub min-expand-proof : {M : Type 1} (t : ℕ) → lts.Closed (E t) (min-expand-at t) min-expand.Post M
 min-expand-proof t =
@@ -160,13 +156,10 @@ min-expand-proof t =
     (add-steps t)
     (do-match-requires t)
     (returns t)
-    (add-tried t)
-    (loop-less t)
-    (loop-again t)
     (returns-2 t)
     (add-steps-2 t)
     (fits-requires t)
     (returns-3 t)
-    (add-tried-2 t)
-    (loop-less-2 t)
-    (loop-again-2 t)
+    (add-tried t)
+    (loop-less t)
+    (loop-again t)
