@@ -1,4 +1,4 @@
--- What the functions of an attempt promise each other. No public contract rests on these.
+-- What the functions of an attempt promise each other. This crate is for the trial only, and no contract of `gsub` rests on these.
 -- Assumes nothing.
 use Prim.Native.Nat.{ℕ, _+_, _-_, _<_, _≤_}
 use Prim.Native.Char.{code}

@@ -78,7 +78,7 @@ unfoldable pub optionsUpTo : ℕ → List ℕ → ℕ → List Placed
 optionsUpTo zero text p = []
 optionsUpTo (suc n) text p = elim (getoption text p) [ option o width ↦ placed p o ∷ optionsUpTo n text (p + width) | fault answer ↦ [] ]
 
--- all of them, from p on; the option that an `X` reads stands behind it
+-- all of them, from p on; the option that an `X` reads stands behind it. An accepted format has as many values as this list (proofs/PackOptions.antt)
 unfoldable pub optionsFrom : List ℕ → ℕ → List Placed
 optionsFrom text p = optionsUpTo (length text - p) text p
 

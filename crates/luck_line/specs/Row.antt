@@ -9,14 +9,14 @@ use Rattle.luck_answer.specs.Answer.{Answer}
 
 -- LF
 abbrev pub newline : ℕ
-newline = 10
+newline = code "\n"
 
 -- the digit of n at a power of ten, or a blank where it would be a leading zero
 unfoldable pub column : ℕ → ℕ → ℕ
 column power n = if ltb n power then code " " else code "0" + n / power % 10
 
 -- n right-justified in one column more than there are powers; a number with more digits would lose its first ones. In a row none has: its offset lies in a
--- body of at most 4,000 bytes (proofs/Promises.antt, `line-refusals`), and what is counted takes a byte of it, at least
+-- body of at most 4,000 bytes (proofs/Answers.antt, `line-fits`), and what is counted takes a byte of it, at least
 unfoldable pub justified : List ℕ → ℕ → List ℕ
 justified [] n = (code "0" + n % 10) ∷ []
 justified (power ∷ powers) n = column power n ∷ justified powers n

@@ -1,6 +1,7 @@
 -- Document 01's example of the program `bodies`, and the misfits of a head, by computation.
 -- Assumes nothing.
 use Prim.Native.Nat.{ℕ}
+use Prim.Native.Char.{code}
 use mathlib.Core.Path.{_≡_, refl}
 use mathlib.Core.List.{List, [], _∷_, _++_}
 use lib.ListN.{replicate}
@@ -39,7 +40,7 @@ none-and-empty = (refl, refl)
 -- heads: `F7 1 x` and `00` are 30, ` 0`, `32` and the blank are accepted, `33` is 30, version 7 is 25; CR and NUL are bytes of the body; the last line lacks its newline
 pub heads : listing
     (line (ascii "F7 1 x") (line (ascii "G4 0 x") (line (ascii "G400 x") (line (ascii "G432 x") (line (ascii "G433 x") (line (ascii "G4   %9")
-    (line (ascii "F1   %" ++ (13 ∷ [])) (line (ascii "K3   b" ++ (0 ∷ [])) (ascii "F7   x")))))))))
+    (line (ascii "F1   %" ++ (code "\r" ∷ [])) (line (ascii "K3   b" ++ (0 ∷ [])) (ascii "F7   x")))))))))
     ≡ line (ascii "  30      0      0") (line (ascii "   0      0      0") (line (ascii "  30      0      0") (line (ascii "   0      0      0")
     (line (ascii "  30      0      0") (line (ascii "   0      0      0") (line (ascii "   2      1      0") (line (ascii "  14      1      0") (line (ascii "  25      0      0") []))))))))
 unfolding computed

@@ -1,4 +1,4 @@
--- The listing made piece by piece: what one call takes of the bytes that are there, and what it writes. What comes of it all is the listing of the whole
+-- The listing (document 01, the program `bodies`) made piece by piece: what one call takes of the bytes that are there, and what it writes. What comes of it all is the listing of the whole
 -- input, however it was cut (proofs/Promises.antt).
 -- Assumes nothing.
 use Prim.Native.Nat.{ℕ, _+_, _-_, _≤_}
@@ -15,7 +15,7 @@ use Rattle.luck_line.specs.Row.{newline, answerRow}
 use Rattle.luck_lines.specs.Lines.{linesFrom, rows}
 use Rattle.luck_lines.specs.declared.stream.Fed.{Fed}
 
--- the bytes of a row, its newline included (proofs/Rows.antt)
+-- the bytes of a row, its newline included (proofs/Rows.antt of luck_line)
 abbrev pub rowLength : ℕ
 rowLength = 19
 

@@ -1,4 +1,4 @@
--- The checks, as one data type, with the numbers that each can answer.
+-- The checks, as one data type, with the numbers of document 01's table of refusals that each can answer.
 -- Assumes nothing.
 use Prim.Native.Nat.{ℕ}
 use mathlib.Core.Bool.{Bool}

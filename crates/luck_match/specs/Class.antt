@@ -1,7 +1,7 @@
 -- The classes of a pattern (match_class of lstrlib.c, its tests in ASCII as document 01 lists them), and which bytes a single takes (matchbracketclass
 -- and singlematch).
 -- Assumes nothing.
-use Prim.Native.Nat.{ℕ, _+_}
+use Prim.Native.Nat.{ℕ, _+_, _-_}
 use Prim.Native.Char.{code}
 use mathlib.Core.Bool.{Bool, true, false, not, _&&_, _||_}
 use mathlib.Core.List.{List, [], _∷_}
@@ -24,19 +24,19 @@ unfoldable pub isAlnum : ℕ → Bool
 isAlnum c = isAlpha c || isDigit c
 
 unfoldable pub isCntrl : ℕ → Bool
-isCntrl c = leb c 31 || eqb c 127
+isCntrl c = leb c 0x1F || eqb c 0x7F
 
 unfoldable pub isGraph : ℕ → Bool
-isGraph c = between 33 126 c
+isGraph c = between (code "!") (code "~") c
 
 unfoldable pub isPunct : ℕ → Bool
 isPunct c = isGraph c && not (isAlnum c)
 
 unfoldable pub isSpace : ℕ → Bool
-isSpace c = between 9 13 c || eqb c (code " ")
+isSpace c = between (code "\t") (code "\r") c || eqb c (code " ")
 
 unfoldable pub toLower : ℕ → ℕ
-toLower c = if isUpper c then c + 32 else c
+toLower c = if isUpper c then c + (code "a" - code "A") else c
 
 -- whether the byte c is in the class of this small letter; none where the letter names no class
 unfoldable pub classTest : ℕ → ℕ → Option Bool

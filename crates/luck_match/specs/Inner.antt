@@ -1,4 +1,4 @@
--- What the code of items, singles and captures promises the matching. No public contract rests on these.
+-- What the code of items, singles and captures promises the matching. This crate is for the trial only, and no contract of `gsub` rests on these.
 -- Assumes nothing.
 use Prim.Native.Nat.{ℕ, zero, suc, _+_, _-_, _<_, _≤_}
 use Prim.Native.Char.{code}

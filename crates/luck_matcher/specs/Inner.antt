@@ -1,4 +1,4 @@
--- What the functions of the matching promise each other and the trial. No public contract rests on these.
+-- What the functions of the matching promise each other and the trial. This crate is for the trial only, and no contract of `gsub` rests on these.
 -- Assumes nothing.
 use Prim.Native.Nat.{ℕ, _+_, _<_, _≤_}
 use mathlib.Core.Path.{_≡_}

@@ -1,4 +1,4 @@
--- The captures of a pattern so far: an entry for each, true once its `)` has been read (luck's Vec<bool>). And the word that the code keeps in
+-- The captures of a pattern so far: an entry for each, true once its `)` has been read (the Vec<bool> of luck's validate_lua_pattern). And the word that the code keeps in
 -- its place, with a bit for each capture that is still open (flagsOf); no public contract speaks of it.
 -- Assumes nothing.
 use Prim.Native.Nat.{ℕ, zero, suc, _-_, _/_, _%_}

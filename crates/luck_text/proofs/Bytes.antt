@@ -13,7 +13,7 @@ use lib.Seq.{drop-cons, take-nil, getD-take, getD-drop, length-take-le}
 use lib.Dec.{leb, eqb}
 use borrow.Author.Tests.{le-leb, lt-leb, leb-true, leb-false, eq-eqb, ne-eqb}
 use Rattle.luck_text.specs.Bytes.{if_then_else_, byteAt, part, between, among, isDigit, isXdigit, run, digitValue, numeralFrom, numeral}
-use Rattle.luck_text.specs.Scan.{neither, most, grown}
+use Rattle.luck_text.specs.Scan.{most, grown}
 use Rattle.luck_text.proofs.Cases.{by-test, order, and-right, second-false}
 
 -- ---- A range
@@ -53,32 +53,6 @@ all-of-part P text p size h f k l m =
     let n = length-take-le (p + size - p) (drop p text) (omega (arith, length-drop p text)) in
     let q : p + (k - p) ≡ k = omega arith in
     subst P (getD-take (p + size - p) (drop p text) (k - p) 0 (omega arith) ∙ getD-drop p text (k - p) 0 ∙ ap (byteAt text) q) (f (k - p) (omega arith))
-
--- ---- Neither of two bytes
-
-module _ (a b x : ℕ) where
-  pub is-first : x ≡ a → false ≡ neither a b x
-  unfolding neither
-  is-first e = rw (eq-eqb x a e)
-
-  pub not-first : (x ≡ a → ⊥) → not (eqb x b) ≡ neither a b x
-  unfolding neither
-  not-first h = rw (ne-eqb x a h)
-
-  pub neither-of : (x ≡ a → ⊥) → (x ≡ b → ⊥) → neither a b x ≡ true
-  unfolding neither
-  neither-of h g = rw (ne-eqb x a h, ne-eqb x b g)
-
-  pub neither-first : neither a b x ≡ true → x ≡ a → ⊥
-  neither-first h e = true≢false (sym h ∙ sym (is-first e))
-
-  pub neither-second : neither a b x ≡ true → x ≡ b → ⊥
-  unfolding neither
-  neither-second h e = true≢false (sym h ∙ go (eqb x a) (eq-eqb x b e))
-    where
-      go : (t : Bool) → eqb x b ≡ true → not (t || eqb x b) ≡ false
-      go true f = refl
-      go false f = rw f
 
 -- ---- A run
 

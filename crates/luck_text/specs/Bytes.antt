@@ -1,4 +1,4 @@
--- Texts and bytes. A text is a list of bytes and a byte a number. A place past the end of a text reads as 0, as C's closing zero byte.
+-- Texts and bytes, for all that follows from luck, the manuals and document 01. A text is a list of bytes and a byte a number. A place past the end of a text reads as 0, as C's closing zero byte.
 -- Assumes nothing.
 use Prim.Native.Nat.{ℕ, suc, _+_, _*_, _-_}
 use Prim.Native.Char.{code}
@@ -41,7 +41,7 @@ isDigit b = between (code "0") (code "9") b
 unfoldable pub isXdigit : ℕ → Bool
 isXdigit b = isDigit b || between (code "a") (code "f") b || between (code "A") (code "F") b
 
--- whitespace to Lua's lexers, and C's isspace: space, and HT, LF, VT, FF, CR
+-- is_lua_whitespace of luck's whitespace.rs, and C's isspace: space, and HT, LF, VT, FF, CR
 unfoldable pub isLuaWhitespace : ℕ → Bool
 isLuaWhitespace b = eqb b (code " ") || between (code "\t") (code "\r") b
 

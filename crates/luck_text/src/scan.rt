@@ -1,10 +1,9 @@
 // Runs of bytes of one class, and the number that digits spell.
 ghost use mathlib.Core.Path.{_≡_};
-ghost use mathlib.Core.Bool.{false};
-ghost use Prim.Native.Nat.{ℕ, _<_, _≤_, min};
+ghost use Prim.Native.Nat.{_≤_, min};
 ghost use lib.ListN.{length, drop};
-ghost use Rattle.luck_text.specs.Bytes.{byteAt, part, among, run as runOf, digitValue, numeral as numeralOf};
-ghost use Rattle.luck_text.specs.Scan.{inClass, neither as neitherOf, most, grown};
+ghost use Rattle.luck_text.specs.Bytes.{part, among, run as runOf, digitValue, numeral as numeralOf};
+ghost use Rattle.luck_text.specs.Scan.{inClass, most, grown};
 
 // What a run is made of.
 pub enum Class {
@@ -97,31 +96,6 @@ pub fn run_in(text: &[u8], at: usize, set: &[u8]) -> usize
         end += 1;
     }
     end - at
-}
-
-// Whether the byte is neither of two.
-pub fn neither(a: u8, b: u8, byte: u8) -> bool
-    ensures { λ r. ⌜ r ≡ neitherOf a b byte ⌝ }
-{
-    if byte == a {
-        return false;
-    }
-    byte != b
-}
-
-// Whether a block has the byte. Every byte is looked at, so that the compiler can test many at once.
-pub fn has_byte(block: &[u8], byte: u8) -> bool
-    ensures { λ r. ⌜ (r ≡ false → (k : ℕ) → k < length (now (block .entry)) → byteAt (now (block .entry)) k ≡ byte → ⊥) ⌝ }
-{
-    let mut found = false;
-    let mut i = 0;
-    while i < block.len() {
-        if block[i] == byte {
-            found = true;
-        }
-        i += 1;
-    }
-    found
 }
 
 fn digit_value(byte: u8) -> u64

@@ -41,8 +41,9 @@ use Rattle.luck_token.specs.declared.string.Piece.{Piece as Found}
 use Rattle.luck_token.specs.declared.string.Escape.{Escape}
 use Rattle.luck_token.specs.declared.string.Escape.the-variants.{Decimal}
 use Rattle.luck_text.proofs.Cases.{by-test, if-true, if-false, and-left, and-right, both-true, first-false, second-false, order}
-use Rattle.luck_text.proofs.Bytes.{within, below, above, neither-first, neither-second, digit-more, digit-end, hex-value}
+use Rattle.luck_text.proofs.Bytes.{within, below, above, digit-more, digit-end, hex-value}
 use Rattle.luck_token.proofs.Breaks.{no-break}
+use Rattle.luck_token.proofs.Plain.{neither-first, neither-second}
 
 -- ---- The text
 

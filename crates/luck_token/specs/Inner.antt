@@ -2,15 +2,14 @@
 -- Assumes nothing.
 use Prim.Native.Nat.{ℕ, _+_, _<_, _≤_}
 use mathlib.Core.Path.{_≡_}
-use mathlib.Core.Bool.{Bool, true, false}
+use mathlib.Core.Bool.{Bool, true, false, not, _||_}
 use mathlib.Core.List.{List, [], _∷_, _++_}
 use mathlib.Core.Option.{Option, none, some}
 use Prim.Native.Char.{code}
 use lib.ListN.{length, drop}
 use lib.Seq.{sets}
-use lib.Dec.{leb}
+use lib.Dec.{leb, eqb}
 use Rattle.luck_text.specs.Bytes.{if_then_else_}
-use Rattle.luck_text.specs.Scan.{neither}
 use Rattle.luck_utf8.specs.Utf8.{utf8Bytes}
 use Rattle.luck_token.specs.Literal.{Piece, piece, malformed}
 use Rattle.luck_token.specs.declared.string.Piece.{Piece as Found}
@@ -44,7 +43,11 @@ abbrev pub sizeOf : Option (List ℕ) → Size
 sizeOf none = size.Malformed
 sizeOf (some bytes) = size.Length (length bytes)
 
--- a byte of a long or a short string that is a piece by itself: no line break or backslash begins with it
+-- the byte is neither of two
+unfoldable pub neither : ℕ → ℕ → ℕ → Bool
+neither a b x = not (eqb x a || eqb x b)
+
+-- a byte of a long or a short string that is a piece by itself: no line break begins with it, or no escape, for which one byte is asked for twice
 abbrev pub plain : Bool → ℕ → Bool
 plain true b = neither (code "\r") (code "\n") b
 plain false b = neither (code "\\") (code "\\") b

@@ -11,7 +11,7 @@ ghost use Rattle.luck_utf8.specs.Utf8.{utf8Bytes};
 ghost use Rattle.luck_token.specs.Whitespace.{stripLineBreak};
 ghost use Rattle.luck_token.specs.Literal.{isShort, shortStringBody, placesOf, bracketAt, bracketWidth, otherEscape, escapeOf, lineBreakEscape, hexEscape, decimalEscape, allowsDigits, allowsCodePoint, unicodeEscape, escapeAt, longPiece, pieceAt, valueOf, literalValue};
 ghost use Rattle.luck_token.specs.Decode.{withRoom, decodeString, answerOf, numbered, outputOf};
-ghost use Rattle.luck_token.specs.Inner.{IsPiece, sizeOf, plain, stores, Within, Written};
+ghost use Rattle.luck_token.specs.Inner.{IsPiece, sizeOf, neither as neitherOf, plain, stores, Within, Written};
 use crate::version;
 use crate::version::Rules;
 use crate::whitespace;
@@ -307,14 +307,39 @@ fn piece_at(body: &[u8], at: usize, long: bool, rules: Rules) -> Piece
     Piece::Byte { value, width: 1 }
 }
 
+// Whether the byte is neither of two.
+fn neither(a: u8, b: u8, byte: u8) -> bool
+    ensures { λ r. ⌜ r ≡ neitherOf a b byte ⌝ }
+{
+    if byte == a {
+        return false;
+    }
+    byte != b
+}
+
+// Whether a block has the byte. Every byte is looked at, so that the compiler can test many at once.
+fn has_byte(block: &[u8], byte: u8) -> bool
+    ensures { λ r. ⌜ (r ≡ false → (k : ℕ) → k < length (now (block .entry)) → byteAt (now (block .entry)) k ≡ byte → ⊥) ⌝ }
+{
+    let mut found = false;
+    let mut i = 0;
+    while i < block.len() {
+        if block[i] == byte {
+            found = true;
+        }
+        i += 1;
+    }
+    found
+}
+
 // Whether the byte is a piece by itself.
 fn is_plain(byte: u8, long: bool) -> bool
     ensures { λ r. ⌜ r ≡ plain long byte ⌝ }
 {
     if long {
-        return scan::neither(b'\r', b'\n', byte);
+        return neither(b'\r', b'\n', byte);
     }
-    scan::neither(b'\\', b'\\', byte)
+    neither(b'\\', b'\\', byte)
 }
 
 // Whether a block has a byte that is no piece by itself.
@@ -322,12 +347,12 @@ fn has_special(block: &[u8], long: bool) -> bool
     ensures { λ r. ⌜ (r ≡ false → (k : ℕ) → k < length (now (block .entry)) → plain long (byteAt (now (block .entry)) k) ≡ true) ⌝ }
 {
     if long {
-        if scan::has_byte(block, b'\r') {
+        if has_byte(block, b'\r') {
             return true;
         }
-        return scan::has_byte(block, b'\n');
+        return has_byte(block, b'\n');
     }
-    scan::has_byte(block, b'\\')
+    has_byte(block, b'\\')
 }
 
 // The place behind the blocks of 16 bytes that follow `at` and have no other byte than such.

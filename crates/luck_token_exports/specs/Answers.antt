@@ -1,4 +1,4 @@
--- Answers that are one number or one record in C, where luck_token's definitions have an option.
+-- Answers that are one number or one record in C, where the definitions of luck_token and luck_utf8 have an option.
 -- Assumes nothing.
 use Prim.Native.Nat.{ℕ}
 use mathlib.Core.Bool.{true, false}

@@ -3,7 +3,7 @@ use mathlib.Core.Path.{_≡_, ap, _∙_}
 use mathlib.Core.Bool.{Bool, true≢false}
 use Rattle.luck_text.specs.Bytes.{byteAt}
 use Rattle.luck_token.specs.Inner.{plain}
-use Rattle.luck_text.proofs.Bytes.{neither-of}
+use Rattle.luck_token.proofs.Plain.{neither-of}
 use borrow.Author.Needs.{needs}
 use Rattle.luck_token.proofs.string.has_special.Statement.{statement}
 use Rattle.luck_token.proofs.string.has_special.Tie as tie
