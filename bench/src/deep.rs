@@ -23,12 +23,13 @@ impl Input {
 /// Items that take a level each, and what one of them matches.
 const ITEMS: [(&str, &str); 5] = [("a*b*", "ab"), ("[a-m]*[n-z]*", "an"), ("a?", "a"), ("a-", "a"), (".-", "a")];
 
-/// Each goes to the last level, and no farther: the items again and again, after 32 captures or without any. With the captures and the
-/// greedy repeats it is the deepest trial that is known, that of `host/c/stack.c`.
+/// Each goes to the last level, and no farther: the items again and again, after 32 captures or without any. The one that begins with a
+/// lazy repeat is the deepest trial that is known; `host/c/stack.c` runs it too.
 pub fn inputs() -> Vec<Input> {
     let mut inputs: Vec<Input> = ITEMS.iter().map(|&(item, text)| captured(item, text)).collect();
     inputs.extend(ITEMS.iter().map(|&(item, text)| plain(item, text)));
     inputs.push(nested());
+    inputs.push(behind_lazy());
     inputs
 }
 
@@ -46,6 +47,12 @@ fn captured(item: &str, text: &str) -> Input {
 fn nested() -> Input {
     let pattern = format!("{}a{}{}", "(".repeat(CAPTURES), ")".repeat(CAPTURES), "a?".repeat(REPEATS));
     Input::new(format!("{CAPTURES} captures in each other, then `a?` again and again"), pattern, "a".repeat(REPEATS))
+}
+
+/// A lazy repeat, and all captures opened and closed behind it, so that no level is one of an attempt's own; then lazy repeats.
+fn behind_lazy() -> Input {
+    let pattern = format!(".-{}.{}{}", "(".repeat(CAPTURES), ")".repeat(CAPTURES), ".-".repeat(REPEATS));
+    Input::new(format!("`.-`, {CAPTURES} captures, then `.-` again and again"), pattern, "aa".to_owned())
 }
 
 /// Trials of few levels, with every number and every kind of an error.

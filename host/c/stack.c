@@ -1,6 +1,6 @@
 /*
- * The deepest trials that are known, on a stack of 512 KiB: thirty-two captures opened and all but one closed, and repeats to the 201st level, greedy
- * ones and lazy ones. It dies where the stack is too small, and exits with 1 where the answer is another.
+ * The deepest trials that are known, on a stack of 512 KiB: thirty-two captures and repeats to the 201st level, greedy ones and lazy ones, and those
+ * with a lazy one before the captures too. It dies where the stack is too small, and exits with 1 where the answer is another.
  *
  *     cc -std=c99 -D_POSIX_C_SOURCE=200112L -Wall -Wextra -Werror -Iinclude host/c/stack.c target/staticlib/libluck.a -lpthread -o stack
  */
@@ -14,32 +14,38 @@ enum { CAPTURES = 32, REPEATS = 136, STACK = 512 * 1024 };
 
 struct deep {
     const char *name;
+    /* What stands before the captures, and what the innermost one is of. */
+    const char *before, *inside;
+    /* How many of the captures are closed before the repeats. */
+    int closed;
     uint8_t repeat;
-    /* The repeats' letters, in turn. */
-    const char *letters;
+    /* What is repeated, in turn, and the subject's bytes. */
+    const char *items, *letters;
     luck_trial answer;
 };
 
 static void *trial(void *given)
 {
-    static uint8_t pattern[CAPTURES + 1 + (CAPTURES - 1) + 2 * REPEATS + 1];
+    static uint8_t pattern[2 + CAPTURES + 1 + CAPTURES + 2 * REPEATS + 1];
     static uint8_t subject[1 + REPEATS];
     static uint8_t output[1024];
     struct deep *deep = given;
-    size_t at = 0;
-    memset(pattern, '(', CAPTURES);
+    size_t at = strlen(deep->before);
+    memcpy(pattern, deep->before, at);
+    memset(pattern + at, '(', CAPTURES);
     at += CAPTURES;
-    pattern[at++] = 'c';
-    memset(pattern + at, ')', CAPTURES - 1);
-    at += CAPTURES - 1;
-    subject[0] = 'c';
+    pattern[at++] = (uint8_t)deep->inside[0];
+    memset(pattern + at, ')', (size_t)deep->closed);
+    at += (size_t)deep->closed;
+    subject[0] = (uint8_t)deep->inside[0];
     for (int i = 0; i < REPEATS; i++) {
-        uint8_t letter = (uint8_t)deep->letters[i % 2];
-        pattern[at++] = letter;
+        pattern[at++] = (uint8_t)deep->items[i % 2];
         pattern[at++] = deep->repeat;
-        subject[1 + i] = letter;
+        subject[1 + i] = (uint8_t)deep->letters[i % 2];
     }
-    pattern[at++] = ')';
+    if (deep->closed < CAPTURES) {
+        pattern[at++] = ')';
+    }
     deep->answer = luck_gsub_trial(4, pattern, at, (const uint8_t *)"x", 1, subject, sizeof subject, 1000000, output, sizeof output);
     return NULL;
 }
@@ -61,8 +67,10 @@ static int run(struct deep *deep)
 
 int main(void)
 {
-    struct deep greedy = {"greedy", '*', "ab", {0}};
-    struct deep lazy = {"lazy", '-', "aa", {0}};
+    struct deep greedy = {"greedy", "", "c", CAPTURES - 1, '*', "ab", "ab", {0}};
+    struct deep lazy = {"lazy", "", "c", CAPTURES - 1, '-', "aa", "aa", {0}};
+    struct deep behind_lazy = {"lazy (one before the captures)", ".-", ".", CAPTURES, '-', "..", "aa", {0}};
     int failed = run(&greedy);
-    return run(&lazy) != 0 || failed != 0;
+    failed |= run(&lazy);
+    return run(&behind_lazy) | failed;
 }
