@@ -2,9 +2,9 @@
 // or the first fault.
 ghost use mathlib.Core.Path.{_≡_};
 ghost use Rattle.luck_answer.specs.Answer.{Answer, refusal, walkedOf, answerOf, checkText, textAnswer};
-use luck_token::version;
 use luck_utf8::utf8;
 use luck_utf8::utf8::Utf8;
+use luck_version::version;
 
 // luck's PatternError. Each `offset` is a byte index into the text, each character a code point.
 pub enum PatternError {

@@ -1,4 +1,2 @@
 pub mod Formats
-pub mod Packs
-pub mod PackOptions
 pub mod Dates

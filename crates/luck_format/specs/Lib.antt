@@ -1,4 +1,3 @@
 pub mod Format
-pub mod Pack
 pub mod Date
 pub mod Inner

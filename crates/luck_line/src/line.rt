@@ -5,7 +5,7 @@ ghost use Rattle.luck_line.specs.Inner.{columnsOf};
 use luck_answer::format_pattern::Checked;
 use luck_format::date;
 use luck_format::format;
-use luck_format::pack;
+use luck_pack::pack;
 use luck_pattern::pattern;
 use luck_pattern::replacement;
 use luck_pattern::replacement::Captures;

@@ -14,7 +14,7 @@ use Rattle.luck_text.proofs.Cases.{by-test}
 use Rattle.luck_answer.specs.Answer.{Answer}
 use Rattle.luck_linter.specs.Checks.{pack, answer, numbers}
 use Rattle.luck_answer.proofs.Answers.{Stops, walk-every, Fits, check-fits}
-use Rattle.luck_format.specs.Pack.{
+use Rattle.luck_pack.specs.Pack.{
   PackOption,
   Read,
   option,

@@ -8,7 +8,7 @@ use Rattle.luck_answer.specs.Answer.{Answer}
 use Rattle.luck_pattern.specs.Pattern.{checkPattern}
 use Rattle.luck_pattern.specs.Replacement.{checkReplacement}
 use Rattle.luck_format.specs.Format.{checkFormat}
-use Rattle.luck_format.specs.Pack.{checkPack}
+use Rattle.luck_pack.specs.Pack.{checkPack}
 use Rattle.luck_format.specs.Date.{checkDate}
 use Rattle.luck_linter.specs.StringLiteral.{checkLiteral}
 

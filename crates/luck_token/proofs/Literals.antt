@@ -12,7 +12,7 @@ use borrow.Author.Tests.{lt-ltb, le-ltb, le-leb, lt-leb, eq-eqb, ne-eqb, leb-tru
 use mathlib.Core.Logic.{inl, inr, ⊎-elim}
 use Rattle.luck_text.specs.Bytes.{if_then_else_, byteAt, between, part, isDigit, isXdigit, run, digitValue, numeralFrom, numeral}
 use Rattle.luck_utf8.specs.Utf8.{isChar, utf8Bytes}
-use Rattle.luck_token.specs.Whitespace.{lineBreak, stripLineBreak}
+use Rattle.luck_version.specs.Whitespace.{lineBreak, stripLineBreak}
 use Rattle.luck_text.specs.Scan.{most}
 use Rattle.luck_token.specs.Literal.{
   isShort,
@@ -36,21 +36,16 @@ use Rattle.luck_token.specs.Literal.{
   malformed,
 }
 use Rattle.luck_token.specs.Inner.{IsPiece, plain}
-use Rattle.luck_token.specs.declared.version.Rules.{Rules}
+use Rattle.luck_version.specs.declared.version.Rules.{Rules}
 use Rattle.luck_token.specs.declared.string.Piece.{Piece as Found}
 use Rattle.luck_token.specs.declared.string.Escape.{Escape}
 use Rattle.luck_token.specs.declared.string.Escape.the-variants.{Decimal}
 use Rattle.luck_text.proofs.Cases.{by-test, if-true, if-false, and-left, and-right, both-true, first-false, second-false, order}
 use Rattle.luck_text.proofs.Bytes.{within, below, above, digit-more, digit-end, hex-value}
-use Rattle.luck_token.proofs.Breaks.{no-break}
+use Rattle.luck_version.proofs.Breaks.{no-break}
 use Rattle.luck_token.proofs.Plain.{neither-first, neither-second}
 
 -- ---- The text
-
--- a text without the line break that it starts with, as a part of it
-pub stripped : (lfcr : Bool) (text : List ℕ) (width : ℕ) → width ≡ lineBreak lfcr text 0 → take (length text - width) (drop width text) ≡ stripLineBreak lfcr text
-unfolding stripLineBreak
-stripped lfcr text width e = take-all (length text - width) (drop width text) (omega (arith, length-drop width text)) ∙ ap (λ (w : ℕ). drop w text) e
 
 -- a quoted text has both of its quotes
 pub both-quotes : (raw : List ℕ) → isShort raw ≡ true → 2 ≤ length raw

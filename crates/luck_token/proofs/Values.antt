@@ -16,9 +16,9 @@ use borrow.Author.Tests.{lt-ltb, le-ltb, le-leb, lt-leb, leb-true, ltb-true}
 use Rattle.luck_text.specs.Bytes.{if_then_else_, byteAt, part}
 use Rattle.luck_text.specs.Walk.{Turn, walkFrom}
 use Rattle.luck_text.specs.Walk.Turn.{stop, goes}
-use Rattle.luck_token.specs.Version.{isVersion, rulesOf}
+use Rattle.luck_version.specs.Version.{isVersion, rulesOf}
 use Rattle.luck_utf8.specs.Utf8.{utf8Bytes, illFormed}
-use Rattle.luck_token.specs.Whitespace.{lineBreak, stripLineBreak}
+use Rattle.luck_version.specs.Whitespace.{lineBreak, stripLineBreak}
 use Rattle.luck_token.specs.Literal.{
   Piece,
   piece,
@@ -37,7 +37,7 @@ use Rattle.luck_token.specs.Literal.{
 }
 use Rattle.luck_token.specs.Decode.{Outcome, value, refused, withRoom, ofText, decodeString, answerOf, numbered, outputOf}
 use Rattle.luck_token.specs.Inner.{IsPiece, Lies, sizeOf, plain, stores, Within, Written}
-use Rattle.luck_token.specs.declared.version.Rules.{Rules}
+use Rattle.luck_version.specs.declared.version.Rules.{Rules}
 use Rattle.luck_token.specs.declared.string.Piece.{Piece as Found}
 use Rattle.luck_token.specs.declared.string.Size.{Size}
 use Rattle.luck_token.specs.declared.string.Size.the-variants as size

@@ -11,8 +11,8 @@ use lib.Dec.{eqb, leb, ltb}
 use Rattle.luck_text.specs.Bytes.{if_then_else_, byteAt, part, isDigit, isXdigit, isLuaWhitespace, run, numeral}
 use Rattle.luck_text.specs.Walk.{Turn, stop, goes, walkFrom}
 use Rattle.luck_utf8.specs.Utf8.{isChar, utf8Bytes}
-use Rattle.luck_token.specs.Whitespace.{lineBreak, stripLineBreak}
-use Rattle.luck_token.specs.declared.version.Rules.{Rules}
+use Rattle.luck_version.specs.Whitespace.{lineBreak, stripLineBreak}
+use Rattle.luck_version.specs.declared.version.Rules.{Rules}
 use Rattle.luck_token.specs.declared.string.ShortString.{ShortString}
 use Rattle.luck_token.specs.declared.string.ShortString.the-variants.{Body, Other}
 use Rattle.luck_token.specs.declared.string.Escape.{Escape}

@@ -1,6 +1,7 @@
-// What the checks and the trial of Lua strings stand on: the versions' rules, line breaks, string literals and spans. The modules are named as in
-// luck's crate luck_token.
-pub mod span;
+// Luck's token files: the versions' rules, line breaks, spans and string literals. The modules are named as in luck's crate luck_token; three stand in
+// luck_version and are passed on.
+pub use luck_version::span;
+pub use luck_version::version;
+pub use luck_version::whitespace;
+
 pub mod string;
-pub mod version;
-pub mod whitespace;

@@ -8,17 +8,17 @@ ghost use lib.ListN.{length};
 ghost use lib.Seq.{sets};
 ghost use Rattle.luck_text.specs.Bytes.{byteAt, part};
 ghost use Rattle.luck_utf8.specs.Utf8.{utf8Bytes};
-ghost use Rattle.luck_token.specs.Whitespace.{stripLineBreak};
+ghost use Rattle.luck_version.specs.Whitespace.{stripLineBreak};
 ghost use Rattle.luck_token.specs.Literal.{isShort, shortStringBody, placesOf, bracketAt, bracketWidth, otherEscape, escapeOf, lineBreakEscape, hexEscape, decimalEscape, allowsDigits, allowsCodePoint, unicodeEscape, escapeAt, longPiece, pieceAt, valueOf, literalValue};
 ghost use Rattle.luck_token.specs.Decode.{withRoom, decodeString, answerOf, numbered, outputOf};
 ghost use Rattle.luck_token.specs.Inner.{IsPiece, sizeOf, neither as neitherOf, plain, stores, Within, Written};
-use crate::version;
-use crate::version::Rules;
-use crate::whitespace;
 use luck_text::scan;
 use luck_text::scan::Class;
 use luck_utf8::utf8;
 use luck_utf8::utf8::Utf8;
+use luck_version::version;
+use luck_version::version::Rules;
+use luck_version::whitespace;
 
 // Where the text between a quoted literal's quotes stands. Any other text has none.
 pub enum ShortString {

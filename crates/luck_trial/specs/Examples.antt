@@ -8,7 +8,7 @@ use mathlib.Core.List.{List, [], _∷_, _++_}
 use mathlib.Core.Option.{Option, some}
 use Rattle.luck_text.specs.Bytes.{ascii, if_then_else_, among, isDigit, isXdigit, run, digitValue, numeralFrom, numeral}
 use Rattle.luck_text.specs.Walk.{walk, walkFrom}
-use Rattle.luck_token.specs.Version.{isVersion, versions, has, rulesOf}
+use Rattle.luck_version.specs.Version.{isVersion, versions, has, rulesOf}
 use Rattle.luck_utf8.specs.Utf8.{rfc3629, tailsOf, follow, widthBy, sequence, sequenceAt, noneIllFormed, illFormed, codePoint, charAt, isChar, utf8Bytes}
 use Rattle.luck_answer.specs.Answer.{Answer, accepted, refused, refusedWith, refusedBoth, afterVersion, afterUtf8, checkText}
 use Rattle.luck_pattern.specs.Captures.{closeLatest, isClosed, allClosed}
@@ -16,7 +16,7 @@ use Rattle.luck_pattern.specs.Pattern.{headOf, escapeOf, escapeAt, memberAt, me
 use Rattle.luck_pattern.specs.Items.{elementsFrom, elementsOf, setOf, repeatOf, repeatWidth, repeated, readSingle, readSet, readFrontier, readEscape, readByte, readHead, readItem, thenItems, itemsFrom, items}
 use Rattle.luck_pattern.specs.Replacement.{escaped, pieces, allowsDigit, piecesWalk, checkReplacement}
 use Rattle.luck_format.specs.Format.{isFlag, isModifier, getFormat, scanPrecision, scanWidth, scanFormat, modifiersAt, isConversion, flagsFor, flagsRun, takesPrecision, afterTwoDigits, goodModifiers, conversionTurn, specifierTurn, percentTurn, formatTurn, formatEnd, formatWalk, checkFormat}
-use Rattle.luck_format.specs.Pack.{getnumlimit, fixedString, numberedOption, getoption, kindOf, numberOr, luckSizeof, luckSize, maxalign, isPowerOfTwo, isMisaligned, aligned, variable, alignBy, alignmentOf, alignToNext, kindTurn, optionTurn, packTurn, packEnd, packWalk, checkPack}
+use Rattle.luck_pack.specs.Pack.{getnumlimit, fixedString, numberedOption, getoption, kindOf, numberOr, luckSizeof, luckSize, maxalign, isPowerOfTwo, isMisaligned, aligned, variable, alignBy, alignmentOf, alignToNext, kindTurn, optionTurn, packTurn, packEnd, packWalk, checkPack}
 use Rattle.luck_match.specs.Class.{isLower, isUpper, isAlpha, isAlnum, isCntrl, isGraph, isPunct, isSpace, toLower, classTest, classBy, matchClass, isElement, isAnyOf, inSet, fits}
 use Rattle.luck_match.specs.Match.{toCloseBy, captureToClose, due, newLevel, orElse, startCapture, endCapture, sameBytes, matchCapture, backReference, balanceEnd, matchBalance, goesOnAt, byteBefore, isFrontier, passedOver, longestFirst, maxExpand, fitsAt, reach, minExpand, expand, doItem, match}
 use Rattle.luck_trial.specs.Replace.{andThen, append, decimalFrom, decimal, addCapture, addDigit, addPiece, addPieces}

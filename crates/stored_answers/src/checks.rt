@@ -2,14 +2,15 @@
 // four each, and the count in two.
 ghost use Prim.Native.Nat.{_+_, _≤_};
 ghost use lib.ListN.{length};
-ghost use Rattle.stored_answers.specs.Places.{AnswerLies, Passes};
-use crate::bytes;
+ghost use Rattle.stored_answers.specs.Places.{AnswerLies};
+ghost use Rattle.stored_records.specs.Tally.{Passes};
 use crate::question;
 use crate::question::Asked;
 use crate::question::Question;
-use crate::tally::Turn;
 use luck_structs::answer;
 use luck_structs::answer::Answer;
+use stored_records::bytes;
+use stored_records::tally::Turn;
 
 pub fn turn(file: &[u8], at: usize) -> Turn
     requires { ⌜ at ≤ length (now file) ⌝ }

@@ -1,5 +1,4 @@
 // Stored answers, replayed: a file is read record by record, the library is asked, and the records that differ are counted.
-mod bytes;
 mod checks;
 mod literal_checks;
 mod literals;
@@ -8,5 +7,3 @@ mod reader;
 mod real_lua;
 pub mod replay;
 mod report;
-mod tally;
-mod trials;

@@ -2,18 +2,19 @@
 // as the checks have it, whether there is a span in one, and its start and end in four each.
 ghost use Prim.Native.Nat.{_+_, _≤_};
 ghost use lib.ListN.{length};
-ghost use Rattle.stored_answers.specs.Places.{AnswerLies, Passes};
-use crate::bytes;
+ghost use Rattle.stored_answers.specs.Places.{AnswerLies};
+ghost use Rattle.stored_records.specs.Tally.{Passes};
 use crate::checks;
 use crate::question;
 use crate::question::Asked;
 use crate::question::Question;
-use crate::tally::Turn;
 use luck_linter::rules::format_string;
 use luck_linter::rules::format_string::LiteralChecked;
 use luck_structs::answer::Answer;
 use luck_structs::literal;
 use luck_structs::literal::Literal;
+use stored_records::bytes;
+use stored_records::tally::Turn;
 
 pub fn turn(file: &[u8], at: usize) -> Turn
     requires { ⌜ at ≤ length (now file) ⌝ }

@@ -2,11 +2,12 @@
 // the answer's number in one byte, its offset and the value's length in two, and the value.
 ghost use Prim.Native.Nat.{_+_, _<_, _≤_};
 ghost use lib.ListN.{length};
-ghost use Rattle.stored_answers.specs.Places.{Lies, LiesBehind, Passes};
-use crate::bytes;
-use crate::tally::Turn;
+ghost use Rattle.stored_answers.specs.Places.{Lies, LiesBehind};
+ghost use Rattle.stored_records.specs.Tally.{Passes};
 use luck_token::string;
 use luck_token::string::Decoded;
+use stored_records::bytes;
+use stored_records::tally::Turn;
 
 // An answer in numbers: a refusal's number and offset, or 0, 0 and how many bytes the value has.
 struct Answer {

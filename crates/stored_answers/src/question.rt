@@ -4,14 +4,14 @@ ghost use mathlib.Core.Path.{_≡_};
 ghost use Prim.Native.Nat.{_+_, _<_, _≤_};
 ghost use lib.ListN.{length};
 ghost use Rattle.stored_answers.specs.Places.{Asks, AnswerLies};
-use crate::bytes;
 use luck_answer::format_pattern::Checked;
 use luck_format::date;
 use luck_format::format;
-use luck_format::pack;
+use luck_pack::pack;
 use luck_pattern::pattern;
 use luck_pattern::replacement;
 use luck_pattern::replacement::Captures;
+use stored_records::bytes;
 
 pub struct Question {
     pub kind: u8,

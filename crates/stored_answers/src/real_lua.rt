@@ -2,13 +2,14 @@
 // that take the text in another: bit 0 is version 1, bit 3 is version 4.
 ghost use Prim.Native.Nat.{_<_, _≤_};
 ghost use lib.ListN.{length};
-ghost use Rattle.stored_answers.specs.Places.{AnswerLies, Passes};
-use crate::bytes;
+ghost use Rattle.stored_answers.specs.Places.{AnswerLies};
+ghost use Rattle.stored_records.specs.Tally.{Passes};
 use crate::question;
 use crate::question::Asked;
 use crate::question::Question;
-use crate::tally::Turn;
 use luck_answer::format_pattern::Checked;
+use stored_records::bytes;
+use stored_records::tally::Turn;
 
 pub fn turn(file: &[u8], at: usize) -> Turn
     requires { ⌜ at ≤ length (now file) ⌝ }

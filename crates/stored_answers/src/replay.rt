@@ -1,7 +1,7 @@
 // The replay of a stored file, record by record.
 ghost use Prim.Native.Nat.{_≤_};
 ghost use lib.ListN.{length};
-ghost use Rattle.stored_answers.specs.Places.{Passes};
+ghost use Rattle.stored_records.specs.Tally.{Passes};
 use crate::checks;
 use crate::literal_checks;
 use crate::literals;
@@ -9,10 +9,10 @@ use crate::reader;
 use crate::reader::Loaded;
 use crate::real_lua;
 use crate::report;
-use crate::tally;
-use crate::tally::Replay;
-use crate::tally::Turn;
-use crate::trials;
+use stored_records::tally;
+use stored_records::tally::Replay;
+use stored_records::tally::Turn;
+use stored_trials::trials;
 
 // What the records of a file are.
 pub enum Format {

@@ -1,8 +1,8 @@
 // The line of a file.
 use crate::reader::Loaded;
-use crate::tally::Replay;
-use crate::tally::Tally;
 use libc::STDOUT_FILENO;
+use stored_records::tally::Replay;
+use stored_records::tally::Tally;
 
 fn text(bytes: &[u8]) {
     io::write_all(STDOUT_FILENO, bytes);

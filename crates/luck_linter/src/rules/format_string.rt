@@ -2,7 +2,7 @@
 ghost use mathlib.Core.Path.{_≡_};
 ghost use mathlib.Core.Bool.{true};
 ghost use Prim.Native.Nat.{_+_, min};
-ghost use Rattle.luck_token.specs.Span.{u32-max};
+ghost use Rattle.luck_version.specs.Span.{u32-max};
 ghost use Rattle.luck_answer.specs.Answer.{refusal, walkedOf};
 ghost use Rattle.luck_pattern.specs.Replacement.{countOf};
 ghost use Rattle.luck_linter.specs.StringLiteral.{isKind, bodyWalk, isNumericEscape, hasNumericEscape, spanAt, checkBody, checkShort, checkLiteral, literalAnswerOf};
@@ -11,7 +11,7 @@ use luck_answer::format_pattern::PatternError;
 use luck_answer::format_pattern::Walked;
 use luck_format::date;
 use luck_format::format;
-use luck_format::pack;
+use luck_pack::pack;
 use luck_pattern::pattern;
 use luck_pattern::replacement;
 use luck_pattern::replacement::Captures;

@@ -4,8 +4,8 @@ use Prim.Native.Nat.{ℕ, zero, suc, _+_, _-_, _*_, _≤_, _<_, min, max}
 use native.Mathlib.Omega.{arith}
 use lib.ListN.{length}
 use Rattle.luck_text.specs.Bytes.{part}
-use Rattle.luck_token.proofs.Breaks.{break-inside}
-use Rattle.luck_token.proofs.Literals.{stripped}
+use Rattle.luck_version.proofs.Breaks.{break-inside}
+use Rattle.luck_version.proofs.Breaks.{stripped}
 use borrow.Author.Needs.{needs}
 use Rattle.luck_token.proofs.string.long_string_body.Statement.{statement}
 use Rattle.luck_token.proofs.string.long_string_body.Tie as tie

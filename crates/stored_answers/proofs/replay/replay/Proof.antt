@@ -3,7 +3,7 @@ use Prim.Native.Nat.{_≤_, _-_}
 use native.Mathlib.Omega.{arith}
 use mathlib.Core.Path.{subst}
 use lib.ListN.{length}
-use Rattle.stored_answers.specs.Places.{Passes}
+use Rattle.stored_records.specs.Tally.{Passes}
 use borrow.Author.Needs.{needs}
 use Rattle.stored_answers.proofs.replay.replay.Statement.{statement}
 use Rattle.stored_answers.proofs.replay.replay.Tie as tie

@@ -1,0 +1,52 @@
+-- `luck_pack::pack::validate_pack_format` meets its contract. Assumes nothing.
+use mathlib.Core.Path.{sym, ap, _∙_}
+use Rattle.luck_answer.specs.Answer.{textAnswer}
+use Rattle.luck_pack.specs.Pack.{packWalk, checkPack}
+use Rattle.luck_answer.specs.declared.format_pattern.Text.{Text}
+use borrow.Author.Needs.{needs}
+use Rattle.luck_pack.proofs.pack.validate_pack_format.Statement.{statement}
+use Rattle.luck_pack.proofs.pack.validate_pack_format.Tie as tie
+
+read-text-requires : tie.Need-read-text-requires
+read-text-requires c κs = search needs
+
+enum-told : tie.Need-enum-told
+enum-told c = search needs
+
+scan-pack-format-requires : tie.Need-scan-pack-format-requires
+scan-pack-format-requires c κs = search needs
+
+as-checked-requires : tie.Need-as-checked-requires
+as-checked-requires c κs = search needs
+
+enum-known-read : tie.Need-enum-known-read
+enum-known-read c = search needs
+
+enum-told-2 : tie.Need-enum-told-2
+enum-told-2 c = search needs
+
+returns : tie.Need-returns
+unfolding checkPack
+returns c = c .as-checked .ensures ∙ c .before .scan-pack-format .ensures ∙ ap (λ (t : Text). textAnswer t (packWalk (c .before .before .before .before .before .before .args .is-packsize) (c .before .before .before .before .before .before .args .text .now))) (sym (c .before .before .enum-told .given .1)) ∙ c .before .before .before .before .read-text .ensures (packWalk (c .before .before .before .before .before .before .args .is-packsize) (c .before .before .before .before .before .before .args .text .now))
+
+returns-2 : tie.Need-returns-2
+unfolding checkPack
+returns-2 c = ap (λ (t : Text). textAnswer t (packWalk (c .before .before .before .before .before .args .is-packsize) (c .before .before .before .before .before .args .text .now))) (sym (c .before .read .given .1)) ∙ c .before .before .before .read-text .ensures (packWalk (c .before .before .before .before .before .args .is-packsize) (c .before .before .before .before .before .args .text .now))
+
+returns-3 : tie.Need-returns-3
+unfolding checkPack
+returns-3 c = ap (λ (t : Text). textAnswer t (packWalk (c .before .before .before .before .args .is-packsize) (c .before .before .before .before .args .text .now))) (sym (c .enum-told2 .given .1)) ∙ c .before .before .read-text .ensures (packWalk (c .before .before .before .before .args .is-packsize) (c .before .before .before .before .args .text .now))
+
+pub validate-pack-format-spec : {M : Type 1} → statement M
+validate-pack-format-spec =
+    tie.close
+    (tie.spec
+    read-text-requires
+    enum-told
+    scan-pack-format-requires
+    as-checked-requires
+    enum-known-read
+    enum-told-2
+    returns
+    returns-2
+    returns-3)
