@@ -10,7 +10,7 @@ use lib.Dec.{eqb}
 use Rattle.luck_text.specs.Bytes.{if_then_else_, part, isDigit, ascii, among}
 use Rattle.luck_version.specs.Version.{isVersion, rulesOf}
 use Rattle.luck_utf8.specs.Utf8.{illFormed, charAt}
-use Rattle.luck_token.specs.Literal.{isShort}
+use Rattle.luck_literal.specs.Literal.{isShort}
 use Rattle.luck_version.specs.Span.{spanOf}
 use Rattle.luck_version.specs.declared.version.Rules.{Rules}
 use Rattle.luck_version.specs.declared.span.Span.{Span}

@@ -19,7 +19,7 @@ use Rattle.luck_text.specs.Walk.Turn.{stop, goes}
 use Rattle.luck_version.specs.Version.{isVersion, rulesOf}
 use Rattle.luck_utf8.specs.Utf8.{utf8Bytes, illFormed}
 use Rattle.luck_version.specs.Whitespace.{lineBreak, stripLineBreak}
-use Rattle.luck_token.specs.Literal.{
+use Rattle.luck_literal.specs.Literal.{
   Piece,
   piece,
   malformed,
@@ -36,14 +36,16 @@ use Rattle.luck_token.specs.Literal.{
   literalValue,
 }
 use Rattle.luck_token.specs.Decode.{Outcome, value, refused, withRoom, ofText, decodeString, answerOf, numbered, outputOf}
-use Rattle.luck_token.specs.Inner.{IsPiece, Lies, sizeOf, plain, stores, Within, Written}
+use Rattle.luck_literal.specs.Inner.{IsPiece, Lies}
+use Rattle.luck_token.specs.Inner.{sizeOf, plain, stores, Within, Written}
 use Rattle.luck_version.specs.declared.version.Rules.{Rules}
-use Rattle.luck_token.specs.declared.string.Piece.{Piece as Found}
+use Rattle.luck_literal.specs.declared.literal.Piece.{Piece as Found}
 use Rattle.luck_token.specs.declared.string.Size.{Size}
 use Rattle.luck_token.specs.declared.string.Size.the-variants as size
 use Rattle.luck_token.specs.declared.string.Decoded.the-variants as decoded
 use Rattle.luck_text.proofs.Cases.{by-test, if-true, if-false, and-left}
-use Rattle.luck_token.proofs.Literals.{plain-is, quoted}
+use Rattle.luck_token.proofs.Plain.{plain-is}
+use Rattle.luck_literal.proofs.Literals.{quoted}
 use Rattle.luck_text.proofs.Walk.{walk-end, walk-stop, walk-goes, walk-related}
 
 -- ---- The walk over the pieces

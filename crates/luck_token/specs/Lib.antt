@@ -1,3 +1,2 @@
-pub mod Literal
 pub mod Decode
 pub mod Inner
