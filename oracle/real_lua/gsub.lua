@@ -26,7 +26,7 @@ local function text(parts, most)
     return table.concat(made)
 end
 
--- Lua's messages and document 01's kinds. 7 and 10 have one message before 5.3, so both are written as 7.
+-- Lua's messages and document 01's kinds. 7 and 10 have one message but in 5.2, so both are written as 7.
 local KINDS = {
     { "ends with '%%'", 1 },
     { "missing ']'", 2 },

@@ -9,7 +9,7 @@ use mathlib.Core.Option.{Option, none, some}
 use lib.Dec.{eqb}
 use lib.ListN.{length}
 use Rattle.luck_text.specs.Bytes.{among}
-use Rattle.luck_version.specs.Version.{isVersion}
+use Rattle.luck_token.specs.Version.{isVersion}
 use Rattle.luck_utf8.specs.Utf8.{sequence, sequenceAt, noneIllFormed, illFormed}
 use Rattle.luck_text.specs.Walk.{Turn, stop, goes, walk, walkFrom}
 use Rattle.luck_text.proofs.Cases.{by-test}

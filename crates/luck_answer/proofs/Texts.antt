@@ -5,7 +5,7 @@ use mathlib.Core.Path.{_≡_, refl, sym, ap, _∙_}
 use mathlib.Core.Bool.{Bool, true, false}
 use mathlib.Core.List.{List}
 use mathlib.Core.Option.{Option, none, some}
-use Rattle.luck_version.specs.Version.{isVersion}
+use Rattle.luck_token.specs.Version.{isVersion}
 use Rattle.luck_utf8.specs.Utf8.{illFormed}
 use Rattle.luck_text.proofs.Cases.{if-true, if-false}
 use Rattle.luck_answer.specs.Answer.{Answer, refused, afterVersion, afterUtf8, checkText}

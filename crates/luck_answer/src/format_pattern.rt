@@ -1,10 +1,9 @@
-// Each check reads its text the way the target's lstrlib.c and loslib.c do, and answers a count (specifiers, captures or values)
-// or the first fault.
+// What a check answers, a count (specifiers, captures or values) or the first fault, and what is tested before every check.
 ghost use mathlib.Core.Path.{_≡_};
 ghost use Rattle.luck_answer.specs.Answer.{Answer, refusal, walkedOf, answerOf, checkText, textAnswer};
+use luck_token::version;
 use luck_utf8::utf8;
 use luck_utf8::utf8::Utf8;
-use luck_version::version;
 
 // luck's PatternError. Each `offset` is a byte index into the text, each character a code point.
 pub enum PatternError {

@@ -7,8 +7,8 @@ use mathlib.Core.List.{List, []}
 use lib.ListN.{length}
 use lib.Dec.{eqb, leb}
 use Rattle.luck_text.specs.Bytes.{if_then_else_, byteAt, ascii, among}
-use Rattle.luck_version.specs.Version.{rulesOf}
-use Rattle.luck_version.specs.declared.version.Rules.{Rules}
+use Rattle.luck_token.specs.Version.{rulesOf}
+use Rattle.luck_token.specs.declared.version.Rules.{Rules}
 use Rattle.luck_text.specs.Walk.{Turn, stop, goes, walkFrom}
 use Rattle.luck_answer.specs.Answer.{Answer, accepted, refused, checkText}
 

@@ -9,9 +9,9 @@ use lib.ListN.{length, drop}
 use lib.Dec.{eqb, leb, ltb}
 use Rattle.luck_text.specs.Bytes.{if_then_else_, byteAt, ascii, among, isDigit, run}
 use Rattle.luck_utf8.specs.Utf8.{charAt}
-use Rattle.luck_version.specs.Version.{rulesOf}
+use Rattle.luck_token.specs.Version.{rulesOf}
 use Rattle.luck_text.specs.Walk.{Turn, stop, goes, walkFrom}
-use Rattle.luck_version.specs.declared.version.Rules.{Rules}
+use Rattle.luck_token.specs.declared.version.Rules.{Rules}
 use Rattle.luck_answer.specs.Answer.{Answer, accepted, refused, refusedWith, refusedBoth, checkText}
 
 -- the row "`%p`, checked modifiers" of document 01: getformat and checkformat read a specifier, and `%p` is a conversion

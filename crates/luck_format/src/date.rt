@@ -12,7 +12,7 @@ use luck_answer::format_pattern::PatternError;
 use luck_answer::format_pattern::Text;
 use luck_answer::format_pattern::Walked;
 use luck_text::scan;
-use luck_version::version;
+use luck_token::version;
 
 // Whether the byte at `at` is there and may follow this one.
 fn is_second(text: &[u8], at: usize, first: u8) -> bool

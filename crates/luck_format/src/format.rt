@@ -12,9 +12,9 @@ use luck_answer::format_pattern::Text;
 use luck_answer::format_pattern::Walked;
 use luck_text::scan;
 use luck_text::scan::Class;
+use luck_token::version;
+use luck_token::version::Rules;
 use luck_utf8::utf8;
-use luck_version::version;
-use luck_version::version::Rules;
 
 // The place after the modifiers, or a fault in them.
 pub enum Modifiers {

@@ -7,7 +7,7 @@ use mathlib.Core.List.{List, [], _∷_, _++_}
 use lib.ListN.{replicate}
 use Rattle.luck_text.specs.Bytes.{ascii, if_then_else_, among, isDigit, isXdigit, run, digitValue, numeralFrom, numeral}
 use Rattle.luck_text.specs.Walk.{walk, walkFrom}
-use Rattle.luck_version.specs.Version.{isVersion, versions, has, rulesOf}
+use Rattle.luck_token.specs.Version.{isVersion, versions, has, rulesOf}
 use Rattle.luck_utf8.specs.Utf8.{rfc3629, tailsOf, follow, widthBy, sequence, sequenceAt, noneIllFormed, illFormed, codePoint, charAt}
 use Rattle.luck_answer.specs.Answer.{refused, afterVersion, afterUtf8, checkText}
 use Rattle.luck_pattern.specs.Captures.{closeLatest, isClosed, allClosed}

@@ -8,7 +8,7 @@ use mathlib.Core.List.{List}
 use lib.ListN.{length}
 use borrow.Author.Tests.{leb-false}
 use Rattle.luck_text.specs.Bytes.{among}
-use Rattle.luck_version.specs.Version.{rulesOf}
+use Rattle.luck_token.specs.Version.{rulesOf}
 use Rattle.luck_text.specs.Walk.{Turn}
 use Rattle.luck_text.proofs.Cases.{by-test}
 use Rattle.luck_answer.specs.Answer.{Answer}

@@ -9,9 +9,9 @@ use lib.ListN.{length, drop}
 use lib.Dec.{eqb, ltb}
 use borrow.Author.Tests.{ltb-true, leb-true, eqb-true, leb-false}
 use Rattle.luck_text.specs.Bytes.{byteAt, among, isDigit, run}
-use Rattle.luck_version.specs.Version.{rulesOf}
+use Rattle.luck_token.specs.Version.{rulesOf}
 use Rattle.luck_text.specs.Walk.{Turn}
-use Rattle.luck_version.specs.declared.version.Rules.{Rules}
+use Rattle.luck_token.specs.declared.version.Rules.{Rules}
 use Rattle.luck_text.proofs.Cases.{by-test, and-right, present}
 use Rattle.luck_text.proofs.Bytes.{run-inside}
 use Rattle.luck_answer.specs.Answer.{Answer}

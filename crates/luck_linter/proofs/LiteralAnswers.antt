@@ -8,9 +8,9 @@ use mathlib.Core.List.{List}
 use mathlib.Core.Option.{Option, none, some}
 use lib.ListN.{length, drop, length-take}
 use Rattle.luck_text.specs.Bytes.{part, among}
-use Rattle.luck_version.specs.Version.{rulesOf}
+use Rattle.luck_token.specs.Version.{rulesOf}
 use Rattle.luck_utf8.specs.Utf8.{illFormed}
-use Rattle.luck_version.specs.declared.version.Rules.{Rules}
+use Rattle.luck_token.specs.declared.version.Rules.{Rules}
 use Rattle.luck_text.proofs.Cases.{by-test}
 use Rattle.luck_answer.specs.Answer.{Answer}
 use Rattle.luck_pattern.specs.Pattern.{patternWalk}

@@ -8,7 +8,7 @@ use mathlib.Core.List.{List, [], _∷_}
 use mathlib.Core.Option.{Option}
 use lib.ListN.{length}
 use Rattle.luck_text.specs.Bytes.{among}
-use Rattle.luck_version.specs.Version.{rulesOf}
+use Rattle.luck_token.specs.Version.{rulesOf}
 use Rattle.luck_text.proofs.Cases.{by-test}
 use Rattle.luck_answer.specs.Answer.{Answer, refused}
 use Rattle.luck_linter.specs.Checks.{replacement, answer, numbers}

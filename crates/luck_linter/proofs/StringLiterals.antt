@@ -12,12 +12,12 @@ use lib.Seq.{drop-cons}
 use lib.Dec.{eqb}
 use borrow.Author.Tests.{eq-eqb, ne-eqb}
 use Rattle.luck_text.specs.Bytes.{if_then_else_, byteAt, part}
-use Rattle.luck_version.specs.Version.{isVersion, rulesOf}
+use Rattle.luck_token.specs.Version.{isVersion, rulesOf}
 use Rattle.luck_utf8.specs.Utf8.{illFormed}
-use Rattle.luck_literal.specs.Literal.{isShort, shortStringBody}
-use Rattle.luck_version.specs.Span.{u32-max, spanOf, shiftedBy}
-use Rattle.luck_version.specs.declared.version.Rules.{Rules}
-use Rattle.luck_version.specs.declared.span.Span.{Span}
+use Rattle.luck_token.specs.Literal.{isShort, shortStringBody}
+use Rattle.luck_token.specs.Span.{u32-max, spanOf, shiftedBy}
+use Rattle.luck_token.specs.declared.version.Rules.{Rules}
+use Rattle.luck_token.specs.declared.span.Span.{Span}
 use Rattle.luck_text.proofs.Cases.{if-true, if-false}
 use Rattle.luck_answer.specs.Answer.{Answer, accepted, refused, refusal}
 use Rattle.luck_linter.specs.StringLiteral.{

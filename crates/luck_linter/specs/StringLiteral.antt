@@ -8,12 +8,12 @@ use mathlib.Core.Option.{Option, none, some}
 use lib.ListN.{length}
 use lib.Dec.{eqb}
 use Rattle.luck_text.specs.Bytes.{if_then_else_, part, isDigit, ascii, among}
-use Rattle.luck_version.specs.Version.{isVersion, rulesOf}
+use Rattle.luck_token.specs.Version.{isVersion, rulesOf}
 use Rattle.luck_utf8.specs.Utf8.{illFormed, charAt}
-use Rattle.luck_literal.specs.Literal.{isShort}
-use Rattle.luck_version.specs.Span.{spanOf}
-use Rattle.luck_version.specs.declared.version.Rules.{Rules}
-use Rattle.luck_version.specs.declared.span.Span.{Span}
+use Rattle.luck_token.specs.Literal.{isShort}
+use Rattle.luck_token.specs.Span.{spanOf}
+use Rattle.luck_token.specs.declared.version.Rules.{Rules}
+use Rattle.luck_token.specs.declared.span.Span.{Span}
 use Rattle.luck_answer.specs.Answer.{Answer, accepted, refused, refusal}
 use Rattle.luck_pattern.specs.Pattern.{patternWalk}
 use Rattle.luck_pattern.specs.Replacement.{isStrict, pieces, piecesWalk}

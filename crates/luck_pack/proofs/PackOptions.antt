@@ -1,4 +1,5 @@
--- The list of a pack format's options: an option stands before those behind it, and a format that is accepted has as many values as its list.
+-- The list of a pack format's options: an option stands before those behind it, and the count of a format that is accepted
+-- is that of the options in its list that have a value and are not read by an `X`.
 -- Assumes nothing.
 use Prim.Native.Nat.{ℕ, zero, suc, _+_, _-_, _≤_, _<_}
 use Prim.Native.Char.{code}
@@ -297,7 +298,7 @@ module _ (text : List ℕ) where
             subst (Counts (s .values + count false p)) (sym (walk-goes (packTurn luckSize packsize text) packEnd (length text) p s w after (k .0) (k .1) e))
             (λ z. rest w after (k .0) z ∙ sym (k .2))
 
-    -- an accepted format has as many values as its list
+    -- the count of an accepted format is that of the values in its list
     pub counts-values : packWalk packsize text .number ≡ 0 → packWalk packsize text .count ≡ values false (options text)
     unfolding packWalk options
     counts-values accepts = counts (length text) 0 (state 0 1) (omega arith) accepts ∙ zero-add (count false 0)

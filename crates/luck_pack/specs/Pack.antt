@@ -1,6 +1,6 @@
 -- How a format of string.pack is read (getoption of lstrlib.c), and which are accepted (validate_pack_format of luck). An option is read with its
--- letter and its number, and judged by its kind and size. Sizes that the build decides are luck's: `n` is 8 and the others 4, so that `!5j` is
--- accepted and `!5n` refused. `c` takes any number, where getnum of lstrlib.c stops at the largest int.
+-- letter and its number, and judged by its kind and size. Sizes that the build decides are luck's: `h` is 2, `d` and `n` are 8 and the
+-- others 4, so that `!5j` is accepted and `!5n` refused. `c` takes any number, where getnum of lstrlib.c stops at the largest int.
 -- Assumes nothing.
 use Prim.Native.Nat.{ℕ, zero, suc, _+_, _-_, min}
 use Prim.Native.Char.{code}
@@ -78,7 +78,8 @@ unfoldable pub optionsUpTo : ℕ → List ℕ → ℕ → List Placed
 optionsUpTo zero text p = []
 optionsUpTo (suc n) text p = elim (getoption text p) [ option o width ↦ placed p o ∷ optionsUpTo n text (p + width) | fault answer ↦ [] ]
 
--- all of them, from p on; the option that an `X` reads stands behind it. An accepted format has as many values as this list (proofs/PackOptions.antt)
+-- all of them, from p on; the option that an `X` reads stands behind it. The count of an accepted format is that of the options
+-- in this list that have a value and are not read by an `X` (`counts-values` of proofs/PackOptions.antt)
 unfoldable pub optionsFrom : List ℕ → ℕ → List Placed
 optionsFrom text p = optionsUpTo (length text - p) text p
 

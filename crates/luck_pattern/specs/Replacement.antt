@@ -7,8 +7,8 @@ use mathlib.Core.List.{List, [], _∷_}
 use mathlib.Core.Option.{Option, none, some}
 use lib.Dec.{eqb, leb}
 use Rattle.luck_text.specs.Bytes.{if_then_else_, isDigit}
-use Rattle.luck_version.specs.Version.{rulesOf}
-use Rattle.luck_version.specs.declared.version.Rules.{Rules}
+use Rattle.luck_token.specs.Version.{rulesOf}
+use Rattle.luck_token.specs.declared.version.Rules.{Rules}
 use Rattle.luck_answer.specs.Answer.{Answer, accepted, refused, checkText}
 use Rattle.luck_pattern.specs.declared.replacement.Captures.{Captures}
 use Rattle.luck_pattern.specs.declared.replacement.Captures.the-variants.{Known, Unknown}

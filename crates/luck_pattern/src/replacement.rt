@@ -7,7 +7,7 @@ use luck_answer::format_pattern::Checked;
 use luck_answer::format_pattern::PatternError;
 use luck_answer::format_pattern::Text;
 use luck_answer::format_pattern::Walked;
-use luck_version::version;
+use luck_token::version;
 
 // How many captures the pattern has, where that is known.
 pub enum Captures {

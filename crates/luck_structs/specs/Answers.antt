@@ -12,11 +12,11 @@ use Rattle.luck_structs.specs.declared.literal.Literal.{Literal}
 use Rattle.luck_structs.specs.declared.decoded.Decoded.{Decoded}
 use Rattle.luck_structs.specs.declared.trial.Trial.{Trial}
 
--- luck_answer
+-- the struct luck_answer of include/luck.h
 abbrev pub checkAnswer : Answer → check.Answer
 checkAnswer a = record { number = a .number; offset = a .offset; first = a .first; second = a .second; count = a .count }
 
--- luck_literal
+-- its luck_literal
 abbrev pub literalAnswer : Literal → literal.LiteralAnswer
 literalAnswer l =
     record {
@@ -26,11 +26,11 @@ literalAnswer l =
       span = record { start = l .start; end = l .end };
     }
 
--- luck_decoded
+-- its luck_decoded
 abbrev pub decodedAnswer : Decoded → decode.Answer
 decodedAnswer d = record { number = d .number; offset = d .offset; written = d .written }
 
--- luck_trial
+-- its luck_trial
 abbrev pub trialReport : Trial → trial.Report
 trialReport r = record { number = r .number; kind = r .kind; written = r .written; replacements = r .replacements; steps = r .steps }
 

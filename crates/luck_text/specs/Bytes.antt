@@ -1,4 +1,4 @@
--- Texts and bytes, for all that follows from luck, the manuals and document 01. A text is a list of bytes and a byte a number. A place past the end of a text reads as 0, as C's closing zero byte.
+-- Texts and bytes, on which all other definitions stand. A text is a list of bytes and a byte a number. A place past the end of a text reads as 0, as C's closing zero byte.
 -- Assumes nothing.
 use Prim.Native.Nat.{ℕ, suc, _+_, _*_, _-_}
 use Prim.Native.Char.{code}

@@ -1,2 +1,4 @@
+pub mod Breaks
 pub mod Plain
+pub mod Literals
 pub mod Values

@@ -16,10 +16,10 @@ use borrow.Author.Tests.{lt-ltb, le-ltb, le-leb, lt-leb, leb-true, ltb-true}
 use Rattle.luck_text.specs.Bytes.{if_then_else_, byteAt, part}
 use Rattle.luck_text.specs.Walk.{Turn, walkFrom}
 use Rattle.luck_text.specs.Walk.Turn.{stop, goes}
-use Rattle.luck_version.specs.Version.{isVersion, rulesOf}
+use Rattle.luck_token.specs.Version.{isVersion, rulesOf}
 use Rattle.luck_utf8.specs.Utf8.{utf8Bytes, illFormed}
-use Rattle.luck_version.specs.Whitespace.{lineBreak, stripLineBreak}
-use Rattle.luck_literal.specs.Literal.{
+use Rattle.luck_token.specs.Whitespace.{lineBreak, stripLineBreak}
+use Rattle.luck_token.specs.Literal.{
   Piece,
   piece,
   malformed,
@@ -36,16 +36,16 @@ use Rattle.luck_literal.specs.Literal.{
   literalValue,
 }
 use Rattle.luck_token.specs.Decode.{Outcome, value, refused, withRoom, ofText, decodeString, answerOf, numbered, outputOf}
-use Rattle.luck_literal.specs.Inner.{IsPiece, Lies}
-use Rattle.luck_token.specs.Inner.{sizeOf, plain, stores, Within, Written}
-use Rattle.luck_version.specs.declared.version.Rules.{Rules}
-use Rattle.luck_literal.specs.declared.literal.Piece.{Piece as Found}
+use Rattle.luck_token.specs.Inner.{IsPiece, Lies, sizeOf, plain, Within, Written}
+use Rattle.luck_output.specs.Output.{stores}
+use Rattle.luck_token.specs.declared.version.Rules.{Rules}
+use Rattle.luck_token.specs.declared.string.Piece.{Piece as Found}
 use Rattle.luck_token.specs.declared.string.Size.{Size}
 use Rattle.luck_token.specs.declared.string.Size.the-variants as size
 use Rattle.luck_token.specs.declared.string.Decoded.the-variants as decoded
 use Rattle.luck_text.proofs.Cases.{by-test, if-true, if-false, and-left}
-use Rattle.luck_token.proofs.Plain.{plain-is}
-use Rattle.luck_literal.proofs.Literals.{quoted}
+use Rattle.luck_output.proofs.Outputs.{stores-fit, part-length}
+use Rattle.luck_token.proofs.Literals.{plain-is, quoted}
 use Rattle.luck_text.proofs.Walk.{walk-end, walk-stop, walk-goes, walk-related}
 
 -- ---- The walk over the pieces
@@ -156,14 +156,6 @@ pub record Holds (before output₀ output : List ℕ) : Type 0 where
   pub front : length before ≤ length output₀ → output ≡ before ++ drop (length before) output₀
 
 module _ (output : List ℕ) (p : ℕ) (bytes : List ℕ) where
-  pub stores-fit : p + length bytes ≤ length output → sets output p bytes ≡ stores output p bytes
-  unfolding stores
-  stores-fit h = sym (if-true _ _ _ (le-leb (p + length bytes) (length output) h))
-
-  pub stores-none : length output < p + length bytes → output ≡ stores output p bytes
-  unfolding stores
-  stores-none h = sym (if-false _ _ _ (lt-leb (p + length bytes) (length output) h))
-
   pub length-stores : length (stores output p bytes) ≡ length output
   unfolding stores
   length-stores = by-test (λ (l : List ℕ). length l ≡ length output) (leb (p + length bytes) (length output)) _ _ (λ _. length-sets output p bytes) (λ _. refl)
@@ -174,39 +166,12 @@ module _ (output : List ℕ) (p : ℕ) (bytes : List ℕ) where
         same = ap length n ∙ length-stores ∙ h .same;
         front =
             λ m. let s = length-append before bytes in
-            n ∙ sym (stores-fit (omega (arith, h .same))) ∙ stored bytes before output output₀ p e (h .front (omega arith)) (omega arith);
+            n ∙ sym (stores-fit output p bytes (omega (arith, h .same))) ∙ stored bytes before output output₀ p e (h .front (omega arith)) (omega arith);
       }
 
   pub stores-nothing : bytes ≡ [] → output ≡ stores output p bytes
   unfolding stores
   stores-nothing e = rw e (by-test (λ (l : List ℕ). output ≡ l) (leb (p + 0) (length output)) output output (λ _. refl) (λ _. refl))
-
--- bytes of a text, copied one by one
-sets-last : (bytes output : List ℕ) (p b : ℕ) → set (sets output p bytes) (p + length bytes) b ≡ sets output p (bytes ++ (b ∷ []))
-sets-last [] output p b = rw (add-zero p)
-sets-last (x ∷ bytes) output p b =
-    let e : p + suc (length bytes) ≡ suc p + length bytes = omega arith in
-    ap (λ (q : ℕ). set (sets output p (x ∷ bytes)) q b) e ∙ sets-last bytes (set output p x) (suc p) b
-
-pub part-none : (text output : List ℕ) (from p : ℕ) → output ≡ sets output p (part text from from)
-part-none text output from p = let e : from - from ≡ 0 = omega arith in rw e
-
-module _ (text : List ℕ) (from i : ℕ) (l : from ≤ i) where
-  pub part-length : i ≤ length text → length (part text from i) ≡ i - from
-  part-length h = length-take-le (i - from) (drop from text) (omega (arith, length-drop from text))
-
-  part-more : i < length text → part text from (i + 1) ≡ part text from i ++ (byteAt text i ∷ [])
-  part-more h =
-      let n : i + 1 - from ≡ suc (i - from) = omega arith in
-      let q : from + (i - from) ≡ i = omega arith in
-      ap (λ (k : ℕ). take k (drop from text)) n ∙ take-suc (drop from text) (i - from) 0 (omega (arith, length-drop from text))
-      ∙ ap (λ (b : ℕ). part text from i ++ (b ∷ [])) (getD-drop from text (i - from) 0 ∙ ap (byteAt text) q)
-
-  pub copied : (output output₀ : List ℕ) (p : ℕ) → i < length text → output ≡ sets output₀ p (part text from i)
-      → set output (p + (i - from)) (byteAt text i) ≡ sets output₀ p (part text from (i + 1))
-  copied output output₀ p h e =
-      let n = part-length (omega arith) in
-      rw (e, part-more h, ← sets-last (part text from i) output₀ p (byteAt text i), n)
 
 -- ---- The loop: the bytes so far, of which the output holds all if they fit, and from which the walk on gives the whole value
 

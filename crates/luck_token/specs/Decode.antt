@@ -8,9 +8,9 @@ use mathlib.Core.Option.{Option, none, some}
 use lib.ListN.{length, drop}
 use lib.Dec.{leb}
 use Rattle.luck_text.specs.Bytes.{if_then_else_}
-use Rattle.luck_version.specs.Version.{isVersion, rulesOf}
+use Rattle.luck_token.specs.Version.{isVersion, rulesOf}
 use Rattle.luck_utf8.specs.Utf8.{illFormed}
-use Rattle.luck_literal.specs.Literal.{literalValue}
+use Rattle.luck_token.specs.Literal.{literalValue}
 use Rattle.luck_token.specs.declared.string.Decoded.{Decoded}
 use Rattle.luck_token.specs.declared.string.Decoded.the-variants.{Value, UnknownVersion, NotUtf8, Undecodable, OutputTooShort}
 

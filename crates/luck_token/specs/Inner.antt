@@ -1,17 +1,41 @@
 -- What the inner functions of the decoder promise each other. No public contract rests on these.
 -- Assumes nothing.
-use Prim.Native.Nat.{ℕ, _+_, _≤_}
+use Prim.Native.Nat.{ℕ, _+_, _<_, _≤_}
 use mathlib.Core.Path.{_≡_}
 use mathlib.Core.Bool.{Bool, true, false, not, _||_}
-use mathlib.Core.List.{List, _++_}
+use mathlib.Core.List.{List, [], _∷_, _++_}
 use mathlib.Core.Option.{Option, none, some}
 use Prim.Native.Char.{code}
 use lib.ListN.{length, drop}
-use lib.Seq.{sets}
-use lib.Dec.{leb, eqb}
-use Rattle.luck_text.specs.Bytes.{if_then_else_}
+use lib.Dec.{eqb}
+use Rattle.luck_utf8.specs.Utf8.{utf8Bytes}
+use Rattle.luck_token.specs.Literal.{Piece, piece, malformed}
+use Rattle.luck_token.specs.declared.string.Piece.{Piece as Found}
+use Rattle.luck_token.specs.declared.string.Piece.the-variants.{Byte, Character, Nothing, Malformed}
 use Rattle.luck_token.specs.declared.string.Size.{Size}
 use Rattle.luck_token.specs.declared.string.Size.the-variants as size
+
+-- the code's piece
+abbrev pub pieceOf : Found → Piece
+pieceOf (Byte b width) = piece (b ∷ []) width
+pieceOf (Character c width) = piece (utf8Bytes c) width
+pieceOf (Nothing width) = piece [] width
+pieceOf Malformed = malformed
+
+-- a piece of at least this many bytes lies in the text, at place p
+abbrev pub Lies : ℕ → ℕ → ℕ → ℕ → Type 0
+Lies least width p len = (least ≤ width) × (p + width ≤ len)
+
+abbrev pub Inside : Found → ℕ → ℕ → Type 0
+Inside (Byte b width) p len = Lies 1 width p len
+Inside (Character c width) p len = (c < 0x110000) × Lies 4 width p len
+Inside (Nothing width) p len = Lies 1 width p len
+Inside Malformed p len = Unit {0}
+
+-- the code's piece is the one that stands at place p, and lies in the text
+pub record IsPiece (wanted : Piece) (body : List ℕ) (p : ℕ) (found : Found) : Type 0 where
+  pub is : pieceOf found ≡ wanted
+  pub inside : Inside found p (length body)
 
 abbrev pub sizeOf : Option (List ℕ) → Size
 sizeOf none = size.Malformed
@@ -25,10 +49,6 @@ neither a b x = not (eqb x a || eqb x b)
 abbrev pub plain : Bool → ℕ → Bool
 plain true b = neither (code "\r") (code "\n") b
 plain false b = neither (code "\\") (code "\\") b
-
--- the output with these bytes at a place, where they fit
-unfoldable pub stores : List ℕ → ℕ → List ℕ → List ℕ
-stores output p bytes = if leb (p + length bytes) (length output) then sets output p bytes else output
 
 -- a value has no more bytes than its body
 abbrev pub Within : Size → ℕ → Type 0

@@ -1,2 +1,6 @@
+pub mod Version
+pub mod Whitespace
+pub mod Literal
 pub mod Decode
 pub mod Inner
+pub mod Span

@@ -1,7 +1,6 @@
-// Luck's token files: the versions' rules, line breaks, spans and string literals. The modules are named as in luck's crate luck_token; three stand in
-// luck_version and are passed on, so that an edit of them proves little anew.
-pub use luck_version::span;
-pub use luck_version::version;
-pub use luck_version::whitespace;
-
+// What the checks and the trial of Lua strings stand on: the versions' rules, line breaks, string literals and spans. The modules are named as in
+// luck's crate luck_token.
+pub mod span;
 pub mod string;
+pub mod version;
+pub mod whitespace;

@@ -1,4 +1,4 @@
-// The value of a string literal, decoded into a lent output.
+// String literals: the text between the quotes, and the value.
 ghost use mathlib.Core.Path.{_≡_};
 ghost use mathlib.Core.Bool.{true, false};
 ghost use mathlib.Core.List.{[], _∷_};
@@ -8,17 +8,306 @@ ghost use lib.ListN.{length};
 ghost use lib.Seq.{sets};
 ghost use Rattle.luck_text.specs.Bytes.{byteAt, part};
 ghost use Rattle.luck_utf8.specs.Utf8.{utf8Bytes};
-ghost use Rattle.luck_literal.specs.Literal.{valueOf, literalValue};
+ghost use Rattle.luck_token.specs.Whitespace.{stripLineBreak};
+ghost use Rattle.luck_token.specs.Literal.{isShort, shortStringBody, placesOf, bracketAt, bracketWidth, otherEscape, escapeOf, lineBreakEscape, hexEscape, decimalEscape, allowsDigits, allowsCodePoint, unicodeEscape, escapeAt, longPiece, pieceAt, valueOf, literalValue};
 ghost use Rattle.luck_token.specs.Decode.{withRoom, decodeString, answerOf, numbered, outputOf};
-ghost use Rattle.luck_token.specs.Inner.{sizeOf, neither as neitherOf, plain, stores, Within, Written};
-use luck_literal::literal;
-use luck_literal::literal::Piece;
-pub use luck_literal::literal::ShortString;
-pub use luck_literal::literal::short_string_body;
+ghost use Rattle.luck_token.specs.Inner.{IsPiece, sizeOf, neither as neitherOf, plain, Within, Written};
+use crate::version;
+use crate::version::Rules;
+use crate::whitespace;
+use luck_output::character;
+use luck_output::output;
+use luck_text::scan;
+use luck_text::scan::Class;
 use luck_utf8::utf8;
 use luck_utf8::utf8::Utf8;
-use luck_version::version;
-use luck_version::version::Rules;
+
+// Where the text between a quoted literal's quotes stands. Any other text has none.
+pub enum ShortString {
+    Body { start: usize, end: usize },
+    Other,
+}
+
+fn is_short(raw: &[u8]) -> bool
+    ensures { λ r. ⌜ r ≡ isShort (now (raw .entry)) ⌝ }
+{
+    if raw.len() < 2 {
+        return false;
+    }
+    let first = raw[0];
+    let last = raw[raw.len() - 1];
+    if first == b'"' {
+        return last == first;
+    }
+    if first == b'\'' {
+        return last == first;
+    }
+    false
+}
+
+pub fn short_string_body(raw: &[u8]) -> ShortString
+    ensures { λ r. ⌜ placesOf r ≡ shortStringBody (now (raw .entry)) ⌝ }
+{
+    if is_short(raw) {
+        return ShortString::Body {
+            start: 1,
+            end: raw.len() - 1,
+        };
+    }
+    ShortString::Other
+}
+
+// What the byte after a backslash begins.
+pub enum Escape {
+    // an escape of one letter, for this byte
+    Simple(u8),
+    LineBreak,
+    // `\xXX`
+    Hex,
+    // `\z`
+    Whitespace,
+    // `\ddd`
+    Decimal,
+    // `\u{XXX}`
+    Unicode,
+    // 5.1 and Luau read any other escaped character as itself
+    Itself,
+    Undefined,
+}
+
+// A piece of the text, its width, and what it stands for.
+pub enum Piece {
+    Byte { value: u8, width: usize },
+    Character { code: u32, width: usize },
+    Nothing { width: usize },
+    Malformed,
+}
+
+// An escape that is none of those that every version has.
+fn other_escape(rules: Rules) -> Escape
+    ensures { λ r. ⌜ r ≡ otherEscape rules ⌝ }
+{
+    if rules.strict_escapes {
+        return Escape::Undefined;
+    }
+    Escape::Itself
+}
+
+fn escape_of(byte: u8, rules: Rules) -> Escape
+    ensures { λ r. ⌜ r ≡ escapeOf rules byte ⌝ }
+{
+    match byte {
+        b'a' => Escape::Simple(0x07),
+        b'b' => Escape::Simple(0x08),
+        b'f' => Escape::Simple(0x0C),
+        b'n' => Escape::Simple(b'\n'),
+        b'r' => Escape::Simple(b'\r'),
+        b't' => Escape::Simple(b'\t'),
+        b'v' => Escape::Simple(0x0B),
+        b'\\' => Escape::Simple(b'\\'),
+        b'"' => Escape::Simple(b'"'),
+        b'\'' => Escape::Simple(b'\''),
+        b'\n' => Escape::LineBreak,
+        b'\r' => Escape::LineBreak,
+        b'x' => {
+            if rules.hex_escape {
+                return Escape::Hex;
+            }
+            other_escape(rules)
+        }
+        b'z' => {
+            if rules.hex_escape {
+                return Escape::Whitespace;
+            }
+            other_escape(rules)
+        }
+        b'u' => {
+            if rules.unicode_escape {
+                return Escape::Unicode;
+            }
+            other_escape(rules)
+        }
+        b'0'..=b'9' => Escape::Decimal,
+        _ => other_escape(rules),
+    }
+}
+
+// `\` and a line break. A lone CR counts here in Luau too.
+fn line_break_escape(body: &[u8], at: usize, rules: Rules) -> Piece
+    requires { ⌜ at + 1 < length (now body) ⌝ }
+    ensures { λ r. ⌜ IsPiece (lineBreakEscape (rules .«lfcr_line_break») (now (body .entry)) at) (now (body .entry)) at r ⌝ }
+{
+    let width = whitespace::line_break(body, at + 1, rules.lfcr_line_break);
+    if width < 1 {
+        return Piece::Byte {
+            value: b'\n',
+            width: 2,
+        };
+    }
+    Piece::Byte {
+        value: b'\n',
+        width: 1 + width,
+    }
+}
+
+// Exactly two hexadecimal digits.
+fn hex_escape(body: &[u8], at: usize) -> Piece
+    requires { ⌜ at + 1 < length (now body) ⌝ }
+    ensures { λ r. ⌜ IsPiece (hexEscape (now (body .entry)) at) (now (body .entry)) at r ⌝ }
+{
+    if body.len() - at < 4 {
+        return Piece::Malformed;
+    }
+    let high = body[at + 2];
+    let low = body[at + 3];
+    if scan::is_in(Class::HexDigit, high) {
+        if scan::is_in(Class::HexDigit, low) {
+            let value = scan::numeral(body, at + 2, at + 4, 16);
+            return Piece::Byte {
+                value: (value % 256) as u8,
+                width: 4,
+            };
+        }
+    }
+    Piece::Malformed
+}
+
+// One to three decimal digits, at most 255.
+fn decimal_escape(body: &[u8], at: usize) -> Piece
+    requires { ⌜ at + 1 < length (now body) ⌝ }
+    ensures { λ r. ⌜ IsPiece (decimalEscape (now (body .entry)) at) (now (body .entry)) at r ⌝ }
+{
+    let from = at + 1;
+    let digits = scan::run(body, from, Class::Digit);
+    let mut count = digits;
+    if 3 < digits {
+        count = 3;
+    }
+    let value = scan::numeral(body, from, from + count, 10);
+    if 255 < value {
+        return Piece::Malformed;
+    }
+    Piece::Byte {
+        value: value as u8,
+        width: 1 + count,
+    }
+}
+
+// Whether the version allows that many digits.
+fn allows_digits(rules: Rules, count: usize) -> bool
+    ensures { λ r. ⌜ r ≡ allowsDigits rules count ⌝ }
+{
+    if count < 1 {
+        return false;
+    }
+    if rules.unicode_escape_digit_limit {
+        return count <= 16;
+    }
+    true
+}
+
+// Whether the version allows that many digits and a character has this value. Each version's limit is no smaller than the
+// largest character.
+fn allows_code_point(rules: Rules, count: usize, value: u32) -> bool
+    ensures { λ r. ⌜ r ≡ allowsCodePoint rules count value ⌝ }
+{
+    if allows_digits(rules, count) {
+        return character::is_char(value);
+    }
+    false
+}
+
+// Any number of hexadecimal digits in braces.
+fn unicode_escape(body: &[u8], at: usize, rules: Rules) -> Piece
+    requires { ⌜ at + 1 < length (now body) ⌝ }
+    ensures { λ r. ⌜ IsPiece (unicodeEscape rules (now (body .entry)) at) (now (body .entry)) at r ⌝ }
+{
+    let open = at + 2;
+    if body.len() <= open {
+        return Piece::Malformed;
+    }
+    if body[open] != b'{' {
+        return Piece::Malformed;
+    }
+    let from = at + 3;
+    let count = scan::run(body, from, Class::HexDigit);
+    let close = from + count;
+    if body.len() <= close {
+        return Piece::Malformed;
+    }
+    if body[close] != b'}' {
+        return Piece::Malformed;
+    }
+    let value = scan::numeral(body, from, close, 16);
+    if allows_code_point(rules, count, value) {
+        return Piece::Character {
+            code: value,
+            width: count + 4,
+        };
+    }
+    Piece::Malformed
+}
+
+// The escape whose backslash stands at `at`.
+fn escape_at(body: &[u8], at: usize, rules: Rules) -> Piece
+    requires { ⌜ at < length (now body) ⌝ }
+    ensures { λ r. ⌜ IsPiece (escapeAt rules (now (body .entry)) at) (now (body .entry)) at r ⌝ }
+{
+    let next = at + 1;
+    if body.len() <= next {
+        return Piece::Malformed;
+    }
+    let byte = body[next];
+    let escape = escape_of(byte, rules);
+    match escape {
+        Escape::Simple(value) => Piece::Byte { value, width: 2 },
+        Escape::LineBreak => line_break_escape(body, at, rules),
+        Escape::Hex => hex_escape(body, at),
+        Escape::Whitespace => {
+            let skipped = scan::run(body, at + 2, Class::Whitespace);
+            Piece::Nothing { width: 2 + skipped }
+        }
+        Escape::Decimal => decimal_escape(body, at),
+        Escape::Unicode => unicode_escape(body, at, rules),
+        Escape::Itself => Piece::Byte {
+            value: byte,
+            width: 2,
+        },
+        Escape::Undefined => Piece::Malformed,
+    }
+}
+
+// A line break of a long string is a newline, and any other byte itself.
+fn long_piece(body: &[u8], at: usize, rules: Rules) -> Piece
+    requires { ⌜ at < length (now body) ⌝ }
+    ensures { λ r. ⌜ IsPiece (longPiece (rules .«lfcr_line_break») (now (body .entry)) at) (now (body .entry)) at r ⌝ }
+{
+    let width = whitespace::line_break(body, at, rules.lfcr_line_break);
+    if width == 0 {
+        return Piece::Byte {
+            value: body[at],
+            width: 1,
+        };
+    }
+    Piece::Byte {
+        value: b'\n',
+        width,
+    }
+}
+
+fn piece_at(body: &[u8], at: usize, long: bool, rules: Rules) -> Piece
+    requires { ⌜ at < length (now body) ⌝ }
+    ensures { λ r. ⌜ IsPiece (pieceAt long rules (now (body .entry)) at) (now (body .entry)) at r ⌝ }
+{
+    if long {
+        return long_piece(body, at, rules);
+    }
+    let value = body[at];
+    if value == b'\\' {
+        return escape_at(body, at, rules);
+    }
+    Piece::Byte { value, width: 1 }
+}
 
 // Whether the byte is neither of two.
 fn neither(a: u8, b: u8, byte: u8) -> bool
@@ -83,56 +372,6 @@ fn plain_blocks(body: &[u8], at: usize, long: bool) -> usize
     end
 }
 
-// Copies the bytes from `from` to `to`.
-fn copy(text: &[u8], from: usize, to: usize, output: &mut [u8], at: usize)
-    requires { ⌜ (from ≤ to) × (to ≤ length (now text)) × (at + (to - from) ≤ length (now output)) ⌝ }
-    ensures { λ r. ⌜ now (output .exit) ≡ sets (now (output .entry)) at (part (now (text .entry)) from to) ⌝ }
-{
-    let mut i = from;
-    let mut end = at;
-    while i < to {
-        output[end] = text[i];
-        i += 1;
-        end += 1;
-    }
-}
-
-// Each of the three writes its bytes at `at`, where they fit.
-fn put_byte(output: &mut [u8], at: usize, value: u8)
-    ensures { λ r. ⌜ now (output .exit) ≡ stores (now (output .entry)) at (value ∷ []) ⌝ }
-{
-    if at < output.len() {
-        output[at] = value;
-    }
-}
-
-fn put_char(output: &mut [u8], at: usize, code: u32) -> usize
-    requires { ⌜ code < 0x110000 ⌝ }
-    ensures { λ r. ⌜ (r ≡ length (utf8Bytes code)) × (now (output .exit) ≡ stores (now (output .entry)) at (utf8Bytes code)) ⌝ }
-{
-    let width = utf8::char_width(code);
-    if output.len() < at {
-        return width;
-    }
-    if output.len() - at < width {
-        return width;
-    }
-    utf8::write_char(output, at, code)
-}
-
-fn put_part(text: &[u8], from: usize, to: usize, output: &mut [u8], at: usize)
-    requires { ⌜ (from ≤ to) × (to ≤ length (now text)) ⌝ }
-    ensures { λ r. ⌜ now (output .exit) ≡ stores (now (output .entry)) at (part (now (text .entry)) from to) ⌝ }
-{
-    if output.len() < at {
-        return;
-    }
-    if output.len() - at < to - from {
-        return;
-    }
-    copy(text, from, to, output, at);
-}
-
 pub enum Size {
     Length(usize),
     Malformed,
@@ -153,7 +392,7 @@ fn write(body: &[u8], long: bool, rules: Rules, output: &mut [u8]) -> Size
             singles = 16;
             let end = plain_blocks(body, at, long);
             if at < end {
-                put_part(body, at, end, output, size);
+                output::put_part(body, at, end, output, size);
                 size += end - at;
                 at = end;
                 continue;
@@ -162,20 +401,20 @@ fn write(body: &[u8], long: bool, rules: Rules, output: &mut [u8]) -> Size
         singles -= 1;
         let byte = body[at];
         if is_plain(byte, long) {
-            put_byte(output, size, byte);
+            output::put_byte(output, size, byte);
             size += 1;
             at += 1;
             continue;
         }
-        let piece = literal::piece_at(body, at, long, rules);
+        let piece = piece_at(body, at, long, rules);
         match piece {
             Piece::Byte { value, width } => {
-                put_byte(output, size, value);
+                output::put_byte(output, size, value);
                 size += 1;
                 at += width;
             }
             Piece::Character { code, width } => {
-                size += put_char(output, size, code);
+                size += output::put_char(output, size, code);
                 at += width;
             }
             Piece::Nothing { width } => {
@@ -205,7 +444,7 @@ fn decode_plain(body: &[u8], output: &mut [u8]) -> Decoded
     if output.len() < n {
         return Decoded::OutputTooShort;
     }
-    copy(body, 0, n, output, 0);
+    output::copy(body, 0, n, output, 0);
     Decoded::Value(n)
 }
 
@@ -236,7 +475,7 @@ fn decode_pieces(body: &[u8], long: bool, rules: Rules, output: &mut [u8]) -> De
                 return Decoded::OutputTooShort;
             }
             if n <= 64 {
-                copy(&buffer, 0, n, output, 0);
+                output::copy(&buffer, 0, n, output, 0);
                 return Decoded::Value(n);
             }
             write(body, long, rules, output);
@@ -263,17 +502,60 @@ fn decode_body(body: &[u8], long: bool, rules: Rules, output: &mut [u8]) -> Deco
     decode_pieces(body, long, rules, output)
 }
 
+// A long bracket of this level at `at`: the bracket byte, as many `=`, and the bracket byte again.
+fn is_bracket(raw: &[u8], at: usize, level: usize, bracket: u8) -> bool
+    requires { ⌜ at + 1 + level < length (now raw) ⌝ }
+    ensures { λ r. ⌜ r ≡ bracketAt bracket level (now (raw .entry)) at ⌝ }
+{
+    if raw[at] != bracket {
+        return false;
+    }
+    if scan::run(raw, at + 1, Class::Byte(b'=')) != level {
+        return false;
+    }
+    raw[at + 1 + level] == bracket
+}
+
+// How many bytes a long string's opening bracket has, 0 where the text is no long string.
+fn bracket_width(raw: &[u8]) -> usize
+    ensures { λ r. ⌜ r ≡ bracketWidth (now (raw .entry)) ⌝ }
+{
+    let level = scan::run(raw, 1, Class::Byte(b'='));
+    let len = raw.len();
+    let width = level + 2;
+    if len / 2 < width {
+        return 0;
+    }
+    if is_bracket(raw, 0, level, b'[') {
+        if is_bracket(raw, len - width, level, b']') {
+            return width;
+        }
+    }
+    0
+}
+
+// The text between a long string's brackets, of this width each, without the line break right after the opening one.
+fn long_string_body(raw: &[u8], width: usize, lfcr: bool) -> &[u8]
+    requires { ⌜ width + width ≤ length (now raw) ⌝ }
+    ensures { λ r. ⌜ now r ≡ stripLineBreak lfcr (part (now (raw .entry)) width (length (now (raw .entry)) - width)) ⌝ }
+{
+    let end = raw.len() - width;
+    let content = &raw[width..end];
+    let first = whitespace::line_break(content, 0, lfcr);
+    &content[first..]
+}
+
 fn decode_literal(raw: &[u8], rules: Rules, output: &mut [u8]) -> Decoded
     ensures answer { λ r. ⌜ numbered r ≡ answerOf (withRoom (length (now (output .entry))) (literalValue rules (now (raw .entry)))) ⌝ }
     ensures output { λ r. ⌜ now (output .exit) ≡ outputOf (withRoom (length (now (output .entry))) (literalValue rules (now (raw .entry)))) (now (output .entry)) ⌝ }
 {
-    if literal::is_short(raw) {
+    if is_short(raw) {
         let end = raw.len() - 1;
         return decode_body(&raw[1..end], false, rules, output);
     }
-    let width = literal::bracket_width(raw);
+    let width = bracket_width(raw);
     if 0 < width {
-        let body = literal::long_string_body(raw, width, rules.lfcr_line_break);
+        let body = long_string_body(raw, width, rules.lfcr_line_break);
         return decode_body(body, true, rules, output);
     }
     Decoded::Undecodable

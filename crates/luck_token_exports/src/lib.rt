@@ -3,11 +3,11 @@
 ghost use mathlib.Core.Path.{_≡_};
 ghost use lib.ListN.{length};
 ghost use Rattle.luck_text.specs.Bytes.{isLuaWhitespace};
-ghost use Rattle.luck_literal.specs.Literal.{shortStringBody};
-ghost use Rattle.luck_version.specs.Span.{spanOf, shiftedBy};
+ghost use Rattle.luck_token.specs.Literal.{shortStringBody};
+ghost use Rattle.luck_token.specs.Span.{spanOf, shiftedBy};
 ghost use Rattle.luck_utf8.specs.Utf8.{illFormed, charAt};
-ghost use Rattle.luck_version.specs.Version.{rulesOf};
-ghost use Rattle.luck_version.specs.Whitespace.{stripLineBreak};
+ghost use Rattle.luck_token.specs.Version.{rulesOf};
+ghost use Rattle.luck_token.specs.Whitespace.{stripLineBreak};
 ghost use Rattle.luck_token_exports.specs.Answers.{placeOr, bodyOf};
 use luck_token::span::Span;
 use luck_token::string;

@@ -9,7 +9,7 @@ use mathlib.Core.Option.{some}
 use lib.ListN.{length}
 use lib.Dec.{eqb}
 use Rattle.luck_text.specs.Bytes.{if_then_else_, among}
-use Rattle.luck_version.specs.Version.{isVersion, rulesOf}
+use Rattle.luck_token.specs.Version.{isVersion, rulesOf}
 use Rattle.luck_answer.specs.Answer.{accepted}
 use Rattle.luck_pattern.specs.Pattern.{checkPattern}
 use Rattle.luck_pattern.specs.Replacement.{isStrict, checkReplacement}

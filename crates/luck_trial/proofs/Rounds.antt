@@ -15,7 +15,7 @@ use borrow.Author.Tests.{eq-eqb, ne-eqb, lt-ltb, le-ltb}
 use Rattle.luck_text.specs.Bytes.{if_then_else_, byteAt}
 use Rattle.luck_text.proofs.Cases.{if-true, if-false, order}
 use Rattle.luck_pattern.specs.Items.{Item, items}
-use Rattle.luck_version.specs.Version.{isVersion}
+use Rattle.luck_token.specs.Version.{isVersion}
 use Rattle.luck_pattern.specs.Replacement.{pieces}
 use Rattle.luck_match.specs.Class.{matchClass}
 use Rattle.luck_match.specs.Match.{Outcome, matched, failed, stopped, match}

@@ -11,7 +11,7 @@ use lib.ListN.{length, getD}
 use lib.Dec.{eqb, leb}
 use borrow.Author.Tests.{eqb-false, leb-true, leb-false}
 use Rattle.luck_text.specs.Bytes.{if_then_else_, part, among}
-use Rattle.luck_version.specs.Version.{isVersion, versions, has, rulesOf, strict-gsub-replacement}
+use Rattle.luck_token.specs.Version.{isVersion, versions, has, rulesOf, strict-gsub-replacement}
 use Rattle.luck_text.proofs.Cases.{by-test, and-left, and-right}
 use Rattle.luck_answer.specs.Answer.{Answer, accepted, refused, afterVersion, checkText}
 use Rattle.luck_pattern.specs.Captures.{allClosed}

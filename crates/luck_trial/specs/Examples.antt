@@ -8,7 +8,7 @@ use mathlib.Core.List.{List, [], _∷_, _++_}
 use mathlib.Core.Option.{Option, some}
 use Rattle.luck_text.specs.Bytes.{ascii, if_then_else_, among, isDigit, isXdigit, run, digitValue, numeralFrom, numeral}
 use Rattle.luck_text.specs.Walk.{walk, walkFrom}
-use Rattle.luck_version.specs.Version.{isVersion, versions, has, rulesOf}
+use Rattle.luck_token.specs.Version.{isVersion, versions, has, rulesOf}
 use Rattle.luck_utf8.specs.Utf8.{rfc3629, tailsOf, follow, widthBy, sequence, sequenceAt, noneIllFormed, illFormed, codePoint, charAt, isChar, utf8Bytes}
 use Rattle.luck_answer.specs.Answer.{Answer, accepted, refused, refusedWith, refusedBoth, afterVersion, afterUtf8, checkText}
 use Rattle.luck_pattern.specs.Captures.{closeLatest, isClosed, allClosed}

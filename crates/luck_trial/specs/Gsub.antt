@@ -8,7 +8,7 @@ use mathlib.Core.Option.{Option, none, some}
 use lib.ListN.{length, drop}
 use lib.Dec.{eqb, ltb}
 use Rattle.luck_text.specs.Bytes.{if_then_else_, byteAt}
-use Rattle.luck_version.specs.Version.{isVersion}
+use Rattle.luck_token.specs.Version.{isVersion}
 use Rattle.luck_pattern.specs.Items.{Item, items}
 use Rattle.luck_pattern.specs.Replacement.{Piece, pieces}
 use Rattle.luck_match.specs.Class.{matchClass}

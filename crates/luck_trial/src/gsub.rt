@@ -13,7 +13,7 @@ ghost use Rattle.luck_trial.specs.Inner.{writerBy, Reported};
 use crate::replace;
 use luck_attempt::attempt;
 use luck_match::class;
-use luck_version::version;
+use luck_token::version;
 
 // Number 0 is done; a kind from 1 to 10 goes with 29, and 0 with every other number.
 pub struct Trial {

@@ -243,7 +243,7 @@ fn is_same(given: Trial, stored: Answer, known: u32) -> bool {
     given.written == stored.written
 }
 
-// Real Lua has one message for kinds 7 and 10.
+// Real Lua has one message for kinds 7 and 10, but for 5.2.
 fn told_as_7(kind: u32) -> u32 {
     if kind == 10 {
         return 7;

@@ -2,7 +2,7 @@
 ghost use mathlib.Core.Path.{_≡_};
 ghost use mathlib.Core.Bool.{true};
 ghost use Prim.Native.Nat.{_+_, min};
-ghost use Rattle.luck_version.specs.Span.{u32-max};
+ghost use Rattle.luck_token.specs.Span.{u32-max};
 ghost use Rattle.luck_answer.specs.Answer.{refusal, walkedOf};
 ghost use Rattle.luck_pattern.specs.Replacement.{countOf};
 ghost use Rattle.luck_linter.specs.StringLiteral.{isKind, bodyWalk, isNumericEscape, hasNumericEscape, spanAt, checkBody, checkShort, checkLiteral, literalAnswerOf};

@@ -1,6 +1,6 @@
 -- `luck_token_exports::luck_token_short_string_body` meets its contract. Assumes nothing.
 use mathlib.Core.Path.{sym, ap, _∙_}
-use Rattle.luck_literal.specs.Literal.{placesOf}
+use Rattle.luck_token.specs.Literal.{placesOf}
 use Rattle.luck_token_exports.specs.Answers.{bodyOf}
 use borrow.Author.Needs.{needs}
 use Rattle.luck_token_exports.proofs.luck_token_short_string_body.Statement.{statement}

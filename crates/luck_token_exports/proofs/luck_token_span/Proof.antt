@@ -1,7 +1,7 @@
 -- `luck_token_exports::luck_token_span` meets its contract. Assumes nothing.
 use mathlib.Core.Path.{ap, _∙_}
-use Rattle.luck_version.specs.Span.{shiftedBy}
-use Rattle.luck_version.specs.declared.span.Span.{Span}
+use Rattle.luck_token.specs.Span.{shiftedBy}
+use Rattle.luck_token.specs.declared.span.Span.{Span}
 use borrow.Author.Needs.{needs}
 use Rattle.luck_token_exports.proofs.luck_token_span.Statement.{statement}
 use Rattle.luck_token_exports.proofs.luck_token_span.Tie as tie

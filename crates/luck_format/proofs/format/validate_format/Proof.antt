@@ -1,6 +1,6 @@
 -- `luck_format::format::validate_format` meets its contract. Assumes nothing.
 use mathlib.Core.Path.{ap, _∙_}
-use Rattle.luck_version.specs.declared.version.Rules.{Rules}
+use Rattle.luck_token.specs.declared.version.Rules.{Rules}
 use Rattle.luck_format.specs.Format.{formatWalk}
 use Rattle.luck_answer.specs.declared.format_pattern.Text.the-variants.{Fine, NotUtf8, UnknownVersion}
 use Rattle.luck_format.proofs.Formats as formats

@@ -1,7 +1,7 @@
 -- `luck_pattern::replacement::validate_gsub_replacement` meets its contract. Assumes nothing.
 use mathlib.Core.Path.{_≡_, refl, sym, ap, subst, _∙_}
 use Rattle.luck_answer.specs.Answer.{textAnswer}
-use Rattle.luck_version.specs.Version.{rulesOf}
+use Rattle.luck_token.specs.Version.{rulesOf}
 use Rattle.luck_pattern.specs.Replacement.{countOf, pieces, piecesWalk, checkReplacement}
 use borrow.Author.Needs.{needs}
 use Rattle.luck_pattern.proofs.replacement.validate_gsub_replacement.Statement.{statement}

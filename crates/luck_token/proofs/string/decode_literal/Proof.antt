@@ -6,9 +6,9 @@ use mathlib.Core.List.{List}
 use mathlib.Core.Option.{Option}
 use Prim.Native.Nat.{ℕ}
 use lib.ListN.{length}
-use Rattle.luck_literal.specs.Literal.{valueOf}
+use Rattle.luck_token.specs.Literal.{valueOf}
 use Rattle.luck_token.specs.Decode.{withRoom, answerOf, outputOf}
-use Rattle.luck_literal.proofs.Literals.{both-quotes}
+use Rattle.luck_token.proofs.Literals.{both-quotes}
 use Rattle.luck_token.proofs.Values as values
 use borrow.Author.Needs.{needs}
 use Rattle.luck_token.proofs.string.decode_literal.Statement.{statement}

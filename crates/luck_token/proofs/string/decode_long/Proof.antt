@@ -1,6 +1,6 @@
 -- `luck_token::string::decode_long` meets its contract. Assumes nothing.
 use mathlib.Core.Path.{sym, _∙_}
-use Rattle.luck_literal.specs.Literal.{valueOf}
+use Rattle.luck_token.specs.Literal.{valueOf}
 use Rattle.luck_token.proofs.Values as values
 use borrow.Author.Needs.{needs}
 use Rattle.luck_token.proofs.string.decode_long.Statement.{statement}

@@ -1,7 +1,7 @@
 -- `luck_token::string::decode_pieces` meets its contract. Assumes nothing.
 use mathlib.Core.Path.{_≡_, sym, _∙_}
 use native.Mathlib.Omega.{arith}
-use Rattle.luck_literal.specs.Literal.{valueOf}
+use Rattle.luck_token.specs.Literal.{valueOf}
 use Rattle.luck_token.proofs.Values as values
 use borrow.Author.Needs.{needs}
 use Rattle.luck_token.proofs.string.decode_pieces.Statement.{statement}

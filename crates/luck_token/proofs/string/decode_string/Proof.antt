@@ -2,9 +2,9 @@
 use mathlib.Core.Path.{_≡_, refl, sym, ap, subst, _∙_}
 use lib.ListN.{length}
 use Rattle.luck_utf8.specs.Utf8.{placeOf}
-use Rattle.luck_literal.specs.Literal.{literalValue}
+use Rattle.luck_token.specs.Literal.{literalValue}
 use Rattle.luck_token.specs.Decode.{Outcome, withRoom, answerOf, numbered, outputOf}
-use Rattle.luck_version.specs.declared.version.Rules.{Rules}
+use Rattle.luck_token.specs.declared.version.Rules.{Rules}
 use Rattle.luck_token.proofs.Values as values
 use borrow.Author.Needs.{needs}
 use Rattle.luck_token.proofs.string.decode_string.Statement.{statement}

@@ -7,7 +7,7 @@ use mathlib.Core.List.{List, [], _∷_}
 use lib.ListN.{length}
 use Rattle.luck_text.specs.Bytes.{byteAt}
 use Rattle.luck_utf8.specs.Utf8.{utf8Bytes}
-use Rattle.luck_literal.specs.declared.literal.Piece.the-variants.{Byte, Character, Nothing, Malformed}
+use Rattle.luck_token.specs.declared.string.Piece.the-variants.{Byte, Character, Nothing, Malformed}
 use Rattle.luck_token.proofs.Values as values
 use borrow.Author.Needs.{needs}
 use Rattle.luck_token.proofs.string.write.Statement.{statement}

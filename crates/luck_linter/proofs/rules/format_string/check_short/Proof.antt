@@ -4,8 +4,8 @@ use Prim.Native.Nat.{ℕ, zero, suc, _+_, _-_, _*_, _≤_, _<_, min, max}
 use native.Mathlib.Omega.{arith}
 use lib.ListN.{length}
 use Rattle.luck_text.specs.Bytes.{part}
-use Rattle.luck_literal.specs.Literal.{placesOf}
-use Rattle.luck_literal.proofs.Literals.{both-quotes}
+use Rattle.luck_token.specs.Literal.{placesOf}
+use Rattle.luck_token.proofs.Literals.{both-quotes}
 use Rattle.luck_linter.specs.StringLiteral.{checkBody}
 use Rattle.luck_linter.proofs.StringLiterals as laws
 use Rattle.luck_pattern.specs.Replacement.{countOf}

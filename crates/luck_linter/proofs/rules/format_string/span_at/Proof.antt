@@ -1,9 +1,9 @@
 -- `luck_linter::rules::format_string::span_at` meets its contract. Assumes nothing.
 use mathlib.Core.Path.{_≡_, refl, sym, ap, subst, _∙_}
 use Prim.Native.Nat.{ℕ, zero, suc, _+_, _-_, _*_, _≤_, _<_, min, max}
-use Rattle.luck_version.specs.Span.{spanOf, shiftedBy}
+use Rattle.luck_token.specs.Span.{spanOf, shiftedBy}
 use Rattle.luck_utf8.specs.Utf8.{charAt}
-use Rattle.luck_version.specs.declared.span.Span.{Span}
+use Rattle.luck_token.specs.declared.span.Span.{Span}
 use Rattle.luck_utf8.specs.declared.utf8.Char.{Char}
 use Rattle.luck_linter.specs.StringLiteral.{spanAt}
 use Rattle.luck_linter.proofs.StringLiterals.{same-span, moved-span}

@@ -1,0 +1,20 @@
+-- `luck_token::span::Span::from_indices` meets its contract. Assumes nothing.
+use mathlib.Core.Path.{_≡_, refl, sym, ap, subst, _∙_}
+use Rattle.luck_token.specs.Span.{spanOf}
+use borrow.Author.Needs.{needs}
+use Rattle.luck_token.proofs.span.Span.from_indices.Statement.{statement}
+use Rattle.luck_token.proofs.span.Span.from_indices.Tie as tie
+
+index-to-offset-requires : tie.Need-index-to-offset-requires
+index-to-offset-requires c κs = search needs
+
+index-to-offset-requires-2 : tie.Need-index-to-offset-requires-2
+index-to-offset-requires-2 c κs = search needs
+
+returns : tie.Need-returns
+unfolding spanOf
+returns c = cc (c .before .index-to-offset .ensures, c .index-to-offset2 .ensures)
+
+pub from-indices-spec : {M : Type 1} → statement M
+from-indices-spec =
+    tie.close (tie.spec index-to-offset-requires index-to-offset-requires-2 returns)

@@ -1,0 +1,137 @@
+-- `luck_token::string::escape_of` meets its contract. Assumes nothing.
+use mathlib.Core.Path.{_≡_, refl, sym, ap, subst, _∙_}
+use native.Mathlib.Omega.{arith}
+use borrow.Author.Tests.{ltb-true, ltb-false, leb-true, leb-false, eqb-true, eqb-false, not-true, not-false, lt-ltb, le-ltb, le-leb, lt-leb, eq-eqb, ne-eqb}
+use mathlib.Core.Bool.{Bool, true, false, not, _&&_, _||_}
+use mathlib.Core.Logic.{⊎-elim}
+use Rattle.luck_text.specs.Bytes.{if_then_else_, between, isDigit}
+use Rattle.luck_token.specs.Literal.{escapeOf}
+use Rattle.luck_text.proofs.Bytes.{below, above}
+use Rattle.luck_token.proofs.Literals.{decimal-escape}
+use borrow.Author.Needs.{needs}
+use Rattle.luck_token.proofs.string.escape_of.Statement.{statement}
+use Rattle.luck_token.proofs.string.escape_of.Tie as tie
+
+returns : tie.Need-returns
+unfolding escapeOf if_then_else_ isDigit
+returns c = rw (c .before .match .keys13, c .if1 .taken)
+
+other-escape-requires : tie.Need-other-escape-requires
+other-escape-requires c κs = search needs
+
+returns-2 : tie.Need-returns-2
+unfolding escapeOf if_then_else_ isDigit
+returns-2 c = rw (c .before .match .keys14, c .if2 .taken)
+
+other-escape-requires-2 : tie.Need-other-escape-requires-2
+other-escape-requires-2 c κs = search needs
+
+returns-3 : tie.Need-returns-3
+unfolding escapeOf if_then_else_ isDigit
+returns-3 c = rw (c .before .match .keys15, c .if3 .taken)
+
+other-escape-requires-3 : tie.Need-other-escape-requires-3
+other-escape-requires-3 c κs = search needs
+
+other-escape-requires-4 : tie.Need-other-escape-requires-4
+other-escape-requires-4 c κs = search needs
+
+returns-4 : tie.Need-returns-4
+unfolding escapeOf if_then_else_
+returns-4 c = rw (c .match .keys1)
+
+returns-5 : tie.Need-returns-5
+unfolding escapeOf if_then_else_
+returns-5 c = rw (c .match .keys2)
+
+returns-6 : tie.Need-returns-6
+unfolding escapeOf if_then_else_
+returns-6 c = rw (c .match .keys3)
+
+returns-7 : tie.Need-returns-7
+unfolding escapeOf if_then_else_
+returns-7 c = rw (c .match .keys4)
+
+returns-8 : tie.Need-returns-8
+unfolding escapeOf if_then_else_
+returns-8 c = rw (c .match .keys5)
+
+returns-9 : tie.Need-returns-9
+unfolding escapeOf if_then_else_
+returns-9 c = rw (c .match .keys6)
+
+returns-10 : tie.Need-returns-10
+unfolding escapeOf if_then_else_
+returns-10 c = rw (c .match .keys7)
+
+returns-11 : tie.Need-returns-11
+unfolding escapeOf if_then_else_
+returns-11 c = rw (c .match .keys8)
+
+returns-12 : tie.Need-returns-12
+unfolding escapeOf if_then_else_
+returns-12 c = rw (c .match .keys9)
+
+returns-13 : tie.Need-returns-13
+unfolding escapeOf if_then_else_
+returns-13 c = rw (c .match .keys10)
+
+returns-14 : tie.Need-returns-14
+unfolding escapeOf if_then_else_
+returns-14 c = rw (c .match .keys11)
+
+returns-15 : tie.Need-returns-15
+unfolding escapeOf if_then_else_
+returns-15 c = rw (c .match .keys12)
+
+returns-16 : tie.Need-returns-16
+unfolding escapeOf if_then_else_ isDigit
+returns-16 c = c .other-escape .ensures ∙ rw (c .before .before .match .keys13, c .before .if1 .left)
+
+returns-17 : tie.Need-returns-17
+unfolding escapeOf if_then_else_ isDigit
+returns-17 c = c .other-escape2 .ensures ∙ rw (c .before .before .match .keys14, c .before .if2 .left)
+
+returns-18 : tie.Need-returns-18
+unfolding escapeOf if_then_else_ isDigit
+returns-18 c = c .other-escape3 .ensures ∙ rw (c .before .before .match .keys15, c .before .if3 .left)
+
+returns-19 : tie.Need-returns-19
+returns-19 c = decimal-escape (c .before .before .before .args .rules) (c .before .before .before .args .byte) (omega arith) (omega arith)
+
+returns-20 : tie.Need-returns-20
+unfolding escapeOf if_then_else_ isDigit
+returns-20 c =
+    let x = c .before .before .before .args .byte in
+    let w = c .before .before .match .rest in
+    let no-digit : between 48 57 x ≡ false = ⊎-elim (λ l. below 48 57 x (omega arith)) (λ l. above 48 57 x (omega arith)) (c .before .if4 .came) in
+    c .other-escape4 .ensures ∙ rw (ne-eqb x 97 (w .0 .0 .0 .0 .0 .0 .0 .0 .0 .0 .0 .0 .0 .0 .1), ne-eqb x 98 (w .0 .0 .0 .0 .0 .0 .0 .0 .0 .0 .0 .0 .0 .1), ne-eqb x 102 (w .0 .0 .0 .0 .0 .0 .0 .0 .0 .0 .0 .0 .1), ne-eqb x 110 (w .0 .0 .0 .0 .0 .0 .0 .0 .0 .0 .0 .1), ne-eqb x 114 (w .0 .0 .0 .0 .0 .0 .0 .0 .0 .0 .1), ne-eqb x 116 (w .0 .0 .0 .0 .0 .0 .0 .0 .0 .1), ne-eqb x 118 (w .0 .0 .0 .0 .0 .0 .0 .0 .1), ne-eqb x 92 (w .0 .0 .0 .0 .0 .0 .0 .1), ne-eqb x 34 (w .0 .0 .0 .0 .0 .0 .1), ne-eqb x 39 (w .0 .0 .0 .0 .0 .1), ne-eqb x 10 (w .0 .0 .0 .0 .1), ne-eqb x 13 (w .0 .0 .0 .1), no-digit, ne-eqb x 120 (w .0 .0 .1), ne-eqb x 122 (w .0 .1), ne-eqb x 117 (w .1))
+
+pub escape-of-spec : {M : Type 1} → statement M
+escape-of-spec =
+    tie.close
+    (tie.spec
+    returns
+    other-escape-requires
+    returns-2
+    other-escape-requires-2
+    returns-3
+    other-escape-requires-3
+    other-escape-requires-4
+    returns-4
+    returns-5
+    returns-6
+    returns-7
+    returns-8
+    returns-9
+    returns-10
+    returns-11
+    returns-12
+    returns-13
+    returns-14
+    returns-15
+    returns-16
+    returns-17
+    returns-18
+    returns-19
+    returns-20)

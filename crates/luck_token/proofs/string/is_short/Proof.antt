@@ -1,0 +1,46 @@
+-- `luck_token::string::is_short` meets its contract. Assumes nothing.
+use native.Mathlib.Omega.{arith}
+use borrow.Author.Tests.{ltb-true, ltb-false, leb-true, leb-false, eqb-true, eqb-false, not-true, not-false, lt-ltb, le-ltb, le-leb, lt-leb, eq-eqb, ne-eqb}
+use Rattle.luck_text.specs.Bytes.{byteAt}
+use Rattle.luck_token.specs.Literal.{isShort}
+use lib.ListN.{length}
+use borrow.Author.Needs.{needs}
+use Rattle.luck_token.proofs.string.is_short.Statement.{statement}
+use Rattle.luck_token.proofs.string.is_short.Tie as tie
+
+returns : tie.Need-returns
+unfolding isShort
+returns c = rw (lt-leb 2 (length (c .before .args .raw .now)) (c .if1 .taken))
+
+shared-slice-read-first : tie.Need-shared-slice-read-first
+shared-slice-read-first c = search needs
+
+sub-last : tie.Need-sub-last
+sub-last c = search needs
+
+shared-slice-read-last : tie.Need-shared-slice-read-last
+shared-slice-read-last c = search needs
+
+returns-2 : tie.Need-returns-2
+unfolding isShort
+returns-2 c = rw (le-leb 2 (length (c .before .before .before .before .args .raw .now)) (c .before .before .before .if1 .left), c .if2 .taken)
+
+returns-3 : tie.Need-returns-3
+unfolding isShort
+returns-3 c = rw (le-leb 2 (length (c .before .before .before .before .before .args .raw .now)) (c .before .before .before .before .if1 .left), c .if3 .taken)
+
+returns-4 : tie.Need-returns-4
+unfolding isShort
+returns-4 c = rw (le-leb 2 (length (c .before .before .before .before .before .args .raw .now)) (c .before .before .before .before .if1 .left), ne-eqb (byteAt (c .before .before .before .before .before .args .raw .now) 0) 34 (c .before .if2 .left), ne-eqb (byteAt (c .before .before .before .before .before .args .raw .now) 0) 39 (c .if3 .left))
+
+pub is-short-spec : {M : Type 1} → statement M
+is-short-spec =
+    tie.close
+    (tie.spec
+    returns
+    shared-slice-read-first
+    sub-last
+    shared-slice-read-last
+    returns-2
+    returns-3
+    returns-4)

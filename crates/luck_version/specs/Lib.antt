@@ -1,3 +1,0 @@
-pub mod Version
-pub mod Whitespace
-pub mod Span
