@@ -1,2 +1,3 @@
 pub mod Pack
 pub mod Inner
+pub mod Examples
