@@ -1,7 +1,7 @@
 // How many records of a file ran, and how many of them differ.
 ghost use mathlib.Core.Path.{_≡_};
 ghost use Prim.Native.Nat.{_+_, _<_, _≤_};
-ghost use Rattle.stored_records.specs.Tally.{differing};
+ghost use Rattle.stored_records.specs.Tally.{differing, firstDiffering, firstAfter};
 
 pub struct Tally {
     pub ran: usize,
@@ -23,7 +23,7 @@ pub enum Replay {
 }
 
 pub fn none() -> Tally
-    ensures { λ r. ⌜ (r .ran ≡ 0) × (r .differ ≡ 0) ⌝ }
+    ensures { λ r. ⌜ (r .ran ≡ 0) × (r .differ ≡ 0) × (r .first ≡ 0) ⌝ }
 {
     Tally {
         ran: 0,
@@ -32,10 +32,20 @@ pub fn none() -> Tally
     }
 }
 
+// Which record is the first that differs, if the next one does.
+fn first_differing(tally: Tally) -> usize
+    ensures { λ r. ⌜ r ≡ firstDiffering tally ⌝ }
+{
+    if tally.differ == 0 {
+        return tally.ran;
+    }
+    tally.first
+}
+
 // The tally with one more record.
 pub fn count(tally: Tally, agrees: bool) -> Tally
     requires { ⌜ (tally .differ ≤ tally .ran) × (tally .ran < 0x8000_0000_0000_0000) ⌝ }
-    ensures { λ r. ⌜ (r .ran ≡ tally .ran + 1) × (r .differ ≤ r .ran) × (r .differ ≡ tally .differ + differing agrees) ⌝ }
+    ensures { λ r. ⌜ (r .ran ≡ tally .ran + 1) × (r .differ ≤ r .ran) × (r .differ ≡ tally .differ + differing agrees) × (r .first ≡ firstAfter agrees tally) ⌝ }
 {
     if agrees {
         return Tally {
@@ -44,13 +54,9 @@ pub fn count(tally: Tally, agrees: bool) -> Tally
             first: tally.first,
         };
     }
-    let mut first = tally.first;
-    if tally.differ == 0 {
-        first = tally.ran;
-    }
     Tally {
         ran: tally.ran + 1,
         differ: tally.differ + 1,
-        first,
+        first: first_differing(tally),
     }
 }

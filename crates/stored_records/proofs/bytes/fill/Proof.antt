@@ -1,14 +1,16 @@
--- `stored_records::bytes::fill` is safe and ends. The loop keeps the length. Assumes nothing.
-use Prim.Native.Nat.{_≤_, _-_}
-use mathlib.Core.Path.{_≡_}
-use lib.ListN.{length, length-set}
+-- `stored_records::bytes::fill` meets its contract. The invariant: the bytes passed are filled, and those behind are as they were. Assumes nothing.
+use Prim.Native.Nat.{ℕ, _≤_, _-_}
+use mathlib.Core.Path.{_≡_, ap, _∙_}
+use mathlib.Core.List.{List, _++_}
+use lib.ListN.{length, set, drop, replicate, length-set}
+use borrow.Author.Fill.{fill-more}
 use native.Mathlib.Omega.{arith}
 use borrow.Author.Needs.{needs}
 use Rattle.stored_records.proofs.bytes.fill.Statement.{statement}
 use Rattle.stored_records.proofs.bytes.fill.Tie as tie
 
 abbrev Inv-loop : tie.InvT-loop
-Inv-loop output₀ to byte i₀ output i = (i ≤ to) × (length output ≡ length output₀)
+Inv-loop output₀ to byte i₀ output i = (i ≤ to) × (length output ≡ length output₀) × (output ≡ replicate i byte ++ drop i output₀)
 
 abbrev μ-loop : tie.MeasureT-loop
 μ-loop output₀ to byte i₀ output i = to - i
@@ -26,13 +28,23 @@ loop-less : tie.Need-loop-less Inv-loop μ-loop
 loop-less c = search needs
 
 loop-again : tie.Need-loop-again Inv-loop μ-loop
-loop-again c = simp length-set (omega arith)
+loop-again c =
+    let l = c .before .loop in
+    let a = c .before .before .args in (
+      omega arith,
+      length-set (l .output) (l .i) (a .byte) ∙ l .inv .1,
+      ap (λ (o : List ℕ). set o (l .i) (a .byte)) (l .inv .2) ∙ fill-more (l .i) (a .byte) (a .output .now) (omega arith),
+    )
 
 same-length : tie.Need-same-length Inv-loop μ-loop
 same-length c = search needs
 
 returns : tie.Need-returns Inv-loop μ-loop
-returns c = search needs
+returns c =
+    let l = c .before .loop in
+    let a = c .before .before .args in
+    let e : l .i ≡ a .to = omega arith in
+    l .inv .2 ∙ ap (λ (n : ℕ). replicate n (a .byte) ++ drop n (a .output .now)) e
 
 pub fill-spec : {M : Type 1} → statement M
 fill-spec =

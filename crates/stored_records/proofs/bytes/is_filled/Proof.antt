@@ -1,46 +1,19 @@
--- `stored_records::bytes::is_filled` is safe and ends. Assumes nothing.
-use Prim.Native.Nat.{_-_}
+-- `stored_records::bytes::is_filled` meets its contract. Assumes nothing.
+use Prim.Native.Nat.{ℕ, _-_}
+use mathlib.Core.Path.{ap}
+use lib.Dec.{leb}
 use borrow.Author.Needs.{needs}
 use Rattle.stored_records.proofs.bytes.is_filled.Statement.{statement}
 use Rattle.stored_records.proofs.bytes.is_filled.Tie as tie
 
-abbrev Inv-loop : tie.InvT-loop
-Inv-loop output from to byte i₀ i = Unit {0}
+sub-result : tie.Need-sub-result
+sub-result c = search needs
 
-abbrev μ-loop : tie.MeasureT-loop
-μ-loop output from to byte i₀ i = to - i
+run-requires : tie.Need-run-requires
+run-requires c κs = search needs
 
-loop-holds : tie.Need-loop-holds Inv-loop μ-loop
-loop-holds c = search needs
-
-shared-slice-read-if1 : tie.Need-shared-slice-read-if1 Inv-loop μ-loop
-shared-slice-read-if1 c = search needs
-
-returns : tie.Need-returns Inv-loop μ-loop
-returns c = search needs
-
-add-i : tie.Need-add-i Inv-loop μ-loop
-add-i c = search needs
-
-loop-less : tie.Need-loop-less Inv-loop μ-loop
-loop-less c = search needs
-
-loop-again : tie.Need-loop-again Inv-loop μ-loop
-loop-again c = search needs
-
-returns-2 : tie.Need-returns-2 Inv-loop μ-loop
-returns-2 c = search needs
+returns : tie.Need-returns
+returns c = ap (λ (n : ℕ). leb (c .before .before .args .to - c .before .before .args .from) n) (c .run .ensures)
 
 pub is-filled-spec : {M : Type 1} → statement M
-is-filled-spec =
-    tie.close
-    (tie.spec
-    Inv-loop
-    μ-loop
-    loop-holds
-    shared-slice-read-if1
-    returns
-    add-i
-    loop-less
-    loop-again
-    returns-2)
+is-filled-spec = tie.close (tie.spec sub-result run-requires returns)
