@@ -6,8 +6,5 @@ pub mod Accepted
 pub mod Writings
 pub mod Quiet
 pub mod Promises
-pub mod Outputs
-pub mod Decimals
-pub mod Replaced
 pub mod Forward
 pub mod Rounds

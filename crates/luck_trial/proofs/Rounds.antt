@@ -19,16 +19,17 @@ use Rattle.luck_token.specs.Version.{isVersion}
 use Rattle.luck_pattern.specs.Replacement.{pieces}
 use Rattle.luck_match.specs.Class.{matchClass}
 use Rattle.luck_match.specs.Match.{Outcome, matched, failed, stopped, match}
-use Rattle.luck_trial.specs.Replace.{Wrote, append, addPieces}
+use Rattle.luck_replace.specs.Replace.{Wrote, append, addPieces}
 use Rattle.luck_trial.specs.Gsub.{Answer, answer, andWrote, Rounds, Writer, endsAgain, copyByte, copyRest, round, anchoredRound, roundsFrom, rounds, strGsub, writerOf, gsub}
 use Rattle.luck_match.specs.Inner.{capturesIn}
 use Rattle.luck_matcher.specs.Inner.{outcomeBy, outcomeOf}
-use Rattle.luck_trial.specs.Inner.{wroteOf, WroteAs, Reported, writerBy}
+use Rattle.luck_replace.specs.Inner.{wroteOf, WroteAs}
+use Rattle.luck_trial.specs.Inner.{Reported, writerBy}
 use Rattle.luck_matcher.specs.declared.matcher.Attempt.{Attempt}
-use Rattle.luck_trial.specs.declared.replace.Wrote.{Wrote as Written}
+use Rattle.luck_replace.specs.declared.replace.Wrote.{Wrote as Written}
 use Rattle.luck_trial.proofs.Runs.{WroteFine, append-fine}
 use Rattle.luck_trial.proofs.Forward.{Onward, onward}
-use Rattle.luck_trial.proofs.Outputs.{Upto, begins, length-so-far, is-wrote, is-ended, goes-on, puts, put-byte}
+use Rattle.luck_replace.proofs.Outputs.{Upto, begins, length-so-far, is-wrote, is-ended, goes-on, puts, put-byte}
 
 -- ---- The law without the bound
 

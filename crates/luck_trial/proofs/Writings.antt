@@ -29,7 +29,7 @@ use Rattle.luck_pattern.specs.Replacement.{
   checkReplacement,
 }
 use Rattle.luck_match.specs.Match.{Capture, opened, position, closed}
-use Rattle.luck_trial.specs.Replace.{Wrote, wrote, ended, andThen, append, decimal, addCapture, addDigit, addPiece, addPieces}
+use Rattle.luck_replace.specs.Replace.{Wrote, wrote, ended, andThen, append, decimal, addCapture, addDigit, addPiece, addPieces}
 use Rattle.luck_trial.specs.Gsub.{Writer, writerOf}
 use Rattle.luck_trial.proofs.Runs.{WroteFine, append-fine, then-fine}
 use Rattle.luck_trial.proofs.Sound.{AllClosed, isShut, flagsOf, length-flags, flags-getD}

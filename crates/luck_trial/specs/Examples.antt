@@ -19,7 +19,7 @@ use Rattle.luck_format.specs.Format.{isFlag, isModifier, getFormat, scanPrecisi
 use Rattle.luck_pack.specs.Pack.{getnumlimit, fixedString, numberedOption, getoption, kindOf, numberOr, luckSizeof, luckSize, maxalign, isPowerOfTwo, isMisaligned, aligned, variable, alignBy, alignmentOf, alignToNext, kindTurn, optionTurn, packTurn, packEnd, packWalk, checkPack}
 use Rattle.luck_match.specs.Class.{isLower, isUpper, isAlpha, isAlnum, isCntrl, isGraph, isPunct, isSpace, toLower, classTest, classBy, matchClass, isElement, isAnyOf, inSet, fits}
 use Rattle.luck_match.specs.Match.{toCloseBy, captureToClose, due, newLevel, orElse, startCapture, endCapture, sameBytes, matchCapture, backReference, balanceEnd, matchBalance, goesOnAt, byteBefore, isFrontier, passedOver, longestFirst, maxExpand, fitsAt, reach, minExpand, expand, doItem, match}
-use Rattle.luck_trial.specs.Replace.{andThen, append, decimalFrom, decimal, addCapture, addDigit, addPiece, addPieces}
+use Rattle.luck_replace.specs.Replace.{andThen, append, decimalFrom, decimal, addCapture, addDigit, addPiece, addPieces}
 use Rattle.luck_trial.specs.Gsub.{Answer as Trial, answer, andWrote, endsAgain, copyByte, copyRest, round, anchoredRound, roundsFrom, rounds, strGsub, writerOf, gsub}
 
 -- a case: what is given, and the answer wanted. A trial: version, subject, pattern, replacement, budget, room

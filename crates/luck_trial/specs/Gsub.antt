@@ -14,7 +14,7 @@ use Rattle.luck_pattern.specs.Replacement.{Piece, pieces}
 use Rattle.luck_match.specs.Class.{matchClass}
 use Rattle.luck_trial.specs.declared.gsub.Trial.{Trial}
 use Rattle.luck_match.specs.Match.{Capture, Outcome, matched, failed, stopped, match}
-use Rattle.luck_trial.specs.Replace.{Wrote, wrote, ended, append, addPieces}
+use Rattle.luck_replace.specs.Replace.{Wrote, wrote, ended, append, addPieces}
 
 -- number (0: done), kind (0 unless the number is 29), the bytes written, the replacements, the steps
 pub record Answer : Type 0 where

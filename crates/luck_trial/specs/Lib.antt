@@ -1,4 +1,3 @@
-pub mod Replace
 pub mod Gsub
 pub mod Inner
 pub mod Examples

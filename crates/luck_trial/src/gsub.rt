@@ -10,9 +10,9 @@ ghost use Rattle.luck_match.specs.Match.{match};
 ghost use Rattle.luck_trial.specs.Gsub.{outputAfter, report, reportOf, anchoredRound, rounds, gsub};
 ghost use Rattle.luck_match.specs.Inner.{AreMasks};
 ghost use Rattle.luck_trial.specs.Inner.{writerBy, Reported};
-use crate::replace;
 use luck_attempt::attempt;
 use luck_match::class;
+use luck_replace::replace;
 use luck_token::version;
 
 // Number 0 is done; a kind from 1 to 10 goes with 29, and 0 with every other number.

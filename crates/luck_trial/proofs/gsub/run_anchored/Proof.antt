@@ -3,7 +3,7 @@ use native.Mathlib.Omega.{arith}
 use mathlib.Core.Path.{_≡_}
 use borrow.Author.Needs.{needs}
 use Rattle.luck_pattern.specs.Items.{items}
-use Rattle.luck_trial.proofs.Outputs as outputs
+use Rattle.luck_replace.proofs.Outputs as outputs
 use Rattle.luck_trial.proofs.Rounds as rounds
 use Rattle.luck_trial.proofs.gsub.run_anchored.Statement.{statement}
 use Rattle.luck_trial.proofs.gsub.run_anchored.Tie as tie

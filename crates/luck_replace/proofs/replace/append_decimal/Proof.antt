@@ -1,15 +1,15 @@
--- `luck_trial::replace::append_decimal` meets its contract. The invariant: the digits written and those of the number left make the whole. Assumes nothing.
+-- `luck_replace::replace::append_decimal` meets its contract. The invariant: the digits written and those of the number left make the whole. Assumes nothing.
 use Prim.Native.Nat.{ℕ}
 use native.Mathlib.Omega.{arith}
 use mathlib.Core.Path.{refl, ap}
 use mathlib.Core.List.{List}
 use lib.ListN.{length, take}
 use borrow.Author.Needs.{needs}
-use Rattle.luck_trial.specs.Replace.{append}
-use Rattle.luck_trial.proofs.Outputs as outputs
-use Rattle.luck_trial.proofs.Decimals as decimals
-use Rattle.luck_trial.proofs.replace.append_decimal.Statement.{statement}
-use Rattle.luck_trial.proofs.replace.append_decimal.Tie as tie
+use Rattle.luck_replace.specs.Replace.{append}
+use Rattle.luck_replace.proofs.Outputs as outputs
+use Rattle.luck_replace.proofs.Decimals as decimals
+use Rattle.luck_replace.proofs.replace.append_decimal.Statement.{statement}
+use Rattle.luck_replace.proofs.replace.append_decimal.Tie as tie
 
 abbrev Inv-loop : tie.InvT-loop
 Inv-loop output at number digits₀ first₀ left₀ digits first left = decimals.Digits number digits first left

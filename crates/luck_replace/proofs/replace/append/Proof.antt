@@ -1,14 +1,14 @@
--- `luck_trial::replace::append` meets its contract. The invariant: the bytes left, behind what is written, make the whole writing. Assumes nothing.
+-- `luck_replace::replace::append` meets its contract. The invariant: the bytes left, behind what is written, make the whole writing. Assumes nothing.
 use Prim.Native.Nat.{ℕ, _+_, _-_, _≤_}
 use native.Mathlib.Omega.{arith}
 use mathlib.Core.Path.{_≡_, refl, sym, ap, _∙_}
 use mathlib.Core.List.{List}
 use lib.ListN.{length, getD, take, drop}
 use borrow.Author.Needs.{needs}
-use Rattle.luck_trial.specs.Replace.{append}
-use Rattle.luck_trial.proofs.Outputs as outputs
-use Rattle.luck_trial.proofs.replace.append.Statement.{statement}
-use Rattle.luck_trial.proofs.replace.append.Tie as tie
+use Rattle.luck_replace.specs.Replace.{append}
+use Rattle.luck_replace.proofs.Outputs as outputs
+use Rattle.luck_replace.proofs.replace.append.Statement.{statement}
+use Rattle.luck_replace.proofs.replace.append.Tie as tie
 
 abbrev Inv-loop : tie.InvT-loop
 Inv-loop output₀ at bytes i₀ next₀ output i next =

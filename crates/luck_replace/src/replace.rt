@@ -4,9 +4,9 @@ ghost use mathlib.Core.List.{[], _∷_};
 ghost use Prim.Native.Nat.{ℕ, _+_, _<_, _≤_};
 ghost use lib.ListN.{length, take, drop};
 ghost use Rattle.luck_pattern.specs.Replacement.{escaped, pieces};
-ghost use Rattle.luck_trial.specs.Replace.{append, decimal, addCapture, addDigit, addPiece, addPieces};
+ghost use Rattle.luck_replace.specs.Replace.{append, decimal, addCapture, addDigit, addPiece, addPieces};
 ghost use Rattle.luck_match.specs.Inner.{captureOf, PairIn, capturesIn, KeptIn};
-ghost use Rattle.luck_trial.specs.Inner.{WroteAs};
+ghost use Rattle.luck_replace.specs.Inner.{WroteAs};
 use luck_match::capture;
 
 // Up to where the output is written now, and 0; or what ended the writing, by number and kind.

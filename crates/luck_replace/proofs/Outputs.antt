@@ -9,9 +9,9 @@ use lib.ListN.{length, getD, set, take, drop, take-append-drop, length-set, drop
 use lib.Seq.{length-take-le, drop-append-add, drop-drop, drop-set-lt, take-suc-set, drop-cons}
 use borrow.Author.Tests.{eq-eqb, ne-eqb, lt-ltb, le-ltb}
 use Rattle.luck_text.proofs.Cases.{if-true, if-false}
-use Rattle.luck_trial.specs.Replace.{Wrote, wrote, ended, append}
-use Rattle.luck_trial.specs.Inner.{wroteBy, wroteOf, WroteAs}
-use Rattle.luck_trial.specs.declared.replace.Wrote.{Wrote as Written}
+use Rattle.luck_replace.specs.Replace.{Wrote, wrote, ended, append}
+use Rattle.luck_replace.specs.Inner.{wroteBy, wroteOf, WroteAs}
+use Rattle.luck_replace.specs.declared.replace.Wrote.{Wrote as Written}
 
 pub record Upto (at : ℕ) (entry : List ℕ) (next : ℕ) (now : List ℕ) : Type 0 where
   pub untouched : now ≡ take next now ++ drop next entry

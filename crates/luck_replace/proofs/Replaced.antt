@@ -13,11 +13,11 @@ use Rattle.luck_text.specs.Bytes.{if_then_else_, byteAt, part, isDigit}
 use Rattle.luck_text.proofs.Cases.{if-true, if-false}
 use Rattle.luck_pattern.specs.Replacement.{Piece, literal, digit, percent, other, lone, escaped, pieces}
 use Rattle.luck_match.specs.Match.{Capture, opened}
-use Rattle.luck_trial.specs.Replace.{Wrote, wrote, ended, andThen, append, decimal, addCapture, addDigit, addPiece, addPieces}
+use Rattle.luck_replace.specs.Replace.{Wrote, wrote, ended, andThen, append, decimal, addCapture, addDigit, addPiece, addPieces}
 use Rattle.luck_match.specs.Inner.{unfinished, positional, captureOf, PairIn, capturesIn, KeptIn}
-use Rattle.luck_trial.specs.Inner.{wroteOf, WroteAs}
-use Rattle.luck_trial.specs.declared.replace.Wrote.{Wrote as Written}
-use Rattle.luck_trial.proofs.Outputs.{Upto, is-wrote, is-ended, goes-on}
+use Rattle.luck_replace.specs.Inner.{wroteOf, WroteAs}
+use Rattle.luck_replace.specs.declared.replace.Wrote.{Wrote as Written}
+use Rattle.luck_replace.proofs.Outputs.{Upto, is-wrote, is-ended, goes-on}
 
 -- ---- A capture
 

@@ -1,8 +1,8 @@
--- `luck_trial::replace::append_byte` meets its contract. Assumes nothing.
+-- `luck_replace::replace::append_byte` meets its contract. Assumes nothing.
 use borrow.Author.Needs.{needs}
-use Rattle.luck_trial.proofs.Outputs as outputs
-use Rattle.luck_trial.proofs.replace.append_byte.Statement.{statement}
-use Rattle.luck_trial.proofs.replace.append_byte.Tie as tie
+use Rattle.luck_replace.proofs.Outputs as outputs
+use Rattle.luck_replace.proofs.replace.append_byte.Statement.{statement}
+use Rattle.luck_replace.proofs.replace.append_byte.Tie as tie
 
 slice-write-output : tie.Need-slice-write-output
 slice-write-output c = search needs

@@ -1,16 +1,16 @@
--- `luck_trial::replace::add_pieces` meets its contract. The invariant: the pieces from here, behind what is written, make the whole writing. Assumes nothing.
+-- `luck_replace::replace::add_pieces` meets its contract. The invariant: the pieces from here, behind what is written, make the whole writing. Assumes nothing.
 use Prim.Native.Nat.{_+_, _-_}
 use native.Mathlib.Omega.{arith}
 use mathlib.Core.Path.{refl, _∙_}
 use lib.ListN.{length, getD, take}
 use borrow.Author.Needs.{needs}
 use Rattle.luck_pattern.specs.Replacement.{literal, escaped}
-use Rattle.luck_trial.specs.Replace.{addPiece}
+use Rattle.luck_replace.specs.Replace.{addPiece}
 use Rattle.luck_match.specs.Inner.{capturesIn}
-use Rattle.luck_trial.proofs.Outputs as outputs
-use Rattle.luck_trial.proofs.Replaced as replaced
-use Rattle.luck_trial.proofs.replace.add_pieces.Statement.{statement}
-use Rattle.luck_trial.proofs.replace.add_pieces.Tie as tie
+use Rattle.luck_replace.proofs.Outputs as outputs
+use Rattle.luck_replace.proofs.Replaced as replaced
+use Rattle.luck_replace.proofs.replace.add_pieces.Statement.{statement}
+use Rattle.luck_replace.proofs.replace.add_pieces.Tie as tie
 
 abbrev Inv-pieces : tie.InvT-pieces
 Inv-pieces subject replacement is-51 place end count kept output₀ at read₀ next₀ output read next =

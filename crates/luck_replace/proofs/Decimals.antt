@@ -10,7 +10,7 @@ use lib.ListN.{length, set, drop, take, length-set, length-drop, drop-of-length-
 use lib.Seq.{drop-cons, getD-set-same, drop-set-lt, take-all}
 use borrow.Author.Tests.{lt-ltb, le-ltb}
 use Rattle.luck_text.proofs.Cases.{if-true, if-false, order}
-use Rattle.luck_trial.specs.Replace.{decimalFrom, decimal}
+use Rattle.luck_replace.specs.Replace.{decimalFrom, decimal}
 
 -- ---- The law without the bound
 

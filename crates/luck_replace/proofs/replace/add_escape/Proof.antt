@@ -1,4 +1,4 @@
--- `luck_trial::replace::add_escape` meets its contract. Assumes nothing.
+-- `luck_replace::replace::add_escape` meets its contract. Assumes nothing.
 use native.Mathlib.Omega.{arith}
 use mathlib.Core.Logic.{⊎-elim}
 use lib.ListN.{length, take}
@@ -6,10 +6,10 @@ use borrow.Author.Needs.{needs}
 use Rattle.luck_text.specs.Bytes.{isDigit}
 use Rattle.luck_text.proofs.Bytes.{within, below, above}
 use Rattle.luck_match.specs.Inner.{capturesIn}
-use Rattle.luck_trial.proofs.Outputs as outputs
-use Rattle.luck_trial.proofs.Replaced as replaced
-use Rattle.luck_trial.proofs.replace.add_escape.Statement.{statement}
-use Rattle.luck_trial.proofs.replace.add_escape.Tie as tie
+use Rattle.luck_replace.proofs.Outputs as outputs
+use Rattle.luck_replace.proofs.Replaced as replaced
+use Rattle.luck_replace.proofs.replace.add_escape.Statement.{statement}
+use Rattle.luck_replace.proofs.replace.add_escape.Tie as tie
 
 append-byte-requires : tie.Need-append-byte-requires
 append-byte-requires c κs = c .before .before .before .before .pre .0
