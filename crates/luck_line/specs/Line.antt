@@ -9,6 +9,7 @@ use lib.ListN.{length, drop}
 use lib.Dec.{eqb, leb, ltb}
 use Rattle.luck_text.specs.Bytes.{if_then_else_, byteAt, isDigit}
 use Rattle.luck_answer.specs.Answer.{Answer, refused, answerOf}
+use Rattle.luck_pattern.specs.Captures.{maxCaptures}
 use Rattle.luck_linter.specs.Checks.{Check, format, pattern, pack, date, replacement, answer}
 use Rattle.luck_line.specs.declared.line.LineChecked.{LineChecked}
 use Rattle.luck_line.specs.declared.line.LineChecked.the-variants.{TooLong, Misfit, Body}
@@ -24,11 +25,11 @@ isBlank b = eqb b (code " ")
 abbrev pub digit : ℕ → ℕ
 digit b = b - code "0"
 
--- a count of 10 to 32 in two digits; a leading zero does not fit
+-- a count of two digits, up to the most captures that a pattern may have; a leading zero does not fit
 unfoldable pub twoDigits : ℕ → ℕ → Option (Option ℕ)
 twoDigits tens units =
     let count = digit tens * 10 + digit units in
-    if isDigit tens && isDigit units && leb 10 count && leb count 32 then some (some count) else none
+    if isDigit tens && isDigit units && leb 10 count && leb count maxCaptures then some (some count) else none
 
 -- the captures of a replacement in their two columns, right-justified, blank where their count is not known; `none` where they do not fit
 unfoldable pub capturesIn : ℕ → ℕ → Option (Option ℕ)

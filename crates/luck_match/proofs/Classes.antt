@@ -12,7 +12,7 @@ use lib.Bits.{bitAnd}
 use lib.ListN.{getD}
 use lib.Dec.{eqb}
 use borrow.Author.Tests.{eq-eqb, ne-eqb, eqb-true}
-use Rattle.luck_text.specs.Bytes.{if_then_else_, isDigit, isXdigit}
+use Rattle.luck_text.specs.Bytes.{if_then_else_, isDigit, isXdigit, isLuaWhitespace}
 use Rattle.luck_text.proofs.Cases.{by-test, if-false, order, and-left, and-right}
 use Rattle.luck_text.proofs.Bytes.{above}
 use Rattle.luck_match.specs.Class.{
@@ -23,7 +23,6 @@ use Rattle.luck_match.specs.Class.{
   isCntrl,
   isGraph,
   isPunct,
-  isSpace,
   toLower,
   classTest,
   classBy,
@@ -89,7 +88,7 @@ choice f false x y u v e d = d
 
 -- the rule of the masks, for every letter and every byte
 by-bits : (letter c : ℕ) → c < 256 → classTest letter c ≡ byBits (classBits letter) c
-unfolding classTest classBits byBits if_then_else_ maskOf bit isLower isUpper isAlpha isAlnum isCntrl isGraph isPunct isSpace isDigit isXdigit
+unfolding classTest classBits byBits if_then_else_ maskOf bit isLower isUpper isAlpha isAlnum isCntrl isGraph isPunct isLuaWhitespace isDigit isXdigit
 by-bits letter c h =
     choice f (eqb letter (code "a")) _ _ _ _ (ap some (rule 36 isAlpha refl c h))
     (choice f (eqb letter (code "c")) _ _ _ _ (ap some (rule 1 isCntrl refl c h))
@@ -97,7 +96,7 @@ by-bits letter c h =
     (choice f (eqb letter (code "g")) _ _ _ _ (ap some (rule 46 isGraph refl c h))
     (choice f (eqb letter (code "l")) _ _ _ _ (ap some (rule 4 isLower refl c h))
     (choice f (eqb letter (code "p")) _ _ _ _ (ap some (rule 8 isPunct refl c h))
-    (choice f (eqb letter (code "s")) _ _ _ _ (ap some (rule 16 isSpace refl c h))
+    (choice f (eqb letter (code "s")) _ _ _ _ (ap some (rule 16 isLuaWhitespace refl c h))
     (choice f (eqb letter (code "u")) _ _ _ _ (ap some (rule 32 isUpper refl c h))
     (choice f (eqb letter (code "w")) _ _ _ _ (ap some (rule 38 isAlnum refl c h))
     (choice f (eqb letter (code "x")) _ _ _ _ (ap some (rule 64 isXdigit refl c h))

@@ -7,10 +7,10 @@ use mathlib.Core.Bool.{Bool, true, false, not, _&&_, _||_}
 use mathlib.Core.List.{List, [], _∷_}
 use mathlib.Core.Option.{Option, none, some}
 use lib.Dec.{eqb, leb}
-use Rattle.luck_text.specs.Bytes.{if_then_else_, between, isDigit, isXdigit}
+use Rattle.luck_text.specs.Bytes.{if_then_else_, between, isDigit, isXdigit, isLuaWhitespace}
 use Rattle.luck_pattern.specs.Items.{Element, escape, range, plain, Set, Single, any, class, among-set, byte}
 
--- isalpha and its kin of the C locale
+-- isalpha and its kin of the C locale; isspace is isLuaWhitespace
 unfoldable pub isLower : ℕ → Bool
 isLower c = between (code "a") (code "z") c
 
@@ -32,9 +32,6 @@ isGraph c = between (code "!") (code "~") c
 unfoldable pub isPunct : ℕ → Bool
 isPunct c = isGraph c && not (isAlnum c)
 
-unfoldable pub isSpace : ℕ → Bool
-isSpace c = between (code "\t") (code "\r") c || eqb c (code " ")
-
 unfoldable pub toLower : ℕ → ℕ
 toLower c = if isUpper c then c + (code "a" - code "A") else c
 
@@ -47,7 +44,7 @@ classTest letter c =
     else if eqb letter (code "g") then some (isGraph c)
     else if eqb letter (code "l") then some (isLower c)
     else if eqb letter (code "p") then some (isPunct c)
-    else if eqb letter (code "s") then some (isSpace c)
+    else if eqb letter (code "s") then some (isLuaWhitespace c)
     else if eqb letter (code "u") then some (isUpper c)
     else if eqb letter (code "w") then some (isAlnum c)
     else if eqb letter (code "x") then some (isXdigit c)

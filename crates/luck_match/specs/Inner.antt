@@ -8,10 +8,10 @@ use mathlib.Core.List.{List, [], _∷_}
 use mathlib.Core.Option.{Option, none, some}
 use lib.ListN.{length, getD}
 use lib.Dec.{eqb}
-use Rattle.luck_text.specs.Bytes.{if_then_else_, byteAt, isDigit, isXdigit}
+use Rattle.luck_text.specs.Bytes.{if_then_else_, byteAt, isDigit, isXdigit, isLuaWhitespace}
 use Rattle.luck_pattern.specs.Pattern.{SetEnd, closes-at, cut-at, unclosed}
 use Rattle.luck_pattern.specs.Items.{Single, any, class, among-set, byte, Repeat, once, optional, star, plus, minus, Item, start-capture, position-capture, end-capture, end-anchor, balance, frontier, back-reference, single, raises, setOf, items}
-use Rattle.luck_match.specs.Class.{isLower, isUpper, isCntrl, isPunct, isSpace, toLower, matchClass}
+use Rattle.luck_match.specs.Class.{isLower, isUpper, isCntrl, isPunct, toLower, matchClass}
 use Rattle.luck_match.specs.Match.{Capture, opened, position, closed, failed, raised, Rest, Reach, reached, spent, reach}
 use Rattle.luck_match.specs.declared.subject.Found.{Found}
 use Rattle.luck_match.specs.declared.subject.Found.the-variants as found
@@ -34,7 +34,7 @@ bit n false = 0
 
 unfoldable pub maskOf : ℕ → ℕ
 maskOf c =
-    bit 1 (isCntrl c) + bit 2 (isDigit c) + bit 4 (isLower c) + bit 8 (isPunct c) + bit 16 (isSpace c) + bit 32 (isUpper c) + bit 64 (isXdigit c)
+    bit 1 (isCntrl c) + bit 2 (isDigit c) + bit 4 (isLower c) + bit 8 (isPunct c) + bit 16 (isLuaWhitespace c) + bit 32 (isUpper c) + bit 64 (isXdigit c)
     + bit 128 (eqb c 0)
 
 unfoldable pub AreMasks : List ℕ → Type 0

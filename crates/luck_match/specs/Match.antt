@@ -1,4 +1,4 @@
--- Matching: what each item of a pattern does at a place of the subject, as do_match of lstrlib.c 5.4 and document 01, "The trial". A step is due when
+-- Matching: what each item of a pattern does at a place of the subject, as `match` of lstrlib.c 5.4 (document 01, "The trial", calls it do_match). A step is due when
 -- an item is begun and for each test that a repeat makes after its single's own.
 -- In what follows s is a place of the subject, l the level, cs the captures in the order of their `(`, u the steps used.
 -- Assumes nothing.
@@ -9,6 +9,7 @@ use mathlib.Core.Option.{Option, none, some}
 use lib.ListN.{length, getD, set}
 use lib.Dec.{eqb, leb, ltb}
 use Rattle.luck_text.specs.Bytes.{if_then_else_, byteAt}
+use Rattle.luck_pattern.specs.Captures.{maxCaptures}
 use Rattle.luck_pattern.specs.Items.{
   Set,
   Single,
@@ -77,9 +78,13 @@ Rest = ℕ → ℕ → List Capture → ℕ → Outcome
 unfoldable pub due : ℕ → ℕ → (ℕ → Outcome) → Outcome
 due budget u k = let on = k (u + 1) in if ltb u budget then on else stopped 27 0 u
 
--- a new level is opened: the 201st is 28
+-- MAXCCALLS of lstrlib.c
+abbrev pub maxLevels : ℕ
+maxLevels = 200
+
+-- a new level is opened: 28 where there are as many already
 unfoldable pub newLevel : ℕ → ℕ → (ℕ → Outcome) → Outcome
-newLevel l u k = let on = k (l + 1) in if ltb l 200 then on else stopped 28 0 u
+newLevel l u k = let on = k (l + 1) in if ltb l maxLevels then on else stopped 28 0 u
 
 -- what is tried after a failure, with the steps used by then
 unfoldable pub orElse : Outcome → (ℕ → Outcome) → Outcome
@@ -89,11 +94,11 @@ orElse (stopped number kind u) k = stopped number kind u
 
 -- ---- Items
 
--- start_capture: 32 already raises 8; a failing level takes the capture back, since the captures are handed on by value
+-- start_capture: as many as there may be already raises 8; a failing level takes the capture back, since the captures are handed on by value
 unfoldable pub startCapture : Capture → Rest → ℕ → ℕ → List Capture → ℕ → Outcome
 startCapture c rest s l cs u =
     let on = newLevel l u (λ m. rest s m (cs ++ (c ∷ [])) u) in
-    if ltb (length cs) 32 then on else raised 8 u
+    if ltb (length cs) maxCaptures then on else raised 8 u
 
 -- end_capture, of the capture i, whose start is s at the latest
 unfoldable pub endCapture : Option ℕ → Rest → ℕ → ℕ → List Capture → ℕ → Outcome
@@ -221,7 +226,7 @@ module _ (inClass : ℕ → ℕ → Bool) (sub : List ℕ) (budget : ℕ) where
       if fitsAt inClass sub x s then fitting else other
   doItem (raises kind) rest s l cs u = raised kind u
 
-  -- do_match: the items from s on; each begins with a step, and so does the pattern's end
+  -- the items from s on; each begins with a step, and so does the pattern's end
   unfoldable pub match : List Item → Rest
   match [] s l cs u = due budget u (λ v. matched s cs v)
   match (i ∷ is) s l cs u = due budget u (λ v. doItem i (match is) s l cs v)

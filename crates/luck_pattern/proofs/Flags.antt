@@ -13,7 +13,8 @@ use lib.Dec.{eqb, eqb·suc-zero, lit<}
 use lib.ListN.{length, getD}
 use lib.Pow.{pow-pos, shl-exact}
 use borrow.Author.Tests.{ne-eqb}
-use Rattle.luck_pattern.specs.Captures.{closeHere, closeLatest, allClosed, flagsOf}
+use Rattle.luck_pattern.specs.Captures.{closeHere, closeLatest, allClosed}
+use Rattle.luck_pattern.specs.Inner.{flagsOf}
 
 pub flags-length : (n w : ℕ) → length (flagsOf n w) ≡ n
 unfolding flagsOf

@@ -1,16 +1,21 @@
 -- What the inner functions of the check of patterns promise each other. No public contract rests on these.
 -- Assumes nothing.
-use Prim.Native.Nat.{ℕ, _^_, _<_, _≤_}
+use Prim.Native.Nat.{ℕ, zero, suc, _/_, _%_, _^_, _<_, _≤_}
 use mathlib.Core.Bool.{Bool}
-use mathlib.Core.List.{List}
+use mathlib.Core.List.{List, [], _∷_}
 use mathlib.Core.Option.{Option, none, some}
+use lib.Dec.{eqb}
 use Rattle.luck_answer.specs.Answer.{refusal}
-use Rattle.luck_pattern.specs.Captures.{flagsOf}
 use Rattle.luck_pattern.specs.Pattern.{Read, past, fault}
 use Rattle.luck_pattern.specs.declared.pattern.Scan.{Scan}
 use Rattle.luck_pattern.specs.declared.pattern.Scan.the-variants as scan
 use Rattle.luck_pattern.specs.declared.pattern.Closing.{Closing}
 use Rattle.luck_pattern.specs.declared.pattern.Closing.the-variants.{Open, Unmatched}
+
+-- the captures that a count and the code's word of open captures stand for: bit k is set while capture k, counted from 0, is open
+unfoldable pub flagsOf : ℕ → ℕ → List Bool
+flagsOf zero word = []
+flagsOf (suc count) word = eqb (word % 2) 0 ∷ flagsOf count (word / 2)
 
 abbrev pub readOf : Scan → Read
 readOf (scan.Past q) = past q

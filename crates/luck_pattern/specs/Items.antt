@@ -1,4 +1,4 @@
--- The items of a pattern, as do_match, classEnd and matchbracketclass of lstrlib.c 5.4 read them: what the trial runs. The check walks over the
+-- The items of a pattern, as `match`, classEnd and matchbracketclass of lstrlib.c 5.4 read them (document 01, "The trial"): what the trial runs. The check walks over the
 -- same pattern, and both go by Pattern.antt for what stands at a place: head, escape, and where a set ends.
 -- Assumes nothing.
 use Prim.Native.Nat.{ℕ, zero, suc, _+_, _-_}
@@ -43,7 +43,7 @@ pub record Set : Type 0 where
   pub complement : Bool  -- `[^`
   pub elements : List Element
 
--- the elements from place q up to the closing `]` at place e. A `%` just before it takes it as its byte. n is at least the bytes between
+-- the elements from place q up to the closing `]` at place e. A `%` just before it takes it as its byte. n is at least the bytes between (`elements-at` of luck_match takes it away)
 unfoldable pub elementsFrom : List ℕ → ℕ → ℕ → ℕ → List Element
 elementsFrom pat e zero q = []
 elementsFrom pat e (suc n) q =
@@ -82,7 +82,7 @@ pub data Item : Type 0 where
   frontier : Set → Item  -- `%f` and a set
   back-reference : ℕ → Item  -- `%` and a digit
   single : Single → Repeat → Item
-  raises : ℕ → Item  -- an error of this kind
+  raises : ℕ → Item  -- an error of this kind: Match.antt of luck_match lists the kinds
 
 -- what is read at a place: a last item, or an item and the place after it
 pub data Read : Type 0 where
@@ -152,7 +152,7 @@ unfoldable pub thenItems : (ℕ → List Item) → Read → List Item
 thenItems rest (last i) = i ∷ []
 thenItems rest (item i q) = i ∷ rest q
 
--- the items from place p on; n is at least the bytes left
+-- the items from place p on; n is at least the bytes left (`items-at` of luck_match takes it away)
 unfoldable pub itemsFrom : List ℕ → ℕ → ℕ → List Item
 itemsFrom pat zero p = []
 itemsFrom pat (suc n) p = let here = thenItems (itemsFrom pat n) (readItem pat p) in if leb (length pat) p then [] else here

@@ -1,5 +1,5 @@
--- What stands at a place of a pattern, as do_match and classEnd of lstrlib.c read it, as far as the check needs it, and which patterns are accepted (validate_lua_pattern,
--- scan_escape and scan_set of luck). luck passes over a whole UTF-8 character where this passes over one byte: the bytes after a
+-- What stands at a place of a pattern, as lstrlib.c's matching (`match`, which document 01 calls do_match) and classEnd read it, as far as the check needs it, and which patterns are
+-- accepted (validate_lua_pattern, scan_escape and scan_set of luck; document 01, "Pattern, then replacement"). luck passes over a whole UTF-8 character where this passes over one byte: the bytes after a
 -- character's first are 128 or more, so none of them is a byte that is tested for here, and the two read the same items.
 -- Assumes nothing.
 use Prim.Native.Nat.{ℕ, _+_, _-_}
@@ -12,7 +12,7 @@ use lib.Dec.{eqb, ltb}
 use Rattle.luck_text.specs.Bytes.{if_then_else_, byteAt, isDigit}
 use Rattle.luck_text.specs.Walk.{Turn, stop, goes, walkFrom}
 use Rattle.luck_answer.specs.Answer.{Answer, accepted, refused, refusedWith, checkText}
-use Rattle.luck_pattern.specs.Captures.{closeLatest, isClosed, allClosed}
+use Rattle.luck_pattern.specs.Captures.{maxCaptures, closeLatest, isClosed, allClosed}
 
 -- ---- Reading
 
@@ -118,7 +118,7 @@ afterClose p (some captures) = goes 1 captures
 
 -- the item at place p, after these captures
 unfoldable pub headTurn : List ℕ → ℕ → List Bool → Head → Turn (List Bool) Answer
-headTurn pat p captures at-open = if ltb (length captures) 32 then goes 1 (captures ++ (false ∷ [])) else stop (refused 12 p)
+headTurn pat p captures at-open = if ltb (length captures) maxCaptures then goes 1 (captures ++ (false ∷ [])) else stop (refused 12 p)
 headTurn pat p captures at-close = afterClose p (closeLatest captures)
 headTurn pat p captures at-percent = onward p captures (escapeRead pat p captures)
 headTurn pat p captures at-set = onward p captures (setRead pat p)

@@ -1,4 +1,4 @@
--- How a gsub replacement is read (add_s of lstrlib.c), and which are accepted (validate_gsub_replacement of luck).
+-- How a gsub replacement is read (add_s of lstrlib.c), and which are accepted (validate_gsub_replacement of luck; document 01, "Pattern, then replacement").
 -- Assumes nothing.
 use Prim.Native.Nat.{ℕ, _+_, _-_, max}
 use Prim.Native.Char.{code}

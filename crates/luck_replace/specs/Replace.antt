@@ -1,4 +1,5 @@
--- What is written for a match (add_s and get_onecapture of lstrlib.c 5.4, and of 5.1 for version 1), byte by byte into an output of a given room.
+-- What is written for a match (add_s and get_onecapture of lstrlib.c 5.4, and add_s of 5.1 for version 1; document 01, "Writing"), byte by byte into an output of a given
+-- room.
 -- Assumes nothing.
 use Prim.Native.Nat.{ℕ, zero, suc, _+_, _-_, _/_, _%_}
 use Prim.Native.Char.{code}
@@ -24,7 +25,7 @@ unfoldable pub append : ℕ → List ℕ → List ℕ → Wrote
 append room [] out = wrote out
 append room (b ∷ more) out = let on = append room more (out ++ (b ∷ [])) in if ltb (length out) room then on else ended 26 0 out
 
--- a number in decimal; n is more than its digits
+-- a number in decimal; n is more than its digits (`decimal-large` takes it away)
 unfoldable pub decimalFrom : ℕ → ℕ → List ℕ
 decimalFrom zero x = []
 decimalFrom (suc n) x =

@@ -122,7 +122,7 @@ codePointLimit rules = if rules .«extended_unicode_escape» then 0x7FFF_FFFF el
 unfoldable pub allowsCodePoint : Rules → ℕ → ℕ → Bool
 allowsCodePoint rules count value = allowsDigits rules count && leb value (codePointLimit rules) && isChar value
 
--- any number of hexadecimal digits in braces
+-- hexadecimal digits in braces, as many and of such a value as the version allows
 unfoldable pub unicodeEscape : Rules → List ℕ → ℕ → Piece
 unicodeEscape rules body p =
     let count = run isXdigit (drop (p + 3) body) in

@@ -88,7 +88,8 @@ module _ (sub : List ℕ) (room : ℕ) where
     anchoredRound (matched e cs u) = andWrote (write 0 e cs []) 1 u (λ now. copyRest e now 1 u)
 
 module _ (inClass : ℕ → ℕ → Bool) (sub : List ℕ) (budget room : ℕ) (write : Writer) where
-  -- an attempt starts at level 1 and takes a step at least, or ends the trial by 27: there are no more rounds than steps left, and one more
+  -- an attempt starts at level 1 and takes a step at least, or ends the trial by 27: there are no more rounds than steps left, and one more, so the first case is never
+  -- reached from `rounds` (`one-round` of proofs/Rounds.antt)
   unfoldable pub roundsFrom : List Item → ℕ → Rounds
   roundsFrom is zero s last out n u = answer 0 0 out n u
   roundsFrom is (suc fuel) s last out n u = round sub room write (roundsFrom is fuel) (match inClass sub budget is s 1 [] u) s last out n

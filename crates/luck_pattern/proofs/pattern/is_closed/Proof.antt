@@ -7,7 +7,8 @@ use lib.Dec.{ltb}
 use lib.ListN.{length, List·getD-eq-default}
 use borrow.Author.Tests.{lt-ltb}
 use Rattle.luck_text.proofs.Cases.{second-false}
-use Rattle.luck_pattern.specs.Captures.{isClosed, flagsOf}
+use Rattle.luck_pattern.specs.Captures.{isClosed}
+use Rattle.luck_pattern.specs.Inner.{flagsOf}
 use Rattle.luck_pattern.proofs.Flags.{flags-length, flags-at}
 use borrow.Author.Needs.{needs}
 use Rattle.luck_pattern.proofs.pattern.is_closed.Statement.{statement}

@@ -3,7 +3,7 @@ use mathlib.Core.Path.{sym, _∙_}
 use Prim.Native.Nat.{_+_}
 use native.Mathlib.Omega.{arith}
 use lib.ListN.{length}
-use Rattle.luck_pattern.specs.Captures.{flagsOf}
+use Rattle.luck_pattern.specs.Inner.{flagsOf}
 use Rattle.luck_pattern.proofs.Patterns.{
   escape-end,
   escape-closed,

@@ -5,9 +5,8 @@ use Prim.Native.Nat.{_+_, _-_, _≤_, _<_, _^_}
 use native.Mathlib.Omega.{arith}
 use lib.ListN.{length}
 use Rattle.luck_text.specs.Bytes.{if_then_else_}
-use Rattle.luck_pattern.specs.Captures.{flagsOf}
 use Rattle.luck_pattern.specs.Pattern.{patternWalk}
-use Rattle.luck_pattern.specs.Inner.{Within, closedOf, Below}
+use Rattle.luck_pattern.specs.Inner.{flagsOf, Within, closedOf, Below}
 use Rattle.luck_pattern.specs.declared.pattern.Scan.{Scan}
 use Rattle.luck_pattern.proofs.Flags.{flags-length}
 use Rattle.luck_pattern.proofs.Patterns.{
