@@ -12,10 +12,12 @@ use lib.Dec.{eqb, ltb}
 use borrow.Author.Tests.{lt-ltb, le-ltb, ne-eqb, eq-eqb}
 use borrow.Rule.Slice.PartMut.{putMid}
 use Rattle.luck_text.specs.Bytes.{if_then_else_, byteAt, part}
+use Rattle.luck_text.specs.Scan.{neither}
 use Rattle.luck_text.specs.Walk.{stop, goes, walkFrom}
 use Rattle.luck_text.proofs.Walk.{walk-end, walk-stop, walk-goes}
 use Rattle.luck_text.proofs.Bytes.{run-more, run-stop, run-end, run-inside}
 use Rattle.luck_text.proofs.Cases.{by-test}
+use Rattle.luck_text.proofs.Neither.{neither-first}
 use Rattle.luck_answer.specs.Answer.{refused}
 use Rattle.luck_line.specs.Line.{longest, lineAnswer}
 use Rattle.luck_line.specs.Row.{answerRow}
@@ -43,8 +45,8 @@ module _ (input : List ℕ) (p : ℕ) where
   unfolding lineLength
   input-ends h = run-end (λ b. not (eqb b 10)) input p h
 
--- a block with no newline
-pub line-block : (input : List ℕ) (n p : ℕ) → p + n ≤ length input → ((k : ℕ) → k < n → byteAt input (p + k) ≡ 10 → ⊥)
+-- bytes with no newline
+line-block : (input : List ℕ) (n p : ℕ) → p + n ≤ length input → ((k : ℕ) → k < n → byteAt input (p + k) ≡ 10 → ⊥)
     → lineLength (drop p input) ≡ n + lineLength (drop (p + n) input)
 line-block input zero p h f = let e : p ≡ p + 0 = omega arith in ap (λ (q : ℕ). lineLength (drop q input)) e ∙ omega arith
 line-block input (suc n) p h f =
@@ -54,16 +56,13 @@ line-block input (suc n) p h f =
     let all : lineLength (drop p input) ≡ suc n + lineLength (drop (p + 1 + n) input) = omega (arith, line-more input p (omega arith) here, more) in
     all ∙ ap (λ (q : ℕ). suc n + lineLength (drop q input)) e
 
--- the bytes of a part, as bytes of the whole
-pub byte-of-part : (input : List ℕ) (p n k : ℕ) → k < n → byteAt (take n (drop p input)) k ≡ byteAt input (p + k)
-byte-of-part input p n k h = getD-take n (drop p input) k 0 h ∙ getD-drop p input k 0
-
-pub block-passed : (input : List ℕ) (p : ℕ) → p + 16 ≤ length input
-    → ((k : ℕ) → k < length (take (p + 16 - p) (drop p input)) → byteAt (take (p + 16 - p) (drop p input)) k ≡ 10 → ⊥)
-    → lineLength (drop p input) ≡ 16 + lineLength (drop (p + 16) input)
-block-passed input p h f =
-    let size = length-take-le (p + 16 - p) (drop p input) (omega (arith, length-drop p input)) in
-    line-block input 16 p h (λ k l g. f k (omega (arith, size)) (byte-of-part input p (p + 16 - p) k (omega arith) ∙ g))
+-- the bytes that `blocks_end` passes over
+pub blocks-passed : (input : List ℕ) (p end : ℕ) → p ≤ end → end ≤ length input → ((k : ℕ) → p ≤ k → k < end → neither 10 10 (byteAt input k) ≡ true)
+    → p + lineLength (drop p input) ≡ end + lineLength (drop end input)
+blocks-passed input p end l h f =
+    let e : p + (end - p) ≡ end = omega arith in
+    let passed = line-block input (end - p) p (omega arith) (λ k m. neither-first 10 10 (byteAt input (p + k)) (f (p + k) (omega arith) (omega arith))) in
+    omega (arith, passed ∙ ap (λ (q : ℕ). end - p + lineLength (drop q input)) e)
 
 pub rowOf-length : (long : Bool) (line : List ℕ) → length (rowOf long line) ≡ 19
 unfolding rowOf

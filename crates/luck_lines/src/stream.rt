@@ -2,14 +2,13 @@
 // its newline. What a call leaves, the next one gets again, with more bytes after it.
 ghost use mathlib.Core.Path.{_≡_};
 ghost use mathlib.Core.List.{_++_};
-ghost use Prim.Native.Nat.{ℕ, _+_, _≤_, _<_};
-ghost use mathlib.Core.Bool.{false};
-ghost use Rattle.luck_text.specs.Bytes.{byteAt};
+ghost use Prim.Native.Nat.{_+_, _≤_};
 ghost use lib.ListN.{length, drop};
 ghost use Rattle.luck_lines.specs.Stream.{lineLength, rowOf, feed, finish, fedOf, inFront};
 ghost use Rattle.luck_lines.specs.Inner.{unendedAt};
 use luck_line::line;
 use luck_line::row;
+use luck_text::blocks;
 
 // `used` bytes of the input were taken and `wrote` bytes of the output written. `long`: the line that goes on after them is too long already.
 pub struct Fed {
@@ -18,42 +17,12 @@ pub struct Fed {
     pub long: bool,
 }
 
-// Every byte is looked at, so that the compiler can test many at once.
-fn has_newline(block: &[u8]) -> bool
-    ensures { λ r. ⌜ (r ≡ false → (k : ℕ) → k < length (now (block .entry)) → byteAt (now (block .entry)) k ≡ 10 → ⊥) ⌝ }
-{
-    let mut found = false;
-    let mut i = 0;
-    while i < block.len() {
-        if block[i] == b'\n' {
-            found = true;
-        }
-        i += 1;
-    }
-    found
-}
-
-// Passes over blocks of 16 bytes that have no newline.
-fn line_blocks(input: &[u8], at: usize) -> usize
-    requires { ⌜ at ≤ length (now input) ⌝ }
-    ensures { λ r. ⌜ (at ≤ r) × (r ≤ length (now (input .entry))) × (at + lineLength (drop at (now (input .entry))) ≡ r + lineLength (drop r (now (input .entry)))) ⌝ }
-{
-    let mut end = at;
-    while 16 <= input.len() - end {
-        if has_newline(&input[end..end + 16]) {
-            return end;
-        }
-        end += 16;
-    }
-    end
-}
-
 // The place of the next newline, or the input's end.
 fn line_end(input: &[u8], at: usize) -> usize
     requires { ⌜ at ≤ length (now input) ⌝ }
     ensures { λ r. ⌜ r ≡ at + lineLength (drop at (now (input .entry))) ⌝ }
 {
-    let mut end = line_blocks(input, at);
+    let mut end = blocks::blocks_end(input, at, b'\n', b'\n');
     while end < input.len() {
         if input[end] == b'\n' {
             return end;

@@ -2,3 +2,4 @@ pub mod Cases
 pub mod Walk
 pub mod Bytes
 pub mod Among
+pub mod Neither

@@ -1,4 +1,3 @@
 pub mod Breaks
-pub mod Plain
 pub mod Literals
 pub mod Values

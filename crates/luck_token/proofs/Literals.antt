@@ -43,7 +43,7 @@ use Rattle.luck_token.specs.declared.string.Escape.the-variants.{Decimal
 use Rattle.luck_text.proofs.Cases.{by-test, if-true, if-false, and-left, and-right, both-true, first-false, second-false, order}
 use Rattle.luck_text.proofs.Bytes.{within, below, above, digit-more, digit-end, hex-value}
 use Rattle.luck_token.proofs.Breaks.{no-break}
-use Rattle.luck_token.proofs.Plain.{neither-first, neither-second}
+use Rattle.luck_text.proofs.Neither.{neither-first, neither-second}
 
 -- ---- The text
 

@@ -2,12 +2,12 @@
 -- Assumes nothing.
 use Prim.Native.Nat.{ℕ, _+_, _<_, _≤_}
 use mathlib.Core.Path.{_≡_}
-use mathlib.Core.Bool.{Bool, true, false, not, _||_}
+use mathlib.Core.Bool.{Bool, true, false}
 use mathlib.Core.List.{List, [], _∷_, _++_}
 use mathlib.Core.Option.{Option, none, some}
 use Prim.Native.Char.{code}
 use lib.ListN.{length, drop}
-use lib.Dec.{eqb}
+use Rattle.luck_text.specs.Scan.{neither}
 use Rattle.luck_utf8.specs.Utf8.{utf8Bytes}
 use Rattle.luck_token.specs.Literal.{Piece, piece, malformed}
 use Rattle.luck_token.specs.declared.string.Piece.{Piece as Found}
@@ -41,14 +41,17 @@ abbrev pub sizeOf : Option (List ℕ) → Size
 sizeOf none = size.Malformed
 sizeOf (some bytes) = size.Length (length bytes)
 
--- the byte is neither of two
-unfoldable pub neither : ℕ → ℕ → ℕ → Bool
-neither a b x = not (eqb x a || eqb x b)
+-- the bytes of a long or a short string that are no piece by themselves: those that begin a line break, or an escape, one byte that stands here twice
+abbrev pub firstSpecial : Bool → ℕ
+firstSpecial true = code "\r"
+firstSpecial false = code "\\"
 
--- a byte of a long or a short string that is a piece by itself: no line break begins with it, or no escape, for which one byte is asked for twice
+abbrev pub secondSpecial : Bool → ℕ
+secondSpecial true = code "\n"
+secondSpecial false = code "\\"
+
 abbrev pub plain : Bool → ℕ → Bool
-plain true b = neither (code "\r") (code "\n") b
-plain false b = neither (code "\\") (code "\\") b
+plain long b = neither (firstSpecial long) (secondSpecial long) b
 
 -- a value has no more bytes than its body
 abbrev pub Within : Size → ℕ → Type 0

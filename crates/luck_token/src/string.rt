@@ -11,12 +11,13 @@ ghost use Rattle.luck_utf8.specs.Utf8.{utf8Bytes};
 ghost use Rattle.luck_token.specs.Whitespace.{stripLineBreak};
 ghost use Rattle.luck_token.specs.Literal.{isShort, shortStringBody, placesOf, bracketAt, bracketWidth, otherEscape, escapeOf, lineBreakEscape, hexEscape, decimalEscape, allowsDigits, allowsCodePoint, unicodeEscape, escapeAt, longPiece, pieceAt, valueOf, literalValue};
 ghost use Rattle.luck_token.specs.Decode.{withRoom, decodeString, answerOf, numbered, outputOf};
-ghost use Rattle.luck_token.specs.Inner.{IsPiece, sizeOf, neither as neitherOf, plain, Within, Written};
+ghost use Rattle.luck_token.specs.Inner.{IsPiece, sizeOf, firstSpecial, secondSpecial, Within, Written};
 use crate::version;
 use crate::version::Rules;
 use crate::whitespace;
 use luck_output::character;
 use luck_output::output;
+use luck_text::blocks;
 use luck_text::scan;
 use luck_text::scan::Class;
 use luck_utf8::utf8;
@@ -309,67 +310,23 @@ fn piece_at(body: &[u8], at: usize, long: bool, rules: Rules) -> Piece
     Piece::Byte { value, width: 1 }
 }
 
-// Whether the byte is neither of two.
-fn neither(a: u8, b: u8, byte: u8) -> bool
-    ensures { λ r. ⌜ r ≡ neitherOf a b byte ⌝ }
-{
-    if byte == a {
-        return false;
-    }
-    byte != b
-}
-
-// Whether a block has the byte. Every byte is looked at, so that the compiler can test many at once.
-fn has_byte(block: &[u8], byte: u8) -> bool
-    ensures { λ r. ⌜ (r ≡ false → (k : ℕ) → k < length (now (block .entry)) → byteAt (now (block .entry)) k ≡ byte → ⊥) ⌝ }
-{
-    let mut found = false;
-    let mut i = 0;
-    while i < block.len() {
-        if block[i] == byte {
-            found = true;
-        }
-        i += 1;
-    }
-    found
-}
-
-// Whether the byte is a piece by itself.
-fn is_plain(byte: u8, long: bool) -> bool
-    ensures { λ r. ⌜ r ≡ plain long byte ⌝ }
+// The bytes that are no piece by themselves: those that begin a line break of a long string, or the backslash of a short one, for both.
+fn first_special(long: bool) -> u8
+    ensures { λ r. ⌜ r ≡ firstSpecial long ⌝ }
 {
     if long {
-        return neither(b'\r', b'\n', byte);
+        return b'\r';
     }
-    neither(b'\\', b'\\', byte)
+    b'\\'
 }
 
-// Whether a block has a byte that is no piece by itself.
-fn has_special(block: &[u8], long: bool) -> bool
-    ensures { λ r. ⌜ (r ≡ false → (k : ℕ) → k < length (now (block .entry)) → plain long (byteAt (now (block .entry)) k) ≡ true) ⌝ }
+fn second_special(long: bool) -> u8
+    ensures { λ r. ⌜ r ≡ secondSpecial long ⌝ }
 {
     if long {
-        if has_byte(block, b'\r') {
-            return true;
-        }
-        return has_byte(block, b'\n');
+        return b'\n';
     }
-    has_byte(block, b'\\')
-}
-
-// The place behind the blocks of 16 bytes that follow `at` and have no other byte than such.
-fn plain_blocks(body: &[u8], at: usize, long: bool) -> usize
-    requires { ⌜ at ≤ length (now body) ⌝ }
-    ensures { λ r. ⌜ (at ≤ r) × (r ≤ length (now (body .entry))) × ((k : ℕ) → at ≤ k → k < r → plain long (byteAt (now (body .entry)) k) ≡ true) ⌝ }
-{
-    let mut end = at;
-    while 16 <= body.len() - end {
-        if has_special(&body[end..end + 16], long) {
-            return end;
-        }
-        end += 16;
-    }
-    end
+    b'\\'
 }
 
 pub enum Size {
@@ -377,30 +334,30 @@ pub enum Size {
     Malformed,
 }
 
-// Answers how many bytes the value has, and writes it to the front of an output that has room for it. After a block that is not
-// plain, bytes are read one by one, and the next block is tried behind 16 pieces.
+// Answers how many bytes the value has, and writes it to the front of an output that has room for it. Blocks of plain bytes are tried for behind every
+// 16 pieces.
 fn write(body: &[u8], long: bool, rules: Rules, output: &mut [u8]) -> Size
     ensures size { λ r. ⌜ r ≡ sizeOf (valueOf long rules (now (body .entry))) ⌝ }
     ensures within { λ r. ⌜ Within r (length (now (body .entry))) ⌝ }
     ensures output { λ r. ⌜ Written (valueOf long rules (now (body .entry))) (now (output .entry)) (now (output .exit)) ⌝ }
 {
+    let first = first_special(long);
+    let second = second_special(long);
     let mut at = 0;
     let mut size = 0;
     let mut singles: u32 = 0;
     while at < body.len() {
         if singles == 0 {
             singles = 16;
-            let end = plain_blocks(body, at, long);
-            if at < end {
-                output::put_part(body, at, end, output, size);
-                size += end - at;
-                at = end;
-                continue;
-            }
+            let end = blocks::blocks_end(body, at, first, second);
+            output::put_part(body, at, end, output, size);
+            size += end - at;
+            at = end;
+            continue;
         }
         singles -= 1;
         let byte = body[at];
-        if is_plain(byte, long) {
+        if blocks::neither(first, second, byte) {
             output::put_byte(output, size, byte);
             size += 1;
             at += 1;
@@ -490,7 +447,7 @@ fn decode_body(body: &[u8], long: bool, rules: Rules, output: &mut [u8]) -> Deco
     ensures output { λ r. ⌜ now (output .exit) ≡ outputOf (withRoom (length (now (output .entry))) (valueOf long rules (now (body .entry)))) (now (output .entry)) ⌝ }
 {
     if 64 <= body.len() {
-        if !has_special(body, long) {
+        if !blocks::has_either(body, first_special(long), second_special(long)) {
             return decode_plain(body, output);
         }
     }

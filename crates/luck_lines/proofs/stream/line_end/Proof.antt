@@ -15,11 +15,13 @@ Inv-loop input at end₀ end = (at ≤ end) × (end ≤ length input) × (at + l
 abbrev μ-loop : tie.MeasureT-loop
 μ-loop input at end₀ end = length input - end
 
-line-blocks-requires : tie.Need-line-blocks-requires Inv-loop μ-loop
-line-blocks-requires c κs = search needs
+blocks-end-requires : tie.Need-blocks-end-requires Inv-loop μ-loop
+blocks-end-requires c κs = search needs
 
 loop-holds : tie.Need-loop-holds Inv-loop μ-loop
-loop-holds c = c .line-blocks .ensures
+loop-holds c =
+    let e = c .blocks-end .ensures in
+    (e .0, e .1, streams.blocks-passed (c .before .before .args .input .now) (c .before .before .args .at) (c .blocks-end .result) (e .0) (e .1) (e .2))
 
 shared-slice-read-if1 : tie.Need-shared-slice-read-if1 Inv-loop μ-loop
 shared-slice-read-if1 c = search needs
@@ -45,7 +47,7 @@ line-end-spec =
     (tie.spec
     Inv-loop
     μ-loop
-    line-blocks-requires
+    blocks-end-requires
     loop-holds
     shared-slice-read-if1
     returns

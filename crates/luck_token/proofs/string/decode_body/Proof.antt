@@ -5,14 +5,21 @@ use mathlib.Core.Option.{Option}
 use Prim.Native.Nat.{ℕ}
 use lib.ListN.{length}
 use borrow.Author.Tests.{not-true}
+use Rattle.luck_text.specs.Bytes.{byteAt}
 use Rattle.luck_token.specs.Decode.{withRoom, answerOf, outputOf}
 use Rattle.luck_token.proofs.Values as values
 use borrow.Author.Needs.{needs}
 use Rattle.luck_token.proofs.string.decode_body.Statement.{statement}
 use Rattle.luck_token.proofs.string.decode_body.Tie as tie
 
-has-special-requires : tie.Need-has-special-requires
-has-special-requires c κs = search needs
+first-special-requires : tie.Need-first-special-requires
+first-special-requires c κs = search needs
+
+second-special-requires : tie.Need-second-special-requires
+second-special-requires c κs = search needs
+
+has-either-requires : tie.Need-has-either-requires
+has-either-requires c κs = search needs
 
 decode-plain-requires : tie.Need-decode-plain-requires
 decode-plain-requires c κs = search needs
@@ -22,9 +29,13 @@ same-length c = search needs
 
 returns : tie.Need-returns
 returns c =
-    let e = values.plain-value (c .before .before .before .before .before .before .before .before .before .args .long) (c .before .before .before .before .before .before .before .before .before .args .rules) (c .before .before .before .before .before .before .before .before .before .args .body .now) (c .before .before .before .before .before .has-special .ensures (not-true _ (c .before .before .before .before .if2 .taken))) in (
-      c .before .before .decode-plain .ensures .0 ∙ ap (λ (o : Option (List ℕ)). answerOf (withRoom (length (c .before .before .before .before .before .before .before .before .before .args .output .now)) o)) e,
-      c .before .before .decode-plain .ensures .1 ∙ ap (λ (o : Option (List ℕ)). outputOf (withRoom (length (c .before .before .before .before .before .before .before .before .before .args .output .now)) o) (c .before .before .before .before .before .before .before .before .before .args .output .now)) e,
+    let a = c .before .before .before .before .before .before .before .before .before .before .before .args in
+    let none = c .before .before .before .before .before .has-either .ensures (not-true _ (c .before .before .before .before .if2 .taken)) in
+    let first = c .before .before .before .before .before .before .before .first-special .ensures in
+    let second = c .before .before .before .before .before .before .second-special .ensures in
+    let e = values.plain-value (a .long) (a .rules) (a .body .now) (λ k l. values.as-plain (a .long) (byteAt (a .body .now) k) first second (none k l)) in (
+      c .before .before .decode-plain .ensures .0 ∙ ap (λ (o : Option (List ℕ)). answerOf (withRoom (length (a .output .now)) o)) e,
+      c .before .before .decode-plain .ensures .1 ∙ ap (λ (o : Option (List ℕ)). outputOf (withRoom (length (a .output .now)) o) (a .output .now)) e,
     )
 
 decode-long-requires : tie.Need-decode-long-requires
@@ -49,7 +60,9 @@ pub decode-body-spec : {M : Type 1} → statement M
 decode-body-spec =
     tie.close
     (tie.spec
-    has-special-requires
+    first-special-requires
+    second-special-requires
+    has-either-requires
     decode-plain-requires
     same-length
     returns

@@ -1,7 +1,7 @@
--- `luck_token::string::neither` meets its contract. Assumes nothing.
-use Rattle.luck_token.proofs.Plain.{is-first, not-first}
-use Rattle.luck_token.proofs.string.neither.Statement.{statement}
-use Rattle.luck_token.proofs.string.neither.Tie as tie
+-- `luck_text::blocks::neither` meets its contract. Assumes nothing.
+use Rattle.luck_text.proofs.Neither.{is-first, not-first}
+use Rattle.luck_text.proofs.blocks.neither.Statement.{statement}
+use Rattle.luck_text.proofs.blocks.neither.Tie as tie
 
 returns : tie.Need-returns
 returns c = is-first (c .before .args .a) (c .before .args .b) (c .before .args .byte) (c .if1 .taken)

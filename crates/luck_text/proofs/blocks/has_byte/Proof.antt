@@ -1,4 +1,4 @@
--- `luck_token::string::has_byte` meets its contract. The loop's invariant: while it was not found, no byte passed is the one. Assumes nothing.
+-- `luck_text::blocks::has_byte` meets its contract. The loop's invariant: while it was not found, no byte passed is the one. Assumes nothing.
 use mathlib.Core.Path.{_≡_, sym, _∙_}
 use Prim.Native.Nat.{ℕ, _≤_, _<_, _-_}
 use native.Mathlib.Omega.{arith}
@@ -6,10 +6,10 @@ use mathlib.Core.Logic.{⊎-elim}
 use mathlib.Core.Bool.{false, true≢false}
 use borrow.Author.Count.{below-more}
 use lib.ListN.{length}
 use Rattle.luck_text.specs.Bytes.{byteAt}
 use borrow.Author.Needs.{needs}
-use Rattle.luck_token.proofs.string.has_byte.Statement.{statement}
-use Rattle.luck_token.proofs.string.has_byte.Tie as tie
+use Rattle.luck_text.proofs.blocks.has_byte.Statement.{statement}
+use Rattle.luck_text.proofs.blocks.has_byte.Tie as tie
 
 abbrev Inv-loop : tie.InvT-loop
 Inv-loop block byte found₀ i₀ found i = (i ≤ length block) × (found ≡ false → (k : ℕ) → k < i → byteAt block k ≡ byte → ⊥)

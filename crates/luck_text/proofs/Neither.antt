@@ -5,7 +5,7 @@ use mathlib.Core.Path.{_≡_, refl, sym, _∙_}
 use mathlib.Core.Bool.{Bool, true, false, not, _||_, true≢false}
 use lib.Dec.{eqb}
 use borrow.Author.Tests.{eq-eqb, ne-eqb}
-use Rattle.luck_token.specs.Inner.{neither}
+use Rattle.luck_text.specs.Scan.{neither}
 
 module _ (a b x : ℕ) where
   pub is-first : x ≡ a → false ≡ neither a b x

@@ -1,0 +1,82 @@
+-- `luck_text::blocks::blocks_end` meets its contract. The loop's invariant: every byte passed is neither. Assumes nothing.
+use mathlib.Core.Path.{_≡_}
+use Prim.Native.Nat.{ℕ, _≤_, _<_, _-_}
+use native.Mathlib.Omega.{arith}
+use mathlib.Core.Logic.{⊎-elim}
+use mathlib.Core.Bool.{true}
+use lib.ListN.{length}
+use Rattle.luck_text.specs.Bytes.{byteAt}
+use Rattle.luck_text.specs.Scan.{neither}
+use Rattle.luck_text.proofs.Cases.{order}
+use Rattle.luck_text.proofs.Bytes.{all-of-part}
+use borrow.Author.Needs.{needs}
+use Rattle.luck_text.proofs.blocks.blocks_end.Statement.{statement}
+use Rattle.luck_text.proofs.blocks.blocks_end.Tie as tie
+
+abbrev Inv-loop : tie.InvT-loop
+Inv-loop text at a b end₀ end = (at ≤ end) × (end ≤ length text) × ((k : ℕ) → at ≤ k → k < end → neither a b (byteAt text k) ≡ true)
+
+abbrev μ-loop : tie.MeasureT-loop
+μ-loop text at a b end₀ end = length text - end
+
+loop-holds : tie.Need-loop-holds Inv-loop μ-loop
+loop-holds c = (omega arith, omega arith, λ k l m. absurd (omega arith))
+
+sub-loop : tie.Need-sub-loop Inv-loop μ-loop
+sub-loop c = search needs
+
+add-has-either : tie.Need-add-has-either Inv-loop μ-loop
+add-has-either c = search needs
+
+sub-has-either : tie.Need-sub-has-either Inv-loop μ-loop
+sub-has-either c = search needs
+
+part-has-either-start : tie.Need-part-has-either-start Inv-loop μ-loop
+part-has-either-start c = search needs
+
+part-has-either-end : tie.Need-part-has-either-end Inv-loop μ-loop
+part-has-either-end c = search needs
+
+has-either-requires : tie.Need-has-either-requires Inv-loop μ-loop
+has-either-requires c κs = search needs
+
+returns : tie.Need-returns Inv-loop μ-loop
+returns c = c .before .before .before .before .loop .inv
+
+add-end : tie.Need-add-end Inv-loop μ-loop
+add-end c = search needs
+
+loop-less : tie.Need-loop-less Inv-loop μ-loop
+loop-less c = search needs
+
+loop-again : tie.Need-loop-again Inv-loop μ-loop
+loop-again c =
+    let l = c .before .before .before .before .loop in
+    let a = c .before .before .before .before .before .before .args in (
+      omega arith,
+      omega arith,
+      λ k m n. ⊎-elim (λ b. l .inv .2 k m b)
+          (λ b. all-of-part (λ (x : ℕ). neither (a .a) (a .b) x ≡ true) (a .text .now) (l .end) 16 (omega arith) (c .before .has-either .ensures (c .if1 .left)) k b n) (order k (l .end)),
+    )
+
+returns-2 : tie.Need-returns-2 Inv-loop μ-loop
+returns-2 c = c .before .loop .inv
+
+pub blocks-end-spec : {M : Type 1} → statement M
+blocks-end-spec =
+    tie.close
+    (tie.spec
+    Inv-loop
+    μ-loop
+    loop-holds
+    sub-loop
+    add-has-either
+    sub-has-either
+    part-has-either-start
+    part-has-either-end
+    has-either-requires
+    returns
+    add-end
+    loop-less
+    loop-again
+    returns-2)
