@@ -3,7 +3,7 @@
 use Prim.Native.Nat.{ℕ, _-_, _≤_}
 use native.Mathlib.Omega.{arith}
 use mathlib.Core.Path.{_≡_, refl}
-use mathlib.Core.Bool.{true}
+use mathlib.Core.Bool.{true, false}
 use mathlib.Core.List.{List}
 use mathlib.Core.Option.{Option, none, some}
 use lib.ListN.{length, drop, length-drop}
@@ -11,7 +11,7 @@ use lib.Dec.{ltb}
 use Rattle.luck_text.specs.Bytes.{byteAt, among}
 use Rattle.luck_text.proofs.Cases.{by-test}
 use Rattle.luck_answer.specs.Answer.{Answer, refused}
-use Rattle.luck_linter.specs.Checks.{Check, pattern, format, date, replacement, pack, literal, answer, numbers}
+use Rattle.luck_linter.specs.Checks.{Check, pattern, format, date, replacement, pack, literal, answer, deciding, ownNumbers, numbers}
 use Rattle.luck_text.proofs.Among.{Every, every-among}
 use Rattle.luck_linter.proofs.Refusals.{refusals}
 use Rattle.luck_line.specs.Line.{longest, checkOf, bodyAnswer, lineAnswer, lineNumbers}
@@ -20,22 +20,22 @@ abbrev Fits : ℕ → Answer → Type 0
 Fits len a = (a .offset ≤ len) × (among (a .number) lineNumbers ≡ true)
 
 -- the numbers of each check are among those of a line
-all : (check : Check) → Every (λ n. among n lineNumbers ≡ true) (numbers check)
+all : (check : Check) → Every (λ n. among n lineNumbers ≡ true) (ownNumbers check)
 unfolding among
 all pattern = (refl, (refl, (refl, (refl, (refl, (refl, (refl, (refl, (refl, (refl, tt))))))))))
 all format = (refl, (refl, (refl, (refl, (refl, (refl, (refl, (refl, (refl, (refl, tt))))))))))
 all date = (refl, (refl, (refl, (refl, (refl, tt)))))
 all (replacement captures) = (refl, (refl, (refl, (refl, (refl, (refl, tt))))))
-all (pack packsize) = (refl, (refl, (refl, (refl, (refl, (refl, (refl, (refl, tt))))))))
-all (literal kind captures start) =
-    (refl, (refl, (refl, (refl, (refl, (refl, (refl, (refl, (refl, (refl, (refl, (refl, (refl, (refl, (refl, (refl, (refl, (refl, (refl, (refl, (refl, (refl, (refl, (refl, (refl, (refl, tt))))))))))))))))))))))))))
+all (pack false) = (refl, (refl, (refl, (refl, (refl, (refl, (refl, tt)))))))
+all (pack true) = (refl, (refl, (refl, (refl, (refl, (refl, (refl, (refl, tt))))))))
+all (literal kind captures start) = (refl, tt)
 
 body-fits : (check : Option Check) (version : ℕ) (body : List ℕ) → Fits (length body) (bodyAnswer check version body)
 unfolding bodyAnswer among
 body-fits none version body = (omega arith, refl)
 body-fits (some check) version body =
     let r = refusals check version body in
-    (r .0, every-among (λ n. among n lineNumbers ≡ true) (numbers check) (all check) (answer check version body .number) (r .1))
+    (r .0, every-among (λ n. among n lineNumbers ≡ true) (numbers check) (all (deciding check)) (answer check version body .number) (r .1))
 
 body-length : (line : List ℕ) (a : Answer) → Fits (length (drop 5 line)) a → Fits (length line - 5) a
 body-length line a f = (omega (arith, f .0, length-drop 5 line), f .1)

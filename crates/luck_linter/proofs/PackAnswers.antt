@@ -2,8 +2,8 @@
 -- Assumes nothing.
 use Prim.Native.Nat.{ℕ, _+_, _≤_, _<_}
 use native.Mathlib.Omega.{arith}
-use mathlib.Core.Path.{refl}
-use mathlib.Core.Bool.{Bool}
+use mathlib.Core.Path.{_≡_, refl}
+use mathlib.Core.Bool.{Bool, true, false}
 use mathlib.Core.List.{List}
 use mathlib.Core.Option.{Option, none, some}
 use lib.ListN.{length}
@@ -11,6 +11,7 @@ use borrow.Author.Tests.{leb-false}
 use Rattle.luck_text.specs.Bytes.{byteAt, among}
 use Rattle.luck_text.specs.Walk.{Turn}
 use Rattle.luck_text.proofs.Cases.{by-test}
+use Rattle.luck_text.proofs.Among.{every-among}
 use Rattle.luck_answer.specs.Answer.{Answer}
 use Rattle.luck_linter.specs.Checks.{pack, answer, numbers}
 use Rattle.luck_answer.proofs.Answers.{Stops, walk-every, Fits, check-fits}
@@ -51,6 +52,12 @@ use Rattle.luck_pack.specs.Pack.{
   checkPack,
 }
 
+-- the numbers of a pack format are among those of packsize, too
+also : (packsize : Bool) (n : ℕ) → among n (numbers (pack false)) ≡ true → among n (numbers (pack packsize)) ≡ true
+unfolding among
+also false n e = e
+also true n e = every-among (λ x. among x (numbers (pack true)) ≡ true) (numbers (pack false)) (refl, (refl, (refl, (refl, (refl, (refl, (refl, tt))))))) n e
+
 module _ (packsize : Bool) (text : List ℕ) where
   abbrev Placed : Answer → Type 0
   Placed a = Fits (length text) (numbers (pack packsize)) a
@@ -61,22 +68,22 @@ module _ (packsize : Bool) (text : List ℕ) where
 
   limited-placed : (letter p : ℕ) → p ≤ length text → Reads (getnumlimit letter text p)
   unfolding getnumlimit among
-  limited-placed letter p h = by-test Reads _ _ _ (λ _. tt) (λ _. by-test Reads _ _ _ (λ _. tt) (λ _. (h, refl)))
+  limited-placed letter p h = by-test Reads _ _ _ (λ _. tt) (λ _. by-test Reads _ _ _ (λ _. tt) (λ _. (h, also packsize 16 refl)))
 
   fixed-placed : (p : ℕ) → p ≤ length text → Reads (fixedString text p)
   unfolding fixedString among
-  fixed-placed p h = by-test Reads _ _ _ (λ _. (h, refl)) (λ _. tt)
+  fixed-placed p h = by-test Reads _ _ _ (λ _. (h, also packsize 15 refl)) (λ _. tt)
 
   numbered-placed : (p : ℕ) → p < length text → Reads (numberedOption text p)
   unfolding numberedOption among
   numbered-placed p h =
       let next : p + 1 ≤ length text = omega arith in
-      by-test Reads _ _ _ (λ _. limited-placed (byteAt text p) (p + 1) next) (λ _. by-test Reads _ _ _ (λ _. fixed-placed (p + 1) next) (λ _. (omega arith, refl)))
+      by-test Reads _ _ _ (λ _. limited-placed (byteAt text p) (p + 1) next) (λ _. by-test Reads _ _ _ (λ _. fixed-placed (p + 1) next) (λ _. (omega arith, also packsize 14 refl)))
 
   option-placed : (p : ℕ) → p ≤ length text → Reads (getoption text p)
   unfolding getoption among
   option-placed p h =
-      by-test Reads _ _ _ (λ _. (h, refl))
+      by-test Reads _ _ _ (λ _. (h, also packsize 15 refl))
       (λ e. by-test Reads _ _ _ (λ _. tt) (λ _. numbered-placed p (leb-false (length text) p e)))
 
   abbrev Steps : Turn State Answer → Type 0
@@ -88,16 +95,16 @@ module _ (packsize : Bool) (text : List ℕ) where
 
     aligned-placed : (width size : ℕ) (after : State) → Steps (aligned p width size s after)
     unfolding aligned among
-    aligned-placed width size after = by-test Steps _ _ _ (λ _. (here, refl)) (λ _. tt)
+    aligned-placed width size after = by-test Steps _ _ _ (λ _. (here, also packsize 17 refl)) (λ _. tt)
 
     variable-placed : (t : Turn State Answer) → Steps t → Steps (variable packsize text p t)
     unfolding variable among
-    variable-placed t r = by-test Steps _ _ _ (λ _. (here, refl)) (λ _. r)
+    variable-placed t r = by-test Steps _ _ _ (λ e. (here, rw e)) (λ _. r)
 
     align-placed : (width : ℕ) (to : Option ℕ) → Steps (alignBy text p s width to)
     unfolding alignBy among
     align-placed width (some size) = aligned-placed (1 + width) size s
-    align-placed width none = (omega arith, refl)
+    align-placed width none = (omega arith, also packsize 14 refl)
 
     next-placed : (next : Read) → Reads next → Steps (alignToNext luckSize text p s next)
     unfolding alignToNext
@@ -129,7 +136,7 @@ module _ (packsize : Bool) (text : List ℕ) where
 
   end-placed : (p : ℕ) (s : State) → Placed (packEnd p s)
   unfolding packEnd among
-  end-placed p s = (omega arith, refl)
+  end-placed p s = (omega arith, also packsize 0 refl)
 
   pub pack-fits : Fits (length text) (numbers (pack packsize)) (packWalk packsize text)
   unfolding packWalk
@@ -137,4 +144,4 @@ module _ (packsize : Bool) (text : List ℕ) where
 
   pub check-pack : (version : ℕ) → Fits (length text) (numbers (pack packsize)) (answer (pack packsize) version text)
   unfolding checkPack among
-  check-pack version = check-fits text (numbers (pack packsize)) refl refl version (packWalk packsize text) pack-fits
+  check-pack version = check-fits text (numbers (pack packsize)) (also packsize 23 refl) (also packsize 25 refl) version (packWalk packsize text) pack-fits
