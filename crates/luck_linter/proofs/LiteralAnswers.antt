@@ -17,12 +17,13 @@ use Rattle.luck_pattern.specs.Replacement.{isStrict}
 use Rattle.luck_format.specs.Date.{checksDates, hasDateOptions}
 use Rattle.luck_linter.specs.StringLiteral.{isKind, LiteralAnswer, unspanned, bodyWalk, withSpan, checkBody, checkShort, afterText, checkLiteral}
 use Rattle.luck_linter.specs.Checks.{Check, literal, answer, kindCheck, deciding, ownNumbers, numbers}
-use Rattle.luck_answer.proofs.Answers.{Fits, PlaceIn, place-in}
-use Rattle.luck_linter.proofs.PatternAnswers.{pattern-fits}
-use Rattle.luck_linter.proofs.FormatAnswers.{format-fits}
-use Rattle.luck_linter.proofs.PackAnswers.{pack-fits}
-use Rattle.luck_linter.proofs.ReplacementAnswers.{replacement-fits}
-use Rattle.luck_linter.proofs.DateAnswers.{date-fits}
+use Rattle.luck_answer.proofs.Answers.{PlaceIn, place-in}
+use Rattle.luck_linter.proofs.Counts.{Bounded}
+use Rattle.luck_linter.proofs.PatternAnswers.{pattern-bounded}
+use Rattle.luck_linter.proofs.FormatAnswers.{format-bounded}
+use Rattle.luck_linter.proofs.PackAnswers.{pack-bounded}
+use Rattle.luck_linter.proofs.ReplacementAnswers.{replacement-bounded}
+use Rattle.luck_linter.proofs.DateAnswers.{date-bounded}
 
 -- what holds of both branches of two choices by one test
 by-both : {A B : Type 0} (P : A → B → Type 0) (b : Bool) (x y : A) (u v : B) → (b ≡ true → P x u) → (b ≡ false → P y v) → P (if b then x else y) (if b then u else v)
@@ -33,22 +34,22 @@ by-both P false x y u v f g = g refl
 module _ (kind : ℕ) (captures : Option ℕ) (start : ℕ) where
   -- the number of a body's answer is one of the check that the letter names; so are 0, 23 and 25
   abbrev Named : ℕ → Check → Answer → Type 0
-  Named len check walked = Fits len (ownNumbers check) walked × (among 0 (ownNumbers check) ≡ true) × (among 23 (ownNumbers check) ≡ true) × (among 25 (ownNumbers check) ≡ true)
+  Named len check walked = Bounded len (ownNumbers check) walked × (among 0 (ownNumbers check) ≡ true) × (among 23 (ownNumbers check) ≡ true) × (among 25 (ownNumbers check) ≡ true)
 
   named : (rules : Rules) (body : List ℕ) → Named (length body) (kindCheck kind captures) (bodyWalk kind rules captures body)
   unfolding kindCheck bodyWalk among
   named rules body =
-      by-both (Named (length body)) _ _ _ _ _ (λ _. (format-fits body rules, refl, refl, refl))
-      (λ _. by-both (Named (length body)) _ _ _ _ _ (λ _. (pattern-fits body, refl, refl, refl))
-      (λ _. by-both (Named (length body)) _ _ _ _ _ (λ _. (pack-fits false body, refl, refl, refl))
-      (λ _. by-both (Named (length body)) _ _ _ _ _ (λ _. (pack-fits true body, refl, refl, refl))
-      (λ _. by-both (Named (length body)) _ _ _ _ _ (λ _. (replacement-fits captures body (isStrict rules), refl, refl, refl))
-      (λ _. (date-fits body (hasDateOptions rules) (checksDates rules), refl, refl, refl))))))
+      by-both (Named (length body)) _ _ _ _ _ (λ _. (format-bounded body rules, refl, refl, refl))
+      (λ _. by-both (Named (length body)) _ _ _ _ _ (λ _. (pattern-bounded body, refl, refl, refl))
+      (λ _. by-both (Named (length body)) _ _ _ _ _ (λ _. (pack-bounded false body, refl, refl, refl))
+      (λ _. by-both (Named (length body)) _ _ _ _ _ (λ _. (pack-bounded true body, refl, refl, refl))
+      (λ _. by-both (Named (length body)) _ _ _ _ _ (λ _. (replacement-bounded captures body (isStrict rules), refl, refl, refl))
+      (λ _. (date-bounded body (hasDateOptions rules) (checksDates rules), refl, refl, refl))))))
 
   module _ (text : List ℕ) where
     -- an answer with a span is about the body
     abbrev LiteralIn : Check → LiteralAnswer → Type 0
-    LiteralIn check a = Fits (length text) (ownNumbers check) (a .answer) × (a .spanned ≡ true → a .answer .offset ≤ length text - 2)
+    LiteralIn check a = Bounded (length text) (ownNumbers check) (a .answer) × (a .spanned ≡ true → a .answer .offset ≤ length text - 2)
 
     abbrev NamedIn : LiteralAnswer → Type 0
     NamedIn a = LiteralIn (kindCheck kind captures) a
@@ -59,48 +60,48 @@ module _ (kind : ℕ) (captures : Option ℕ) (start : ℕ) where
     body-length : length body ≤ length text - 2
     body-length = omega (arith, length-take (length text - 1 - 1) (drop 1 text))
 
-    span-fits : (walked : Answer) → Fits (length body) (ownNumbers (kindCheck kind captures)) walked → NamedIn (withSpan start body walked)
+    span-bounded : (walked : Answer) → Bounded (length body) (ownNumbers (kindCheck kind captures)) walked → NamedIn (withSpan start body walked)
     unfolding withSpan
-    span-fits walked fits =
+    span-bounded walked fits =
         let h : walked .offset ≤ length text - 2 = omega (arith, fits .0, body-length) in
-        let whole : walked .offset ≤ length text = omega arith in
-        by-test NamedIn _ _ _ (λ _. ((whole, fits .1), λ _. h)) (λ _. ((whole, fits .1), λ _. h))
+        let whole : Bounded (length text) (ownNumbers (kindCheck kind captures)) walked = (omega arith, fits .1, omega (arith, fits .2, body-length)) in
+        by-test NamedIn _ _ _ (λ _. (whole, λ _. h)) (λ _. (whole, λ _. h))
 
     module _ (rules : Rules) where
       abbrev this : Named (length body) (kindCheck kind captures) (bodyWalk kind rules captures body)
       this = named rules body
 
-      checked-fits : NamedIn (checkBody kind rules captures start body)
+      checked-bounded : NamedIn (checkBody kind rules captures start body)
       unfolding checkBody
-      checked-fits = by-test NamedIn _ _ _ (λ _. ((omega arith, this .1), λ _. omega arith)) (λ _. span-fits (bodyWalk kind rules captures body) (this .0))
+      checked-bounded = by-test NamedIn _ _ _ (λ _. ((omega arith, this .1, omega arith), λ _. omega arith)) (λ _. span-bounded (bodyWalk kind rules captures body) (this .0))
 
-      short-fits : NamedIn (checkShort kind rules captures start text)
+      short-bounded : NamedIn (checkShort kind rules captures start text)
       unfolding checkShort
-      short-fits = by-test NamedIn _ _ _ (λ _. checked-fits) (λ _. ((omega arith, this .1), λ _. omega arith))
+      short-bounded = by-test NamedIn _ _ _ (λ _. checked-bounded) (λ _. ((omega arith, this .1, omega arith), λ _. omega arith))
 
-      after-fits : (place : Option ℕ) (checked : LiteralAnswer) → PlaceIn (length text) place → NamedIn checked → NamedIn (afterText place checked)
+      after-bounded : (place : Option ℕ) (checked : LiteralAnswer) → PlaceIn (length text) place → NamedIn checked → NamedIn (afterText place checked)
       unfolding afterText
-      after-fits none checked h i = i
-      after-fits (some p) checked h i = ((omega arith, this .2), λ e. absurd (true≢false (sym e)))
+      after-bounded none checked h i = i
+      after-bounded (some p) checked h i = ((omega arith, this .2, omega arith), λ e. absurd (true≢false (sym e)))
 
-      version-fits : (version : ℕ) → NamedIn (if not (isVersion version) then unspanned (refused 25 0) else afterText (illFormed text) (checkShort kind rules captures start text))
-      version-fits version =
-          by-test NamedIn _ _ _ (λ _. ((omega arith, this .3), λ _. omega arith))
-          (λ _. after-fits (illFormed text) (checkShort kind rules captures start text) (place-in text) short-fits)
+      version-bounded : (version : ℕ) → NamedIn (if not (isVersion version) then unspanned (refused 25 0) else afterText (illFormed text) (checkShort kind rules captures start text))
+      version-bounded version =
+          by-test NamedIn _ _ _ (λ _. ((omega arith, this .3, omega arith), λ _. omega arith))
+          (λ _. after-bounded (illFormed text) (checkShort kind rules captures start text) (place-in text) short-bounded)
 
     -- the letter is tested first
-    letter-fits : (is : Bool) (checked : LiteralAnswer) → NamedIn checked
+    letter-bounded : (is : Bool) (checked : LiteralAnswer) → NamedIn checked
         → LiteralIn (if is then kindCheck kind captures else literal kind captures start) (if not is then unspanned (refused 30 0) else checked)
     unfolding if_then_else_ among
-    letter-fits true checked h = h
-    letter-fits false checked h = ((omega arith, refl), λ _. omega arith)
+    letter-bounded true checked h = h
+    letter-bounded false checked h = ((omega arith, refl, omega arith), λ _. omega arith)
 
-    literal-fits : (version : ℕ) → LiteralIn (deciding (literal kind captures start)) (checkLiteral kind version captures start text)
+    literal-bounded : (version : ℕ) → LiteralIn (deciding (literal kind captures start)) (checkLiteral kind version captures start text)
     unfolding checkLiteral
-    literal-fits version = letter-fits (isKind kind) _ (version-fits (rulesOf version) version)
+    literal-bounded version = letter-bounded (isKind kind) _ (version-bounded (rulesOf version) version)
 
-    pub check-literal : (version : ℕ) → Fits (length text) (numbers (literal kind captures start)) (answer (literal kind captures start) version text)
-    check-literal version = literal-fits version .0
+    pub check-literal : (version : ℕ) → Bounded (length text) (numbers (literal kind captures start)) (answer (literal kind captures start) version text)
+    check-literal version = literal-bounded version .0
 
     pub body-offset : (version : ℕ) → checkLiteral kind version captures start text .spanned ≡ true → answer (literal kind captures start) version text .offset ≤ length text - 2
-    body-offset version = literal-fits version .1
+    body-offset version = literal-bounded version .1

@@ -13,7 +13,7 @@ use Rattle.luck_text.proofs.Cases.{by-test}
 use Rattle.luck_answer.specs.Answer.{Answer, refused}
 use Rattle.luck_linter.specs.Checks.{replacement, answer, numbers}
 use Rattle.luck_pattern.specs.Replacement.{Piece, literal, digit, percent, other, lone, isStrict, escaped, pieces, allowsDigit, piecesWalk, checkReplacement}
-use Rattle.luck_answer.proofs.Answers.{Fits, check-fits}
+use Rattle.luck_linter.proofs.Counts.{Bounded, check-bounded}
 
 -- ---- The pieces are as long as their text
 
@@ -45,27 +45,27 @@ pieces-width (b ∷ c ∷ more) =
 
 module _ (strict : Bool) (captures : Option ℕ) (len : ℕ) where
   abbrev AnswerIn : Answer → Type 0
-  AnswerIn answer = Fits len (numbers (replacement captures)) answer
+  AnswerIn answer = Bounded len (numbers (replacement captures)) answer
 
-  walk-fits : (all : List Piece) (p : ℕ) → p + widths all ≤ len → AnswerIn (piecesWalk strict captures all p)
+  walk-bounded : (all : List Piece) (p : ℕ) → p + widths all ≤ len → AnswerIn (piecesWalk strict captures all p)
   unfolding piecesWalk widths width among
-  walk-fits [] p h = (omega arith, refl)
-  walk-fits (literal b ∷ more) p h = walk-fits more (p + 1) (omega arith)
-  walk-fits (digit d ∷ more) p h =
-      let rest = walk-fits more (p + 2) (omega arith) in
-      by-test AnswerIn (allowsDigit captures d) (piecesWalk strict captures more (p + 2)) (refused 21 (p + 1)) (λ _. rest) (λ _. (omega arith, refl))
-  walk-fits (percent ∷ more) p h = walk-fits more (p + 2) (omega arith)
-  walk-fits (other b ∷ more) p h =
-      let rest = walk-fits more (p + 2) (omega arith) in
-      by-test AnswerIn strict (refused 20 (p + 1)) (piecesWalk strict captures more (p + 2)) (λ _. (omega arith, refl)) (λ _. rest)
-  walk-fits (lone ∷ more) p h =
-      let rest = walk-fits more (p + 1) (omega arith) in
-      by-test AnswerIn strict (refused 19 p) (piecesWalk strict captures more (p + 1)) (λ _. (omega arith, refl)) (λ _. rest)
+  walk-bounded [] p h = (omega arith, refl, omega arith)
+  walk-bounded (literal b ∷ more) p h = walk-bounded more (p + 1) (omega arith)
+  walk-bounded (digit d ∷ more) p h =
+      let rest = walk-bounded more (p + 2) (omega arith) in
+      by-test AnswerIn (allowsDigit captures d) (piecesWalk strict captures more (p + 2)) (refused 21 (p + 1)) (λ _. rest) (λ _. (omega arith, refl, omega arith))
+  walk-bounded (percent ∷ more) p h = walk-bounded more (p + 2) (omega arith)
+  walk-bounded (other b ∷ more) p h =
+      let rest = walk-bounded more (p + 2) (omega arith) in
+      by-test AnswerIn strict (refused 20 (p + 1)) (piecesWalk strict captures more (p + 2)) (λ _. (omega arith, refl, omega arith)) (λ _. rest)
+  walk-bounded (lone ∷ more) p h =
+      let rest = walk-bounded more (p + 1) (omega arith) in
+      by-test AnswerIn strict (refused 19 p) (piecesWalk strict captures more (p + 1)) (λ _. (omega arith, refl, omega arith)) (λ _. rest)
 
 module _ (captures : Option ℕ) (text : List ℕ) where
-  pub replacement-fits : (strict : Bool) → Fits (length text) (numbers (replacement captures)) (piecesWalk strict captures (pieces text) 0)
-  replacement-fits strict = walk-fits strict captures (length text) (pieces text) 0 (omega (arith, pieces-width text))
+  pub replacement-bounded : (strict : Bool) → Bounded (length text) (numbers (replacement captures)) (piecesWalk strict captures (pieces text) 0)
+  replacement-bounded strict = walk-bounded strict captures (length text) (pieces text) 0 (omega (arith, pieces-width text))
 
-  pub check-replacement : (version : ℕ) → Fits (length text) (numbers (replacement captures)) (answer (replacement captures) version text)
+  pub check-replacement : (version : ℕ) → Bounded (length text) (numbers (replacement captures)) (answer (replacement captures) version text)
   unfolding checkReplacement among
-  check-replacement version = check-fits text (numbers (replacement captures)) refl refl version (piecesWalk (isStrict (rulesOf version)) captures (pieces text) 0) (replacement-fits (isStrict (rulesOf version)))
+  check-replacement version = check-bounded text (numbers (replacement captures)) refl refl version (piecesWalk (isStrict (rulesOf version)) captures (pieces text) 0) (replacement-bounded (isStrict (rulesOf version)))
