@@ -4,14 +4,15 @@ use Prim.Native.Nat.{ℕ, _-_, _≤_}
 use native.Mathlib.Omega.{arith}
 use mathlib.Core.Path.{_≡_, refl}
 use mathlib.Core.Bool.{true, false}
-use mathlib.Core.List.{List}
+use mathlib.Core.List.{List, [], _∷_}
 use mathlib.Core.Option.{Option, none, some}
 use lib.ListN.{length, drop, length-drop}
 use lib.Dec.{ltb}
 use borrow.Author.Tests.{ltb-false}
-use Rattle.luck_text.specs.Bytes.{byteAt, among}
+use Rattle.luck_text.specs.Bytes.{if_then_else_, byteAt, among}
 use Rattle.luck_text.proofs.Cases.{by-test}
 use Rattle.luck_answer.specs.Answer.{Answer, refused}
+use Rattle.luck_pattern.specs.Replacement.{allowsDigit}
 use Rattle.luck_linter.specs.Checks.{Check, pattern, format, date, replacement, pack, literal, answer, deciding, ownNumbers, numbers}
 use Rattle.luck_text.proofs.Among.{Every, every-among}
 use Rattle.luck_linter.proofs.Refusals.{refusals, counts}
@@ -22,11 +23,11 @@ Fits len a = (a .offset ≤ len) × (among (a .number) lineNumbers ≡ true) × 
 
 -- the numbers of each check are among those of a line
 all : (check : Check) → Every (λ n. among n lineNumbers ≡ true) (ownNumbers check)
-unfolding among
+unfolding among if_then_else_ allowsDigit
 all pattern = (refl, (refl, (refl, (refl, (refl, (refl, (refl, (refl, (refl, (refl, tt))))))))))
 all format = (refl, (refl, (refl, (refl, (refl, (refl, (refl, (refl, (refl, (refl, tt))))))))))
 all date = (refl, (refl, (refl, (refl, (refl, tt)))))
-all (replacement captures) = (refl, (refl, (refl, (refl, (refl, (refl, tt))))))
+all (replacement captures) = (refl, (refl, (refl, (refl, (refl, by-test (Every (λ n. among n lineNumbers ≡ true)) (allowsDigit captures 9) [] (21 ∷ []) (λ _. tt) (λ _. (refl, tt)))))))
 all (pack false) = (refl, (refl, (refl, (refl, (refl, (refl, (refl, tt)))))))
 all (pack true) = (refl, (refl, (refl, (refl, (refl, (refl, (refl, (refl, tt))))))))
 all (literal kind captures start) = (refl, tt)

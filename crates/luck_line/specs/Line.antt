@@ -71,9 +71,9 @@ unfoldable pub lineAnswer : List ℕ → Answer
 lineAnswer line =
     if ltb longest (length line) then refused 31 0 else bodyAnswer (checkOf line) (digit (byteAt line 1)) (drop 5 line)
 
--- the numbers of these answers: 31, 30, and those of the checks; packsize has all of a pack format's, and the count of captures changes none
+-- the numbers of these answers: 31, 30, and those of the checks; packsize has all of a pack format's, and a replacement without captures all of the others'
 abbrev pub lineNumbers : List ℕ
-lineNumbers = 31 ∷ 30 ∷ (numbers format ++ numbers pattern ++ numbers (pack true) ++ numbers (replacement none) ++ numbers date)
+lineNumbers = 31 ∷ 30 ∷ (numbers format ++ numbers pattern ++ numbers (pack true) ++ numbers (replacement (some 0)) ++ numbers date)
 
 -- the code's answers
 abbrev pub lineAnswerOf : LineChecked → Answer

@@ -9,7 +9,7 @@ use lib.Dec.{eqb}
 use Rattle.luck_text.specs.Bytes.{if_then_else_}
 use Rattle.luck_answer.specs.Answer.{Answer}
 use Rattle.luck_pattern.specs.Pattern.{checkPattern}
-use Rattle.luck_pattern.specs.Replacement.{checkReplacement}
+use Rattle.luck_pattern.specs.Replacement.{allowsDigit, checkReplacement}
 use Rattle.luck_format.specs.Format.{checkFormat}
 use Rattle.luck_pack.specs.Pack.{checkPack}
 use Rattle.luck_format.specs.Date.{checkDate}
@@ -53,7 +53,7 @@ abbrev pub ownNumbers : Check → List ℕ
 ownNumbers pattern = 0 ∷ 1 ∷ 8 ∷ 9 ∷ 10 ∷ 11 ∷ 12 ∷ 13 ∷ 23 ∷ 25 ∷ []
 ownNumbers format = 0 ∷ 1 ∷ 2 ∷ 3 ∷ 4 ∷ 5 ∷ 6 ∷ 7 ∷ 23 ∷ 25 ∷ []
 ownNumbers date = 0 ∷ 19 ∷ 22 ∷ 23 ∷ 25 ∷ []
-ownNumbers (replacement captures) = 0 ∷ 19 ∷ 20 ∷ 21 ∷ 23 ∷ 25 ∷ []
+ownNumbers (replacement captures) = 0 ∷ 19 ∷ 20 ∷ 23 ∷ 25 ∷ (if allowsDigit captures 9 then [] else 21 ∷ [])  -- 21 where a digit can be too large: the largest is 9
 ownNumbers (pack false) = 0 ∷ 14 ∷ 15 ∷ 16 ∷ 17 ∷ 23 ∷ 25 ∷ []
 ownNumbers (pack true) = 0 ∷ 14 ∷ 15 ∷ 16 ∷ 17 ∷ 18 ∷ 23 ∷ 25 ∷ []
 ownNumbers (literal kind captures start) = 30 ∷ []

@@ -58,9 +58,12 @@ formats =
 abbrev dates : List Example
 dates = gives 2 (ascii "%Y") 0 ∷ gives 2 (ascii "%") 19 ∷ gives 2 (ascii "%Q") 22 ∷ unread
 
--- with one capture
+-- with any count of captures, and with one
 abbrev replacements : List Example
-replacements = gives 2 (ascii "%1") 0 ∷ gives 2 (ascii "a%") 19 ∷ gives 2 (ascii "%x") 20 ∷ gives 2 (ascii "%2") 21 ∷ unread
+replacements = gives 2 (ascii "%1") 0 ∷ gives 2 (ascii "a%") 19 ∷ gives 2 (ascii "%x") 20 ∷ unread
+
+abbrev oneCapture : List Example
+oneCapture = replacements ++ (gives 2 (ascii "%2") 21 ∷ [])
 
 abbrev packs : List Example → List Example
 packs more =
@@ -79,13 +82,16 @@ examples =
     (pattern, patterns)
     ∷ (format, formats)
     ∷ (date, dates)
-    ∷ (replacement (some 1), replacements)
+    ∷ (replacement none, replacements)
+    ∷ (replacement (some 9), replacements)
+    ∷ (replacement (some 1), oneCapture)
     ∷ (pack false, packs unread)
     ∷ (pack true, packsizes)
     ∷ (literal (code "P") none 0, quoted patterns)
     ∷ (literal (code "F") none 0, quoted formats)
     ∷ (literal (code "D") none 0, quoted dates)
-    ∷ (literal (code "G") (some 1) 0, quoted replacements)
+    ∷ (literal (code "G") none 0, quoted replacements)
+    ∷ (literal (code "G") (some 1) 0, quoted oneCapture)
     ∷ (literal (code "K") none 0, quoted (packs unread))
     ∷ (literal (code "S") none 0, quoted packsizes)
     ∷ (literal (code "Q") none 0, gives 1 [] 30 ∷ [])
@@ -114,9 +120,9 @@ computed = tt
 -- each text gives its number
 pub examples-hold : Each (λ check list. answers check list ≡ named list) examples
 unfolding computed
-examples-hold = (refl, (refl, (refl, (refl, (refl, (refl, (refl, (refl, (refl, (refl, (refl, (refl, (refl, tt)))))))))))))
+examples-hold = (refl, (refl, (refl, (refl, (refl, (refl, (refl, (refl, (refl, (refl, (refl, (refl, (refl, (refl, (refl, (refl, tt))))))))))))))))
 
 -- the numbers of a check's list are those of its examples: one that is added there needs a text here
 pub examples-whole : Each (λ check list. numbers check ≡ named list) examples
 unfolding computed
-examples-whole = (refl, (refl, (refl, (refl, (refl, (refl, (refl, (refl, (refl, (refl, (refl, (refl, (refl, tt)))))))))))))
+examples-whole = (refl, (refl, (refl, (refl, (refl, (refl, (refl, (refl, (refl, (refl, (refl, (refl, (refl, (refl, (refl, (refl, tt))))))))))))))))
