@@ -1,51 +1,61 @@
--- The number and the offset of a line's answer.
+-- The number, the offset and the count of a line's answer.
 -- Assumes nothing.
 use Prim.Native.Nat.{ℕ, _-_, _≤_}
 use native.Mathlib.Omega.{arith}
 use mathlib.Core.Path.{_≡_, refl}
-use mathlib.Core.Bool.{true}
-use mathlib.Core.List.{List}
+use mathlib.Core.Bool.{true, false}
+use mathlib.Core.List.{List, [], _∷_}
 use mathlib.Core.Option.{Option, none, some}
 use lib.ListN.{length, drop, length-drop}
 use lib.Dec.{ltb}
-use Rattle.luck_text.specs.Bytes.{byteAt, among}
+use borrow.Author.Tests.{ltb-false}
+use Rattle.luck_text.specs.Bytes.{if_then_else_, byteAt, among}
 use Rattle.luck_text.proofs.Cases.{by-test}
 use Rattle.luck_answer.specs.Answer.{Answer, refused}
-use Rattle.luck_linter.specs.Checks.{Check, pattern, format, date, replacement, pack, literal, answer, numbers}
+use Rattle.luck_pattern.specs.Replacement.{allowsDigit}
+use Rattle.luck_linter.specs.Checks.{Check, pattern, format, date, replacement, pack, literal, answer, deciding, ownNumbers, numbers}
 use Rattle.luck_text.proofs.Among.{Every, every-among}
-use Rattle.luck_linter.proofs.Refusals.{refusals}
+use Rattle.luck_linter.proofs.Refusals.{refusals, counts}
 use Rattle.luck_line.specs.Line.{longest, checkOf, bodyAnswer, lineAnswer, lineNumbers}
 
 abbrev Fits : ℕ → Answer → Type 0
-Fits len a = (a .offset ≤ len) × (among (a .number) lineNumbers ≡ true)
+Fits len a = (a .offset ≤ len) × (among (a .number) lineNumbers ≡ true) × (a .count ≤ len)
 
 -- the numbers of each check are among those of a line
-all : (check : Check) → Every (λ n. among n lineNumbers ≡ true) (numbers check)
-unfolding among
+all : (check : Check) → Every (λ n. among n lineNumbers ≡ true) (ownNumbers check)
+unfolding among if_then_else_ allowsDigit
 all pattern = (refl, (refl, (refl, (refl, (refl, (refl, (refl, (refl, (refl, (refl, tt))))))))))
 all format = (refl, (refl, (refl, (refl, (refl, (refl, (refl, (refl, (refl, (refl, tt))))))))))
 all date = (refl, (refl, (refl, (refl, (refl, tt)))))
-all (replacement captures) = (refl, (refl, (refl, (refl, (refl, (refl, tt))))))
-all (pack packsize) = (refl, (refl, (refl, (refl, (refl, (refl, (refl, (refl, tt))))))))
-all (literal kind captures start) =
-    (refl, (refl, (refl, (refl, (refl, (refl, (refl, (refl, (refl, (refl, (refl, (refl, (refl, (refl, (refl, (refl, (refl, (refl, (refl, (refl, (refl, (refl, (refl, (refl, (refl, (refl, tt))))))))))))))))))))))))))
+all (replacement captures) = (refl, (refl, (refl, (refl, (refl, by-test (Every (λ n. among n lineNumbers ≡ true)) (allowsDigit captures 9) [] (21 ∷ []) (λ _. tt) (λ _. (refl, tt)))))))
+all (pack false) = (refl, (refl, (refl, (refl, (refl, (refl, (refl, tt)))))))
+all (pack true) = (refl, (refl, (refl, (refl, (refl, (refl, (refl, (refl, tt))))))))
+all (literal kind captures start) = (refl, tt)
 
 body-fits : (check : Option Check) (version : ℕ) (body : List ℕ) → Fits (length body) (bodyAnswer check version body)
 unfolding bodyAnswer among
-body-fits none version body = (omega arith, refl)
+body-fits none version body = (omega arith, refl, omega arith)
 body-fits (some check) version body =
     let r = refusals check version body in
-    (r .0, every-among (λ n. among n lineNumbers ≡ true) (numbers check) (all check) (answer check version body .number) (r .1))
-
-body-length : (line : List ℕ) (a : Answer) → Fits (length (drop 5 line)) a → Fits (length line - 5) a
-body-length line a f = (omega (arith, f .0, length-drop 5 line), f .1)
+    (r .0, every-among (λ n. among n lineNumbers ≡ true) (numbers check) (all (deciding check)) (answer check version body .number) (r .1), counts check version body)
 
 too-long-fits : (len : ℕ) → Fits len (refused 31 0)
 unfolding among
-too-long-fits len = (omega arith, refl)
+too-long-fits len = (omega arith, refl, omega arith)
 
-pub line-fits : (line : List ℕ) → Fits (length line - 5) (lineAnswer line)
-unfolding lineAnswer
-line-fits line =
-    by-test (Fits (length line - 5)) (ltb longest (length line)) _ _ (λ e. too-long-fits (length line - 5))
-    (λ e. body-length line (bodyAnswer (checkOf line) (byteAt line 1 - 48) (drop 5 line)) (body-fits (checkOf line) (byteAt line 1 - 48) (drop 5 line)))
+module _ (line : List ℕ) where
+  body-length : (len : ℕ) (a : Answer) → length line - 5 ≤ len → Fits (length (drop 5 line)) a → Fits len a
+  body-length len a h f = (omega (arith, f .0, length-drop 5 line), f .1, omega (arith, f .2, length-drop 5 line))
+
+  fits : (len : ℕ) → (ltb longest (length line) ≡ false → length line - 5 ≤ len) → Fits len (lineAnswer line)
+  unfolding lineAnswer
+  fits len h =
+      by-test (Fits len) (ltb longest (length line)) _ _ (λ _. too-long-fits len)
+      (λ e. body-length len (bodyAnswer (checkOf line) (byteAt line 1 - 48) (drop 5 line)) (h e) (body-fits (checkOf line) (byteAt line 1 - 48) (drop 5 line)))
+
+  -- offset and count are at most the length of the body, and in no line more than 4,000, since a longer body is 31
+  pub line-fits : Fits (length line - 5) (lineAnswer line)
+  line-fits = fits (length line - 5) (λ _. omega arith)
+
+  pub row-fits : Fits 4000 (lineAnswer line)
+  row-fits = fits 4000 (λ e. omega (arith, ltb-false longest (length line) e))

@@ -3,14 +3,14 @@
 use Prim.Native.Nat.{ℕ, _+_, _*_, _-_}
 use Prim.Native.Char.{code}
 use mathlib.Core.Bool.{Bool, true, false, _&&_}
-use mathlib.Core.List.{List, [], _∷_}
+use mathlib.Core.List.{List, _∷_, _++_}
 use mathlib.Core.Option.{Option, none, some}
 use lib.ListN.{length, drop}
 use lib.Dec.{eqb, leb, ltb}
 use Rattle.luck_text.specs.Bytes.{if_then_else_, byteAt, isDigit}
 use Rattle.luck_answer.specs.Answer.{Answer, refused, answerOf}
 use Rattle.luck_pattern.specs.Captures.{maxCaptures}
-use Rattle.luck_linter.specs.Checks.{Check, format, pattern, pack, date, replacement, answer}
+use Rattle.luck_linter.specs.Checks.{Check, format, pattern, pack, date, replacement, answer, numbers}
 use Rattle.luck_line.specs.declared.line.LineChecked.{LineChecked}
 use Rattle.luck_line.specs.declared.line.LineChecked.the-variants.{TooLong, Misfit, Body}
 
@@ -72,10 +72,9 @@ unfoldable pub lineAnswer : List ℕ → Answer
 lineAnswer line =
     if ltb longest (length line) then refused 31 0 else bodyAnswer (checkOf line) (digit (byteAt line 1)) (drop 5 line)
 
--- the numbers of these answers
+-- the numbers of these answers: 31, 30, and those of the checks; packsize has all of a pack format's, and a replacement without captures all of the others'
 abbrev pub lineNumbers : List ℕ
-lineNumbers =
-    0 ∷ 1 ∷ 2 ∷ 3 ∷ 4 ∷ 5 ∷ 6 ∷ 7 ∷ 8 ∷ 9 ∷ 10 ∷ 11 ∷ 12 ∷ 13 ∷ 14 ∷ 15 ∷ 16 ∷ 17 ∷ 18 ∷ 19 ∷ 20 ∷ 21 ∷ 22 ∷ 23 ∷ 25 ∷ 30 ∷ 31 ∷ []
+lineNumbers = 31 ∷ 30 ∷ (numbers format ++ numbers pattern ++ numbers (pack true) ++ numbers (replacement (some 0)) ++ numbers date)
 
 -- the code's answers
 abbrev pub lineAnswerOf : LineChecked → Answer

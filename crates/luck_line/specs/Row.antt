@@ -15,8 +15,8 @@ newline = code "\n"
 unfoldable pub column : ℕ → ℕ → ℕ
 column power n = if ltb n power then code " " else code "0" + n / power % 10
 
--- n right-justified in one column more than there are powers; a number with more digits would lose its first ones. In a row none has: its offset lies in a
--- body of at most 4,000 bytes (proofs/Answers.antt, `line-fits`), and what is counted takes a byte of it, at least
+-- n right-justified in one column more than there are powers; a number with more digits would lose its first ones. In a row none has:
+-- its offset and its count are at most 4,000 (`row-fits` of proofs/Answers.antt)
 unfoldable pub justified : List ℕ → ℕ → List ℕ
 justified [] n = (code "0" + n % 10) ∷ []
 justified (power ∷ powers) n = column power n ∷ justified powers n

@@ -1,5 +1,5 @@
 -- What is promised of the line machine: however an input is cut into pieces, and whenever its lines are taken, what is written is the listing of the
--- whole input; and of every line: its number is 0 or a refusal of document 01, and its offset is at most the body's length.
+-- whole input; and of every line: its number is 0 or a refusal of document 01, and its offset and its count are at most the body's length.
 -- Assumes nothing.
 use Prim.Native.Nat.{ℕ, _-_, _≤_}
 use mathlib.Core.Path.{_≡_}
@@ -37,5 +37,6 @@ pub leaves : (input : List ℕ) (room : ℕ) (long : Bool) → rowLength ≤ roo
 leaves input room long h e = left-short input room long h e
 
 -- every line
-pub line-refusals : (line : List ℕ) → (lineAnswer line .offset ≤ length line - 5) × (among (lineAnswer line .number) lineNumbers ≡ true)
+pub line-refusals : (line : List ℕ)
+    → (lineAnswer line .offset ≤ length line - 5) × (among (lineAnswer line .number) lineNumbers ≡ true) × (lineAnswer line .count ≤ length line - 5)
 line-refusals line = line-fits line

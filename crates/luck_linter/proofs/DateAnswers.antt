@@ -1,6 +1,6 @@
 -- The answers of the check of a date.
 -- Assumes nothing.
-use Prim.Native.Nat.{ℕ, _+_, _<_}
+use Prim.Native.Nat.{ℕ, _+_, _≤_, _<_}
 use native.Mathlib.Omega.{arith}
 use mathlib.Core.Path.{refl}
 use mathlib.Core.Bool.{Bool}
@@ -14,35 +14,35 @@ use Rattle.luck_text.proofs.Cases.{by-test}
 use Rattle.luck_answer.specs.Answer.{Answer}
 use Rattle.luck_linter.specs.Checks.{date, answer, numbers}
 use Rattle.luck_format.specs.Date.{checksDates, hasDateOptions, dateTurn, dateEnd, conversionsWalk, dateWalk, checkDate}
-use Rattle.luck_answer.proofs.Answers.{Stops, walk-every, Fits, check-fits}
+use Rattle.luck_linter.proofs.Counts.{Counts, walk-counts, Bounded, check-bounded}
 
 module _ (text : List ℕ) where
   abbrev AnswerIn : Answer → Type 0
-  AnswerIn answer = Fits (length text) (numbers date) answer
+  AnswerIn answer = Bounded (length text) (numbers date) answer
 
-  abbrev StopsIn : Turn (Unit {0}) Answer → Type 0
-  StopsIn turn = Stops AnswerIn turn
+  abbrev TurnIn : Turn (Unit {0}) Answer → Type 0
+  TurnIn turn = Counts (λ _. 0) AnswerIn 0 turn
 
   module _ (options : Bool) where
-    step : (p : ℕ) (u : Unit {0}) → p < length text → StopsIn (dateTurn options text p u)
+    step : (p : ℕ) (u : Unit {0}) → p < length text → TurnIn (dateTurn options text p u)
     unfolding dateTurn among
     step p u h =
-        by-test StopsIn _ _ _ (λ _. tt)
-        (λ _. by-test StopsIn _ _ _ (λ _. by-test StopsIn _ _ _ (λ _. (omega arith, refl)) (λ _. tt))
-        (λ l. by-test StopsIn _ _ _ (λ _. (omega (arith, leb-false (length text) (p + 1) l), refl)) (λ _. tt)))
+        by-test TurnIn _ _ _ (λ _. omega arith)
+        (λ _. by-test TurnIn _ _ _ (λ _. by-test TurnIn _ _ _ (λ _. (omega arith, refl, omega arith)) (λ _. omega arith))
+        (λ l. by-test TurnIn _ _ _ (λ _. (omega (arith, leb-false (length text) (p + 1) l), refl, omega arith)) (λ _. omega arith)))
 
-    at-end : (p : ℕ) (u : Unit {0}) → AnswerIn (dateEnd p u)
+    at-end : (p : ℕ) (u : Unit {0}) → 0 ≤ length text → AnswerIn (dateEnd p u)
     unfolding dateEnd among
-    at-end p u = (omega arith, refl)
+    at-end p u h = (omega arith, refl, omega arith)
 
     conversions : AnswerIn (conversionsWalk options text)
     unfolding conversionsWalk
-    conversions = walk-every (dateTurn options text) dateEnd (length text) AnswerIn step at-end 0 tt
+    conversions = walk-counts (dateTurn options text) dateEnd (length text) (λ _. 0) AnswerIn step at-end tt refl
 
-    pub date-fits : (checked : Bool) → Fits (length text) (numbers date) (dateWalk checked options text)
+    pub date-bounded : (checked : Bool) → Bounded (length text) (numbers date) (dateWalk checked options text)
     unfolding dateWalk among
-    date-fits checked = by-test AnswerIn _ _ _ (λ _. (omega arith, refl)) (λ _. conversions)
+    date-bounded checked = by-test AnswerIn _ _ _ (λ _. (omega arith, refl, omega arith)) (λ _. conversions)
 
-  pub check-date : (version : ℕ) → Fits (length text) (numbers date) (answer date version text)
+  pub check-date : (version : ℕ) → Bounded (length text) (numbers date) (answer date version text)
   unfolding checkDate among
-  check-date version = check-fits text (numbers date) refl refl version (dateWalk (checksDates (rulesOf version)) (hasDateOptions (rulesOf version)) text) (date-fits (hasDateOptions (rulesOf version)) (checksDates (rulesOf version)))
+  check-date version = check-bounded text (numbers date) refl refl version (dateWalk (checksDates (rulesOf version)) (hasDateOptions (rulesOf version)) text) (date-bounded (hasDateOptions (rulesOf version)) (checksDates (rulesOf version)))

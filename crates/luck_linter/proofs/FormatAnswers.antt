@@ -35,18 +35,18 @@ use Rattle.luck_format.specs.Format.{
   formatWalk,
   checkFormat,
 }
-use Rattle.luck_answer.proofs.Answers.{Stops, walk-every, Fits, check-fits}
+use Rattle.luck_linter.proofs.Counts.{Counts, walk-counts, Bounded, check-bounded}
 
 module _ (text : List ℕ) where
   abbrev AnswerIn : Answer → Type 0
-  AnswerIn answer = Fits (length text) (numbers format) answer
+  AnswerIn answer = Bounded (length text) (numbers format) answer
 
   abbrev FaultIn : Modifiers → Type 0
   FaultIn (end-at e) = Unit {0}
   FaultIn (fault answer) = AnswerIn answer
 
-  abbrev StopsIn : Turn ℕ Answer → Type 0
-  StopsIn turn = Stops AnswerIn turn
+  abbrev TurnIn : ℕ → Turn ℕ Answer → Type 0
+  TurnIn count turn = Counts (λ n. n) AnswerIn count turn
 
   there : (p x : ℕ) → 0 < x → eqb (byteAt text p) x ≡ true → p < length text
   there p x h e = present text p (omega (arith, eqb-true (byteAt text p) x e))
@@ -54,23 +54,23 @@ module _ (text : List ℕ) where
   module _ (p : ℕ) (h : p ≤ length text) where
     get-format : FaultIn (getFormat text p)
     unfolding getFormat among
-    get-format = by-test FaultIn _ _ _ (λ _. (h, refl)) (λ _. tt)
+    get-format = by-test FaultIn _ _ _ (λ _. (h, refl, omega arith)) (λ _. tt)
 
     scan-precision : p < length text → FaultIn (scanPrecision text p)
     unfolding scanPrecision among
-    scan-precision l = by-test FaultIn _ _ _ (λ _. (omega arith, refl)) (λ _. tt)
+    scan-precision l = by-test FaultIn _ _ _ (λ _. (omega arith, refl, omega arith)) (λ _. tt)
 
   scan-width : (p : ℕ) → p ≤ length text → FaultIn (scanWidth text p)
   unfolding scanWidth among
   scan-width p h =
       let dot = p + run isDigit (drop p text) in
-      by-test FaultIn _ _ _ (λ _. (h, refl)) (λ _. by-test FaultIn _ _ _ (λ e. scan-precision dot (run-inside isDigit text p h) (there dot 46 (omega arith) e)) (λ _. tt))
+      by-test FaultIn _ _ _ (λ _. (h, refl, omega arith)) (λ _. by-test FaultIn _ _ _ (λ e. scan-precision dot (run-inside isDigit text p h) (there dot 46 (omega arith) e)) (λ _. tt))
 
   scan-format : (p : ℕ) → p ≤ length text → FaultIn (scanFormat text p)
   unfolding scanFormat among
   scan-format p h =
       let count = run isFlag (drop p text) in
-      by-test FaultIn _ _ _ (λ e. (omega (arith, leb-true 6 count e, run-inside isFlag text p h), refl)) (λ _. scan-width (p + count) (run-inside isFlag text p h))
+      by-test FaultIn _ _ _ (λ e. (omega (arith, leb-true 6 count e, run-inside isFlag text p h), refl, omega arith)) (λ _. scan-width (p + count) (run-inside isFlag text p h))
 
   modifiers : (is : Bool) (p : ℕ) → p ≤ length text → FaultIn (modifiersAt is text p)
   unfolding modifiersAt
@@ -78,38 +78,38 @@ module _ (text : List ℕ) where
   modifiers false p h = scan-format p h
 
   module _ (rules : Rules) (p count : ℕ) where
-    conversion : (e : ℕ) → p < length text → StopsIn (conversionTurn rules text p count e)
+    conversion : (e : ℕ) → p < length text → TurnIn count (conversionTurn rules text p count e)
     unfolding conversionTurn among
     conversion e h =
         let good = goodModifiers (byteAt text e) text (p + 1) in
-        by-test StopsIn _ _ _ (λ _. (omega arith, refl))
-        (λ l. by-test StopsIn _ _ _ (λ _. (omega (arith, leb-false (length text) e l), refl))
-        (λ _. by-test StopsIn _ _ _ (λ b. (omega (arith, leb-false (length text) e l, ltb-true good e (and-right (rules .«checked_format_modifiers») (ltb good e) b)), refl)) (λ _. tt)))
+        by-test (TurnIn count) _ _ _ (λ _. (omega arith, refl, omega arith))
+        (λ l. by-test (TurnIn count) _ _ _ (λ _. (omega (arith, leb-false (length text) e l), refl, omega arith))
+        (λ _. by-test (TurnIn count) _ _ _ (λ b. (omega (arith, leb-false (length text) e l, ltb-true good e (and-right (rules .«checked_format_modifiers») (ltb good e) b)), refl, omega arith)) (λ _. omega arith)))
 
-    specifier-in : (m : Modifiers) → FaultIn m → p < length text → StopsIn (specifierTurn rules text p count m)
+    specifier-in : (m : Modifiers) → FaultIn m → p < length text → TurnIn count (specifierTurn rules text p count m)
     unfolding specifierTurn
     specifier-in (end-at e) f h = conversion e h
     specifier-in (fault answer) f h = f
 
-    percent : p < length text → StopsIn (percentTurn rules text p count)
+    percent : p < length text → TurnIn count (percentTurn rules text p count)
     unfolding percentTurn among
     percent h =
-        by-test StopsIn _ _ _ (λ _. (omega arith, refl))
-        (λ l. by-test StopsIn _ _ _ (λ _. tt)
-        (λ _. by-test StopsIn _ _ _ (λ _. tt) (λ _. specifier-in _ (modifiers (rules .«checked_format_modifiers») (p + 1) (omega (arith, leb-false (length text) (p + 1) l))) h)))
+        by-test (TurnIn count) _ _ _ (λ _. (omega arith, refl, omega arith))
+        (λ l. by-test (TurnIn count) _ _ _ (λ _. omega arith)
+        (λ _. by-test (TurnIn count) _ _ _ (λ _. omega arith) (λ _. specifier-in _ (modifiers (rules .«checked_format_modifiers») (p + 1) (omega (arith, leb-false (length text) (p + 1) l))) h)))
 
-    step : p < length text → StopsIn (formatTurn rules text p count)
+    step : p < length text → TurnIn count (formatTurn rules text p count)
     unfolding formatTurn
-    step h = by-test StopsIn _ _ _ (λ _. percent h) (λ _. tt)
+    step h = by-test (TurnIn count) _ _ _ (λ _. percent h) (λ _. omega arith)
 
-  at-end : (p count : ℕ) → AnswerIn (formatEnd p count)
+  at-end : (p count : ℕ) → count ≤ length text → AnswerIn (formatEnd p count)
   unfolding formatEnd among
-  at-end p count = (omega arith, refl)
+  at-end p count h = (omega arith, refl, h)
 
-  pub format-fits : (rules : Rules) → Fits (length text) (numbers format) (formatWalk rules text)
+  pub format-bounded : (rules : Rules) → Bounded (length text) (numbers format) (formatWalk rules text)
   unfolding formatWalk
-  format-fits rules = walk-every (formatTurn rules text) formatEnd (length text) AnswerIn (step rules) at-end 0 0
+  format-bounded rules = walk-counts (formatTurn rules text) formatEnd (length text) (λ n. n) AnswerIn (step rules) at-end 0 refl
 
-  pub check-format : (version : ℕ) → Fits (length text) (numbers format) (answer format version text)
+  pub check-format : (version : ℕ) → Bounded (length text) (numbers format) (answer format version text)
   unfolding checkFormat among
-  check-format version = check-fits text (numbers format) refl refl version (formatWalk (rulesOf version) text) (format-fits (rulesOf version))
+  check-format version = check-bounded text (numbers format) refl refl version (formatWalk (rulesOf version) text) (format-bounded (rulesOf version))

@@ -1,4 +1,5 @@
 pub mod StringLiterals
+pub mod Counts
 pub mod PatternAnswers
 pub mod ReplacementAnswers
 pub mod FormatAnswers

@@ -3,75 +3,56 @@
 use Prim.Native.Nat.{ℕ, _-_, _≤_}
 use native.Mathlib.Omega.{arith}
 use mathlib.Core.Path.{_≡_, refl, sym}
-use mathlib.Core.Bool.{Bool, true, false, true≢false}
+use mathlib.Core.Bool.{Bool, true, false, not, true≢false}
 use mathlib.Core.List.{List}
 use mathlib.Core.Option.{Option, none, some}
 use lib.ListN.{length, drop, length-take}
-use Rattle.luck_text.specs.Bytes.{part, among}
-use Rattle.luck_token.specs.Version.{rulesOf}
+use Rattle.luck_text.specs.Bytes.{if_then_else_, part, among}
+use Rattle.luck_token.specs.Version.{isVersion, rulesOf}
 use Rattle.luck_utf8.specs.Utf8.{illFormed}
 use Rattle.luck_token.specs.declared.version.Rules.{Rules}
 use Rattle.luck_text.proofs.Cases.{by-test}
-use Rattle.luck_answer.specs.Answer.{Answer}
-use Rattle.luck_pattern.specs.Pattern.{patternWalk}
-use Rattle.luck_format.specs.Format.{formatWalk}
-use Rattle.luck_pack.specs.Pack.{packWalk}
-use Rattle.luck_pattern.specs.Replacement.{isStrict, pieces, piecesWalk}
-use Rattle.luck_format.specs.Date.{checksDates, hasDateOptions, dateWalk}
-use Rattle.luck_linter.specs.StringLiteral.{LiteralAnswer, bodyWalk, withSpan, checkBody, checkShort, afterText, checkLiteral}
-use Rattle.luck_linter.specs.Checks.{Check, pattern, format, date, replacement, pack, literal, answer, numbers}
-use Rattle.luck_text.proofs.Among.{Every, every-among}
-use Rattle.luck_answer.proofs.Answers.{Fits, PlaceIn, place-in}
-use Rattle.luck_linter.proofs.PatternAnswers.{pattern-fits}
-use Rattle.luck_linter.proofs.FormatAnswers.{format-fits}
-use Rattle.luck_linter.proofs.PackAnswers.{pack-fits}
-use Rattle.luck_linter.proofs.ReplacementAnswers.{replacement-fits}
-use Rattle.luck_linter.proofs.DateAnswers.{date-fits}
+use Rattle.luck_answer.specs.Answer.{Answer, refused}
+use Rattle.luck_pattern.specs.Replacement.{isStrict}
+use Rattle.luck_format.specs.Date.{checksDates, hasDateOptions}
+use Rattle.luck_linter.specs.StringLiteral.{isKind, LiteralAnswer, unspanned, bodyWalk, withSpan, checkBody, checkShort, afterText, checkLiteral}
+use Rattle.luck_linter.specs.Checks.{Check, literal, answer, kindCheck, deciding, ownNumbers, numbers}
+use Rattle.luck_answer.proofs.Answers.{PlaceIn, place-in}
+use Rattle.luck_linter.proofs.Counts.{Bounded}
+use Rattle.luck_linter.proofs.PatternAnswers.{pattern-bounded}
+use Rattle.luck_linter.proofs.FormatAnswers.{format-bounded}
+use Rattle.luck_linter.proofs.PackAnswers.{pack-bounded}
+use Rattle.luck_linter.proofs.ReplacementAnswers.{replacement-bounded}
+use Rattle.luck_linter.proofs.DateAnswers.{date-bounded}
+
+-- what holds of both branches of two choices by one test
+by-both : {A B : Type 0} (P : A → B → Type 0) (b : Bool) (x y : A) (u v : B) → (b ≡ true → P x u) → (b ≡ false → P y v) → P (if b then x else y) (if b then u else v)
+unfolding if_then_else_
+by-both P true x y u v f g = f refl
+by-both P false x y u v f g = g refl
 
 module _ (kind : ℕ) (captures : Option ℕ) (start : ℕ) where
-  abbrev AnswerIn : ℕ → Answer → Type 0
-  AnswerIn len answer = Fits len (numbers (literal kind captures start)) answer
+  -- the number of a body's answer is one of the check that the letter names; so are 0, 23 and 25
+  abbrev Named : ℕ → Check → Answer → Type 0
+  Named len check walked = Bounded len (ownNumbers check) walked × (among 0 (ownNumbers check) ≡ true) × (among 23 (ownNumbers check) ≡ true) × (among 25 (ownNumbers check) ≡ true)
 
-  -- the numbers of another check are among those of this one
-  among-all : (check : Check) → Every (λ n. among n (numbers (literal kind captures start)) ≡ true) (numbers check)
-      → (len : ℕ) (walked : Answer) → Fits len (numbers check) walked → AnswerIn len walked
-  among-all check all len walked fits = (fits .0, every-among (λ n. among n (numbers (literal kind captures start)) ≡ true) (numbers check) all (walked .number) (fits .1))
-
-  module _ (rules : Rules) (body : List ℕ) where
-    format-in : (walked : Answer) → Fits (length body) (numbers format) walked → AnswerIn (length body) walked
-    unfolding among
-    format-in = among-all format (refl, (refl, (refl, (refl, (refl, (refl, (refl, (refl, (refl, (refl, tt)))))))))) (length body)
-
-    pattern-in : (walked : Answer) → Fits (length body) (numbers pattern) walked → AnswerIn (length body) walked
-    unfolding among
-    pattern-in = among-all pattern (refl, (refl, (refl, (refl, (refl, (refl, (refl, (refl, (refl, (refl, tt)))))))))) (length body)
-
-    pack-in : (packsize : Bool) (walked : Answer) → Fits (length body) (numbers (pack packsize)) walked → AnswerIn (length body) walked
-    unfolding among
-    pack-in packsize = among-all (pack packsize) (refl, (refl, (refl, (refl, (refl, (refl, (refl, (refl, tt)))))))) (length body)
-
-    replacement-in : (walked : Answer) → Fits (length body) (numbers (replacement captures)) walked → AnswerIn (length body) walked
-    unfolding among
-    replacement-in = among-all (replacement captures) (refl, (refl, (refl, (refl, (refl, (refl, tt)))))) (length body)
-
-    date-in : (walked : Answer) → Fits (length body) (numbers date) walked → AnswerIn (length body) walked
-    unfolding among
-    date-in = among-all date (refl, (refl, (refl, (refl, (refl, tt))))) (length body)
-
-    body-fits : AnswerIn (length body) (bodyWalk kind rules captures body)
-    unfolding bodyWalk
-    body-fits =
-        by-test (AnswerIn (length body)) _ _ _ (λ _. format-in (formatWalk rules body) (format-fits body rules))
-        (λ _. by-test (AnswerIn (length body)) _ _ _ (λ _. pattern-in (patternWalk body) (pattern-fits body))
-        (λ _. by-test (AnswerIn (length body)) _ _ _ (λ _. pack-in false (packWalk false body) (pack-fits false body))
-        (λ _. by-test (AnswerIn (length body)) _ _ _ (λ _. pack-in true (packWalk true body) (pack-fits true body))
-        (λ _. by-test (AnswerIn (length body)) _ _ _ (λ _. replacement-in (piecesWalk (isStrict rules) captures (pieces body) 0) (replacement-fits captures body (isStrict rules)))
-        (λ _. date-in (dateWalk (checksDates rules) (hasDateOptions rules) body) (date-fits body (hasDateOptions rules) (checksDates rules)))))))
+  named : (rules : Rules) (body : List ℕ) → Named (length body) (kindCheck kind captures) (bodyWalk kind rules captures body)
+  unfolding kindCheck bodyWalk among
+  named rules body =
+      by-both (Named (length body)) _ _ _ _ _ (λ _. (format-bounded body rules, refl, refl, refl))
+      (λ _. by-both (Named (length body)) _ _ _ _ _ (λ _. (pattern-bounded body, refl, refl, refl))
+      (λ _. by-both (Named (length body)) _ _ _ _ _ (λ _. (pack-bounded false body, refl, refl, refl))
+      (λ _. by-both (Named (length body)) _ _ _ _ _ (λ _. (pack-bounded true body, refl, refl, refl))
+      (λ _. by-both (Named (length body)) _ _ _ _ _ (λ _. (replacement-bounded captures body (isStrict rules), refl, refl, refl))
+      (λ _. (date-bounded body (hasDateOptions rules) (checksDates rules), refl, refl, refl))))))
 
   module _ (text : List ℕ) where
     -- an answer with a span is about the body
-    abbrev LiteralIn : LiteralAnswer → Type 0
-    LiteralIn a = AnswerIn (length text) (a .answer) × (a .spanned ≡ true → a .answer .offset ≤ length text - 2)
+    abbrev LiteralIn : Check → LiteralAnswer → Type 0
+    LiteralIn check a = Bounded (length text) (ownNumbers check) (a .answer) × (a .spanned ≡ true → a .answer .offset ≤ length text - 2)
+
+    abbrev NamedIn : LiteralAnswer → Type 0
+    NamedIn a = LiteralIn (kindCheck kind captures) a
 
     abbrev body : List ℕ
     body = part text 1 (length text - 1)
@@ -79,34 +60,48 @@ module _ (kind : ℕ) (captures : Option ℕ) (start : ℕ) where
     body-length : length body ≤ length text - 2
     body-length = omega (arith, length-take (length text - 1 - 1) (drop 1 text))
 
-    span-fits : (walked : Answer) → AnswerIn (length body) walked → LiteralIn (withSpan start body walked)
+    span-bounded : (walked : Answer) → Bounded (length body) (ownNumbers (kindCheck kind captures)) walked → NamedIn (withSpan start body walked)
     unfolding withSpan
-    span-fits walked fits =
+    span-bounded walked fits =
         let h : walked .offset ≤ length text - 2 = omega (arith, fits .0, body-length) in
-        let whole : walked .offset ≤ length text = omega arith in
-        by-test LiteralIn _ _ _ (λ _. ((whole, fits .1), λ _. h)) (λ _. ((whole, fits .1), λ _. h))
+        let whole : Bounded (length text) (ownNumbers (kindCheck kind captures)) walked = (omega arith, fits .1, omega (arith, fits .2, body-length)) in
+        by-test NamedIn _ _ _ (λ _. (whole, λ _. h)) (λ _. (whole, λ _. h))
 
-    checked-fits : (rules : Rules) → LiteralIn (checkBody kind rules captures start body)
-    unfolding checkBody among
-    checked-fits rules = by-test LiteralIn _ _ _ (λ _. ((omega arith, refl), λ _. omega arith)) (λ _. span-fits (bodyWalk kind rules captures body) (body-fits rules body))
+    module _ (rules : Rules) where
+      abbrev this : Named (length body) (kindCheck kind captures) (bodyWalk kind rules captures body)
+      this = named rules body
 
-    short-fits : (rules : Rules) → LiteralIn (checkShort kind rules captures start text)
-    unfolding checkShort among
-    short-fits rules = by-test LiteralIn _ _ _ (λ _. checked-fits rules) (λ _. ((omega arith, refl), λ _. omega arith))
+      checked-bounded : NamedIn (checkBody kind rules captures start body)
+      unfolding checkBody
+      checked-bounded = by-test NamedIn _ _ _ (λ _. ((omega arith, this .1, omega arith), λ _. omega arith)) (λ _. span-bounded (bodyWalk kind rules captures body) (this .0))
 
-    after-fits : (place : Option ℕ) (checked : LiteralAnswer) → PlaceIn (length text) place → LiteralIn checked → LiteralIn (afterText place checked)
-    unfolding afterText among
-    after-fits none checked h i = i
-    after-fits (some p) checked h i = ((omega arith, refl), λ e. absurd (true≢false (sym e)))
+      short-bounded : NamedIn (checkShort kind rules captures start text)
+      unfolding checkShort
+      short-bounded = by-test NamedIn _ _ _ (λ _. checked-bounded) (λ _. ((omega arith, this .1, omega arith), λ _. omega arith))
 
-    literal-fits : (version : ℕ) → LiteralIn (checkLiteral kind version captures start text)
-    unfolding checkLiteral among
-    literal-fits version =
-        by-test LiteralIn _ _ _ (λ _. ((omega arith, refl), λ _. omega arith))
-        (λ _. by-test LiteralIn _ _ _ (λ _. ((omega arith, refl), λ _. omega arith)) (λ _. after-fits (illFormed text) (checkShort kind (rulesOf version) captures start text) (place-in text) (short-fits (rulesOf version))))
+      after-bounded : (place : Option ℕ) (checked : LiteralAnswer) → PlaceIn (length text) place → NamedIn checked → NamedIn (afterText place checked)
+      unfolding afterText
+      after-bounded none checked h i = i
+      after-bounded (some p) checked h i = ((omega arith, this .2, omega arith), λ e. absurd (true≢false (sym e)))
 
-    pub check-literal : (version : ℕ) → Fits (length text) (numbers (literal kind captures start)) (answer (literal kind captures start) version text)
-    check-literal version = literal-fits version .0
+      version-bounded : (version : ℕ) → NamedIn (if not (isVersion version) then unspanned (refused 25 0) else afterText (illFormed text) (checkShort kind rules captures start text))
+      version-bounded version =
+          by-test NamedIn _ _ _ (λ _. ((omega arith, this .3, omega arith), λ _. omega arith))
+          (λ _. after-bounded (illFormed text) (checkShort kind rules captures start text) (place-in text) short-bounded)
+
+    -- the letter is tested first
+    letter-bounded : (is : Bool) (checked : LiteralAnswer) → NamedIn checked
+        → LiteralIn (if is then kindCheck kind captures else literal kind captures start) (if not is then unspanned (refused 30 0) else checked)
+    unfolding if_then_else_ among
+    letter-bounded true checked h = h
+    letter-bounded false checked h = ((omega arith, refl, omega arith), λ _. omega arith)
+
+    literal-bounded : (version : ℕ) → LiteralIn (deciding (literal kind captures start)) (checkLiteral kind version captures start text)
+    unfolding checkLiteral
+    literal-bounded version = letter-bounded (isKind kind) _ (version-bounded (rulesOf version) version)
+
+    pub check-literal : (version : ℕ) → Bounded (length text) (numbers (literal kind captures start)) (answer (literal kind captures start) version text)
+    check-literal version = literal-bounded version .0
 
     pub body-offset : (version : ℕ) → checkLiteral kind version captures start text .spanned ≡ true → answer (literal kind captures start) version text .offset ≤ length text - 2
-    body-offset version = literal-fits version .1
+    body-offset version = literal-bounded version .1

@@ -1,20 +1,22 @@
 -- The answers of the check of a pattern.
 -- Assumes nothing.
-use Prim.Native.Nat.{ℕ, _+_, _<_}
+use Prim.Native.Nat.{ℕ, suc, _+_, _≤_, _<_}
 use native.Mathlib.Omega.{arith}
-use mathlib.Core.Path.{_≡_, refl}
-use mathlib.Core.Bool.{Bool, true}
-use mathlib.Core.List.{List, []}
+use mathlib.Core.Path.{_≡_, refl, ap}
+use mathlib.Core.Bool.{Bool, true, false}
+use mathlib.Core.List.{List, [], _∷_}
 use mathlib.Core.Option.{Option, none, some}
 use lib.Dec.{eqb, ltb}
-use lib.ListN.{length}
+use lib.ListN.{length, length-append}
 use borrow.Author.Tests.{eqb-true}
 use Rattle.luck_text.specs.Bytes.{byteAt, among}
+use Rattle.luck_text.specs.Walk.{Turn}
 use Rattle.luck_text.proofs.Cases.{by-test, present}
 use Rattle.luck_answer.specs.Answer.{Answer}
 use Rattle.luck_linter.specs.Checks.{pattern, answer, numbers}
-use Rattle.luck_answer.proofs.Answers.{Stops, walk-every, Fits, check-fits}
-use Rattle.luck_pattern.specs.Captures.{closeLatest, isClosed, allClosed}
+use Rattle.luck_answer.proofs.Answers.{Stops, walk-every}
+use Rattle.luck_linter.proofs.Counts.{Counts, walk-counts, Bounded, check-bounded}
+use Rattle.luck_pattern.specs.Captures.{closeHere, closeLatest, isClosed, allClosed}
 use Rattle.luck_pattern.specs.Pattern.{
   Head,
   at-open,
@@ -63,7 +65,7 @@ use Rattle.luck_pattern.specs.Pattern.{
 }
 
 abbrev AnswerIn : ℕ → Answer → Type 0
-AnswerIn len answer = Fits len (numbers pattern) answer
+AnswerIn len answer = Bounded len (numbers pattern) answer
 
 abbrev ReadIn : ℕ → Read → Type 0
 ReadIn len (past q) = Unit {0}
@@ -73,6 +75,21 @@ abbrev EndIn : ℕ → SetEnd → Type 0
 EndIn len (closes-at p) = Unit {0}
 EndIn len (cut-at p) = p < len
 EndIn len unclosed = Unit {0}
+
+-- closing a capture counts none
+abbrev SameLength : List Bool → Option (List Bool) → Type 0
+SameLength captures none = Unit {0}
+SameLength captures (some after) = length after ≡ length captures
+
+close-here : (closed : Bool) (later : List Bool) (after : Option (List Bool)) → SameLength later after → SameLength (closed ∷ later) (closeHere closed later after)
+close-here closed later (some after) e = ap suc e
+close-here true later none e = tt
+close-here false later none e = refl
+
+close-length : (captures : List Bool) → SameLength captures (closeLatest captures)
+unfolding closeLatest
+close-length [] = tt
+close-length (closed ∷ later) = close-here closed later (closeLatest later) (close-length later)
 
 module _ (text : List ℕ) where
   member-in : (p : ℕ) (m : Member) → p < length text → Stops (EndIn (length text)) (memberBy m p)
@@ -97,8 +114,8 @@ module _ (text : List ℕ) where
   set-as-in : (p : ℕ) (end : SetEnd) → p < length text → EndIn (length text) end → ReadIn (length text) (setAs text p end)
   unfolding setAs among
   set-as-in p (closes-at e) h i = tt
-  set-as-in p (cut-at e) h i = (omega arith, refl)
-  set-as-in p unclosed h i = (omega arith, by-test (λ (n : ℕ). among n (numbers pattern) ≡ true) (isEmptySet text p) 9 8 (λ _. refl) (λ _. refl))
+  set-as-in p (cut-at e) h i = (omega arith, refl, omega arith)
+  set-as-in p unclosed h i = (omega arith, by-test (λ (n : ℕ). among n (numbers pattern) ≡ true) (isEmptySet text p) 9 8 (λ _. refl) (λ _. refl), omega arith)
 
   set-in : (p : ℕ) → p < length text → ReadIn (length text) (setRead text p)
   unfolding setRead
@@ -107,48 +124,51 @@ module _ (text : List ℕ) where
   module _ (p : ℕ) (captures : List Bool) (inside : p < length text) where
     escape-as-in : (e : Escape) → ReadIn (length text) (escapeAs text p captures e)
     unfolding escapeAs among
-    escape-as-in (esc-digit d) = by-test (ReadIn (length text)) (isClosed captures d) _ _ (λ _. tt) (λ _. (omega arith, refl))
-    escape-as-in esc-balance = by-test (ReadIn (length text)) (ltb (p + 3) (length text)) _ _ (λ _. tt) (λ _. (omega arith, refl))
+    escape-as-in (esc-digit d) = by-test (ReadIn (length text)) (isClosed captures d) _ _ (λ _. tt) (λ _. (omega arith, refl, omega arith))
+    escape-as-in esc-balance = by-test (ReadIn (length text)) (ltb (p + 3) (length text)) _ _ (λ _. tt) (λ _. (omega arith, refl, omega arith))
     escape-as-in esc-frontier =
         by-test (ReadIn (length text)) (eqb (byteAt text (p + 2)) 91) _ _
-        (λ e. set-in (p + 2) (present text (p + 2) (omega (arith, eqb-true (byteAt text (p + 2)) 91 e)))) (λ _. (omega arith, refl))
+        (λ e. set-in (p + 2) (present text (p + 2) (omega (arith, eqb-true (byteAt text (p + 2)) 91 e)))) (λ _. (omega arith, refl, omega arith))
     escape-as-in esc-other = tt
-    escape-as-in esc-end = (omega arith, refl)
+    escape-as-in esc-end = (omega arith, refl, omega arith)
 
     escape-in : ReadIn (length text) (escapeRead text p captures)
     unfolding escapeRead
     escape-in = escape-as-in (escapeAt text (p + 1))
 
-    onward-in : (r : Read) → ReadIn (length text) r → Stops (AnswerIn (length text)) (onward p captures r)
+    abbrev TurnIn : Turn (List Bool) Answer → Type 0
+    TurnIn turn = Counts length (AnswerIn (length text)) (length captures) turn
+
+    onward-in : (r : Read) → ReadIn (length text) r → TurnIn (onward p captures r)
     unfolding onward
-    onward-in (past q) h = tt
+    onward-in (past q) h = omega arith
     onward-in (fault answer) h = h
 
-    close-in : (after : Option (List Bool)) → Stops (AnswerIn (length text)) (afterClose p after)
+    close-in : (after : Option (List Bool)) → SameLength captures after → TurnIn (afterClose p after)
     unfolding afterClose among
-    close-in none = (omega arith, refl)
-    close-in (some after) = tt
+    close-in none h = (omega arith, refl, omega arith)
+    close-in (some after) h = omega arith
 
-    head-in : (h : Head) → Stops (AnswerIn (length text)) (headTurn text p captures h)
+    head-in : (h : Head) → TurnIn (headTurn text p captures h)
     unfolding headTurn among
-    head-in at-open = by-test (Stops (AnswerIn (length text))) (ltb (length captures) 32) _ _ (λ _. tt) (λ _. (omega arith, refl))
-    head-in at-close = close-in (closeLatest captures)
+    head-in at-open = by-test TurnIn (ltb (length captures) 32) _ _ (λ _. omega (arith, length-append captures (false ∷ []))) (λ _. (omega arith, refl, omega arith))
+    head-in at-close = close-in (closeLatest captures) (close-length captures)
     head-in at-percent = onward-in (escapeRead text p captures) escape-in
     head-in at-set = onward-in (setRead text p) (set-in p inside)
-    head-in at-other = tt
+    head-in at-other = omega arith
 
-    turn-in : Stops (AnswerIn (length text)) (patternTurn text p captures)
+    turn-in : TurnIn (patternTurn text p captures)
     unfolding patternTurn
     turn-in = head-in (headOf (byteAt text p))
 
-  last-in : (p : ℕ) (captures : List Bool) → AnswerIn (length text) (patternEnd text p captures)
+  last-in : (p : ℕ) (captures : List Bool) → length captures ≤ length text → AnswerIn (length text) (patternEnd text p captures)
   unfolding patternEnd among
-  last-in p captures = by-test (AnswerIn (length text)) (allClosed captures) _ _ (λ _. (omega arith, refl)) (λ _. (omega arith, refl))
+  last-in p captures h = by-test (AnswerIn (length text)) (allClosed captures) _ _ (λ _. (omega arith, refl, h)) (λ _. (omega arith, refl, omega arith))
 
-  pub pattern-fits : Fits (length text) (numbers pattern) (patternWalk text)
+  pub pattern-bounded : Bounded (length text) (numbers pattern) (patternWalk text)
   unfolding patternWalk
-  pattern-fits = walk-every (patternTurn text) (patternEnd text) (length text) (AnswerIn (length text)) (λ p captures h. turn-in p captures h) last-in 0 []
+  pattern-bounded = walk-counts (patternTurn text) (patternEnd text) (length text) length (AnswerIn (length text)) (λ p captures h. turn-in p captures h) last-in [] refl
 
-  pub check-pattern : (version : ℕ) → Fits (length text) (numbers pattern) (answer pattern version text)
+  pub check-pattern : (version : ℕ) → Bounded (length text) (numbers pattern) (answer pattern version text)
   unfolding checkPattern among
-  check-pattern version = check-fits text (numbers pattern) refl refl version (patternWalk text) pattern-fits
+  check-pattern version = check-bounded text (numbers pattern) refl refl version (patternWalk text) pattern-bounded

@@ -1,2 +1,3 @@
 pub mod StringLiteral
 pub mod Checks
+pub mod Examples

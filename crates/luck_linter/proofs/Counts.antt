@@ -1,0 +1,68 @@
+-- What the answers of all checks share: the offset and the count are at most the text's length, and the number is one of a list. What is counted is an item of a walk,
+-- and an item takes a byte at least, so that no walk has counted more than the place that it stands at.
+-- Assumes nothing.
+use Prim.Native.Nat.{ℕ, zero, suc, _+_, _-_, _≤_, _<_}
+use native.Mathlib.Omega.{arith}
+use mathlib.Core.Path.{_≡_}
+use mathlib.Core.Bool.{true}
+use mathlib.Core.List.{List}
+use mathlib.Core.Option.{Option, none, some}
+use lib.ListN.{length}
+use Rattle.luck_text.specs.Bytes.{among}
+use Rattle.luck_text.specs.Walk.{Turn, stop, goes, walk, walkFrom}
+use Rattle.luck_text.proofs.Cases.{by-test}
+use Rattle.luck_token.specs.Version.{isVersion}
+use Rattle.luck_utf8.specs.Utf8.{illFormed}
+use Rattle.luck_answer.specs.Answer.{Answer, afterVersion, afterUtf8, checkText}
+use Rattle.luck_answer.proofs.Answers.{check-fits}
+
+-- ---- A walk
+
+-- a turn, after n things were counted: its answer, or one thing more at most
+abbrev pub Counts : {S A : Type 0} → (S → ℕ) → (A → Type 0) → ℕ → Turn S A → Type 0
+Counts count P n (stop a) = P a
+Counts count P n (goes width s) = count s ≤ n + 1
+
+-- what holds of the answer of each turn that stops, and at the end of a count that is at most the text's length, holds of the walk's answer
+module _ {S A : Type 0} (item : ℕ → S → Turn S A) (ends : ℕ → S → A) (len : ℕ) (count : S → ℕ) (P : A → Type 0)
+    (turns : (p : ℕ) (s : S) → p < len → Counts count P (count s) (item p s))
+    (at-end : (p : ℕ) (s : S) → count s ≤ len → P (ends p s)) where
+  onward : (n p : ℕ) (s : S) (t : Turn S A) → count s ≤ p → Counts count P (count s) t → ((k : ℕ) (next : S) → count next ≤ suc p → P (walk item ends n k (suc p) next))
+      → P (elim t [ stop a ↦ a | goes width next ↦ walk item ends n (width - 1) (suc p) next ])
+  onward n p s (stop a) h c rest = c
+  onward n p s (goes width next) h c rest = rest (width - 1) next (omega arith)
+
+  within : (n k p : ℕ) (s : S) → n + p ≤ len → count s ≤ p → P (walk item ends n k p s)
+  unfolding walk
+  within zero k p s h c = at-end p s (omega arith)
+  within (suc n) (suc k) p s h c = within n k (suc p) s (omega arith) (omega arith)
+  within (suc n) zero p s h c = onward n p s (item p s) c (turns p s (omega arith)) (λ k next. within n k (suc p) next (omega arith))
+
+  pub walk-counts : (s : S) → count s ≡ 0 → P (walkFrom item ends len 0 s)
+  unfolding walkFrom
+  walk-counts s e = within (len - 0) 0 0 s (omega arith) (omega arith)
+
+-- ---- A text
+
+-- an answer's offset and count are at most this, and its number one of these
+abbrev pub Bounded : ℕ → List ℕ → Answer → Type 0
+Bounded len numbers answer = (answer .offset ≤ len) × (among (answer .number) numbers ≡ true) × (answer .count ≤ len)
+
+module _ (text : List ℕ) (numbers : List ℕ) (has-23 : among 23 numbers ≡ true) (has-25 : among 25 numbers ≡ true) where
+  abbrev CountIn : Answer → Type 0
+  CountIn answer = answer .count ≤ length text
+
+  after-counts : (place : Option ℕ) (walked : Answer) → CountIn walked → CountIn (afterUtf8 place walked)
+  unfolding afterUtf8
+  after-counts none walked h = h
+  after-counts (some p) walked h = omega arith
+
+  text-counts : (version : ℕ) (walked : Answer) → CountIn walked → CountIn (checkText version text walked)
+  unfolding checkText afterVersion
+  text-counts version walked h = by-test CountIn (isVersion version) _ _ (λ _. after-counts (illFormed text) walked h) (λ _. omega arith)
+
+  -- a check's answer, if its walk's is
+  pub check-bounded : (version : ℕ) (walked : Answer) → Bounded (length text) numbers walked → Bounded (length text) numbers (checkText version text walked)
+  check-bounded version walked h =
+      let fits = check-fits text numbers has-23 has-25 version walked (h .0, h .1) in
+      (fits .0, fits .1, text-counts version walked (h .2))

@@ -1,0 +1,128 @@
+-- A text for every number in the list of every check, most of them from document 01's table of refusals: the lists name no number that their check never answers.
+-- Assumes nothing.
+use Prim.Native.Nat.{ℕ}
+use Prim.Native.Char.{code}
+use mathlib.Core.Path.{_≡_, refl}
+use mathlib.Core.Bool.{true, false}
+use mathlib.Core.List.{List, [], _∷_, _++_}
+use mathlib.Core.Option.{none, some}
+use Rattle.luck_text.specs.Bytes.{ascii, if_then_else_, among, isDigit, run, digitValue, numeralFrom, numeral}
+use Rattle.luck_text.specs.Walk.{walk, walkFrom}
+use Rattle.luck_token.specs.Version.{isVersion, versions, has, rulesOf}
+use Rattle.luck_token.specs.Literal.{isShort}
+use Rattle.luck_utf8.specs.Utf8.{rfc3629, tailsOf, follow, widthBy, sequence, sequenceAt, noneIllFormed, illFormed}
+use Rattle.luck_answer.specs.Answer.{afterVersion, afterUtf8, checkText}
+use Rattle.luck_pattern.specs.Captures.{closeLatest, isClosed, allClosed}
+use Rattle.luck_pattern.specs.Pattern.{headOf, escapeOf, escapeAt, memberAt, memberBy, memberTurn, membersEnd, firstMember, setEnd, isEmptySet, setAs, setRead, escapeAs, escapeRead, onward, afterClose, headTurn, patternTurn, patternEnd, patternWalk, checkPattern}
+use Rattle.luck_pattern.specs.Replacement.{escaped, pieces, allowsDigit, piecesWalk, checkReplacement}
+use Rattle.luck_format.specs.Format.{isFlag, isModifier, getFormat, scanPrecision, scanWidth, scanFormat, modifiersAt, isConversion, flagsFor, flagsRun, takesPrecision, afterTwoDigits, goodModifiers, conversionTurn, specifierTurn, percentTurn, formatTurn, formatEnd, formatWalk, checkFormat}
+use Rattle.luck_format.specs.Date.{secondBytes, isPair, singleWidth, pairWidth, conversionWidth, dateTurn, dateEnd, isStarT, isTable, conversionsWalk, dateWalk, checkDate}
+use Rattle.luck_pack.specs.Pack.{getnumlimit, fixedString, numberedOption, getoption, kindOf, numberOr, luckSizeof, luckSize, maxalign, isPowerOfTwo, isMisaligned, aligned, variable, alignBy, alignmentOf, alignToNext, kindTurn, optionTurn, packTurn, packEnd, packWalk, checkPack}
+use Rattle.luck_linter.specs.StringLiteral.{isKind, bodyWalk, isNumericEscape, hasNumericEscape, withSpan, checkBody, checkShort, afterText, checkLiteral}
+use Rattle.luck_linter.specs.Checks.{Check, pattern, format, date, replacement, pack, literal, answer, kindCheck, numbers}
+
+-- ---- Texts
+
+-- under a version, a text gives a number
+pub data Example : Type 0 where
+  gives : ℕ → List ℕ → ℕ → Example
+
+-- byte FF, and version 7
+abbrev unread : List Example
+unread = gives 1 (0xFF ∷ []) 23 ∷ gives 7 [] 25 ∷ []
+
+abbrev patterns : List Example
+patterns =
+    gives 1 (ascii "()%1") 0
+    ∷ gives 1 (ascii "[%") 1
+    ∷ gives 1 (ascii "[]a") 8
+    ∷ gives 1 (ascii "[^]") 9
+    ∷ gives 1 (ascii "a%f") 10
+    ∷ gives 1 (ascii "(a") 11
+    ∷ gives 1 (ascii "(((((((((((((((((((((((((((((((((") 12
+    ∷ gives 1 (ascii "(a%1)") 13
+    ∷ unread
+
+abbrev formats : List Example
+formats =
+    gives 1 (ascii "%d%s") 0
+    ∷ gives 1 (ascii "a%") 1
+    ∷ gives 1 (ascii "%y") 2
+    ∷ gives 1 (ascii "%------d") 3
+    ∷ gives 1 (ascii "%123d") 4
+    ∷ gives 1 (ascii "%.123d") 5
+    ∷ gives 4 (ascii "%#d") 6
+    ∷ gives 4 (ascii "%000000000000000000000d") 7
+    ∷ unread
+
+abbrev dates : List Example
+dates = gives 2 (ascii "%Y") 0 ∷ gives 2 (ascii "%") 19 ∷ gives 2 (ascii "%Q") 22 ∷ unread
+
+-- with any count of captures, and with one
+abbrev replacements : List Example
+replacements = gives 2 (ascii "%1") 0 ∷ gives 2 (ascii "a%") 19 ∷ gives 2 (ascii "%x") 20 ∷ unread
+
+abbrev oneCapture : List Example
+oneCapture = replacements ++ (gives 2 (ascii "%2") 21 ∷ [])
+
+abbrev packs : List Example → List Example
+packs more =
+    gives 1 (ascii "!5j") 0 ∷ gives 1 (ascii "b1") 14 ∷ gives 1 (ascii "c") 15 ∷ gives 1 (ascii "i17") 16 ∷ gives 1 (ascii "!8i3") 17 ∷ more
+
+abbrev packsizes : List Example
+packsizes = packs (gives 1 (ascii "bz") 18 ∷ unread)
+
+-- the same texts as literals
+abbrev quoted : List Example → List Example
+quoted [] = []
+quoted (gives version text number ∷ more) = gives version (code "\"" ∷ (text ++ (code "\"" ∷ []))) number ∷ quoted more
+
+abbrev pub examples : List (Check × List Example)
+examples =
+    (pattern, patterns)
+    ∷ (format, formats)
+    ∷ (date, dates)
+    ∷ (replacement none, replacements)
+    ∷ (replacement (some 9), replacements)
+    ∷ (replacement (some 1), oneCapture)
+    ∷ (pack false, packs unread)
+    ∷ (pack true, packsizes)
+    ∷ (literal (code "P") none 0, quoted patterns)
+    ∷ (literal (code "F") none 0, quoted formats)
+    ∷ (literal (code "D") none 0, quoted dates)
+    ∷ (literal (code "G") none 0, quoted replacements)
+    ∷ (literal (code "G") (some 1) 0, quoted oneCapture)
+    ∷ (literal (code "K") none 0, quoted (packs unread))
+    ∷ (literal (code "S") none 0, quoted packsizes)
+    ∷ (literal (code "Q") none 0, gives 1 [] 30 ∷ [])
+    ∷ []
+
+-- ---- What is said of them
+
+-- the numbers that a check answers to its examples, and those that they name
+abbrev pub answers : Check → List Example → List ℕ
+answers check [] = []
+answers check (gives version text number ∷ more) = answer check version text .number ∷ answers check more
+
+abbrev pub named : List Example → List ℕ
+named [] = []
+named (gives version text number ∷ more) = number ∷ named more
+
+abbrev pub Each : (Check → List Example → Type 0) → List (Check × List Example) → Type 0
+Each P [] = Unit {0}
+Each P (of ∷ more) = P (of .0) (of .1) × Each P more
+
+-- what is computed
+unfoldable pub computed : Unit {0}
+unfolding if_then_else_ among isDigit run digitValue numeralFrom numeral walk walkFrom isVersion versions has rulesOf isShort rfc3629 tailsOf follow widthBy sequence sequenceAt noneIllFormed illFormed afterVersion afterUtf8 checkText closeLatest isClosed allClosed headOf escapeOf escapeAt memberAt memberBy memberTurn membersEnd firstMember setEnd isEmptySet setAs setRead escapeAs escapeRead onward afterClose headTurn patternTurn patternEnd patternWalk checkPattern escaped pieces allowsDigit piecesWalk checkReplacement isFlag isModifier getFormat scanPrecision scanWidth scanFormat modifiersAt isConversion flagsFor flagsRun takesPrecision afterTwoDigits goodModifiers conversionTurn specifierTurn percentTurn formatTurn formatEnd formatWalk checkFormat secondBytes isPair singleWidth pairWidth conversionWidth dateTurn dateEnd isStarT isTable conversionsWalk dateWalk checkDate getnumlimit fixedString numberedOption getoption kindOf numberOr luckSizeof luckSize maxalign isPowerOfTwo isMisaligned aligned variable alignBy alignmentOf alignToNext kindTurn optionTurn packTurn packEnd packWalk checkPack isKind bodyWalk isNumericEscape hasNumericEscape withSpan checkBody checkShort afterText checkLiteral kindCheck
+computed = tt
+
+-- each text gives its number
+pub examples-hold : Each (λ check list. answers check list ≡ named list) examples
+unfolding computed
+examples-hold = (refl, (refl, (refl, (refl, (refl, (refl, (refl, (refl, (refl, (refl, (refl, (refl, (refl, (refl, (refl, (refl, tt))))))))))))))))
+
+-- the numbers of a check's list are those of its examples: one that is added there needs a text here
+pub examples-whole : Each (λ check list. numbers check ≡ named list) examples
+unfolding computed
+examples-whole = (refl, (refl, (refl, (refl, (refl, (refl, (refl, (refl, (refl, (refl, (refl, (refl, (refl, (refl, (refl, (refl, tt))))))))))))))))
