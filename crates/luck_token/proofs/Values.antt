@@ -14,7 +14,6 @@ use lib.Seq.{take-all, take-suc, drop-length, drop-cons, getD-drop, length-take-
 use lib.Dec.{eqb, leb, ltb}
 use borrow.Author.Tests.{lt-ltb, le-ltb, le-leb, lt-leb, leb-true, ltb-true}
 use Rattle.luck_text.specs.Bytes.{if_then_else_, byteAt, part}
-use Rattle.luck_text.specs.Scan.{neither}
 use Rattle.luck_text.specs.Walk.{Turn, walkFrom}
 use Rattle.luck_text.specs.Walk.Turn.{stop, goes}
 use Rattle.luck_token.specs.Version.{isVersion, rulesOf}
@@ -37,7 +36,7 @@ use Rattle.luck_token.specs.Literal.{
   literalValue,
 }
 use Rattle.luck_token.specs.Decode.{Outcome, value, refused, withRoom, ofText, decodeString, answerOf, numbered, outputOf}
-use Rattle.luck_token.specs.Inner.{IsPiece, Lies, sizeOf, firstSpecial, secondSpecial, plain, Within, Written}
+use Rattle.luck_token.specs.Inner.{IsPiece, Lies, sizeOf, plain, Within, Written}
 use Rattle.luck_output.specs.Output.{stores}
 use Rattle.luck_token.specs.declared.version.Rules.{Rules}
 use Rattle.luck_token.specs.declared.string.Piece.{Piece as Found}
@@ -48,10 +47,6 @@ use Rattle.luck_text.proofs.Cases.{by-test, if-true, if-false, and-left}
 use Rattle.luck_output.proofs.Outputs.{stores-fit, part-length}
 use Rattle.luck_token.proofs.Literals.{plain-is, quoted}
 use Rattle.luck_text.proofs.Walk.{walk-end, walk-stop, walk-goes, walk-related}
-
--- a byte that is neither of the special ones is plain
-pub as-plain : (long : Bool) (x : ℕ) {first second : ℕ} → first ≡ firstSpecial long → second ≡ secondSpecial long → neither first second x ≡ true → plain long x ≡ true
-as-plain long x f g e = rw (← f, ← g) e
 
 -- ---- The walk over the pieces
 
@@ -208,12 +203,6 @@ module _ (long : Bool) (rules : Rules) (body output₀ output : List ℕ) (at n 
       let s = part-length body at end l i in
       subst (λ (k : ℕ). Kept long rules body output₀ new end (n + k)) s
       (kept-bytes (part body at end) new end (omega arith) l i (plain-part long rules body (valueOf long rules body) at end (kept .0) (kept .4) l i f) w)
-
-  -- blocks without a special byte, by what `blocks_end` and `put_part` promise
-  pub kept-blocks : {first second : ℕ} → first ≡ firstSpecial long → second ≡ secondSpecial long → (new : List ℕ) (end : ℕ)
-      → (at ≤ end) × (end ≤ length body) × ((j : ℕ) → at ≤ j → j < end → neither first second (byteAt body j) ≡ true)
-      → new ≡ stores output n (part body at end) → Kept long rules body output₀ new end (n + (end - at))
-  kept-blocks f g new end e w = kept-part new end (e .0) (e .1) (λ j l m. as-plain long (byteAt body j) f g (e .2 j l m)) w
 
   pub kept-end : length body ≤ at
       → (size.Length n ≡ sizeOf (valueOf long rules body)) × (Within (size.Length n) (length body) × Written (valueOf long rules body) output₀ output)

@@ -41,17 +41,10 @@ abbrev pub sizeOf : Option (List ℕ) → Size
 sizeOf none = size.Malformed
 sizeOf (some bytes) = size.Length (length bytes)
 
--- the bytes of a long or a short string that are no piece by themselves: those that begin a line break, or an escape, one byte that stands here twice
-abbrev pub firstSpecial : Bool → ℕ
-firstSpecial true = code "\r"
-firstSpecial false = code "\\"
-
-abbrev pub secondSpecial : Bool → ℕ
-secondSpecial true = code "\n"
-secondSpecial false = code "\\"
-
+-- a byte of a long or a short string that is a piece by itself: no line break begins with it, or no escape, for which one byte stands twice
 abbrev pub plain : Bool → ℕ → Bool
-plain long b = neither (firstSpecial long) (secondSpecial long) b
+plain true b = neither (code "\r") (code "\n") b
+plain false b = neither (code "\\") (code "\\") b
 
 -- a value has no more bytes than its body
 abbrev pub Within : Size → ℕ → Type 0

@@ -11,7 +11,7 @@ ghost use Rattle.luck_utf8.specs.Utf8.{utf8Bytes};
 ghost use Rattle.luck_token.specs.Whitespace.{stripLineBreak};
 ghost use Rattle.luck_token.specs.Literal.{isShort, shortStringBody, placesOf, bracketAt, bracketWidth, otherEscape, escapeOf, lineBreakEscape, hexEscape, decimalEscape, allowsDigits, allowsCodePoint, unicodeEscape, escapeAt, longPiece, pieceAt, valueOf, literalValue};
 ghost use Rattle.luck_token.specs.Decode.{withRoom, decodeString, answerOf, numbered, outputOf};
-ghost use Rattle.luck_token.specs.Inner.{IsPiece, sizeOf, firstSpecial, secondSpecial, Within, Written};
+ghost use Rattle.luck_token.specs.Inner.{IsPiece, sizeOf, plain, Within, Written};
 use crate::version;
 use crate::version::Rules;
 use crate::whitespace;
@@ -310,23 +310,35 @@ fn piece_at(body: &[u8], at: usize, long: bool, rules: Rules) -> Piece
     Piece::Byte { value, width: 1 }
 }
 
-// The bytes that are no piece by themselves: those that begin a line break of a long string, or the backslash of a short one, for both.
-fn first_special(long: bool) -> u8
-    ensures { λ r. ⌜ r ≡ firstSpecial long ⌝ }
+// Whether the byte is a piece by itself.
+fn is_plain(byte: u8, long: bool) -> bool
+    ensures { λ r. ⌜ r ≡ plain long byte ⌝ }
 {
     if long {
-        return b'\r';
+        return blocks::neither(b'\r', b'\n', byte);
     }
-    b'\\'
+    blocks::neither(b'\\', b'\\', byte)
 }
 
-fn second_special(long: bool) -> u8
-    ensures { λ r. ⌜ r ≡ secondSpecial long ⌝ }
+// The place behind the blocks that follow `at` and have no other byte than such.
+fn plain_blocks(body: &[u8], at: usize, long: bool) -> usize
+    requires { ⌜ at ≤ length (now body) ⌝ }
+    ensures { λ r. ⌜ (at ≤ r) × (r ≤ length (now (body .entry))) × ((k : ℕ) → at ≤ k → k < r → plain long (byteAt (now (body .entry)) k) ≡ true) ⌝ }
 {
     if long {
-        return b'\n';
+        return blocks::blocks_end(body, at, b'\r', b'\n');
     }
-    b'\\'
+    blocks::blocks_end(body, at, b'\\', b'\\')
+}
+
+// Whether a body has a byte that is no piece by itself.
+fn has_special(body: &[u8], long: bool) -> bool
+    ensures { λ r. ⌜ (r ≡ false → (k : ℕ) → k < length (now (body .entry)) → plain long (byteAt (now (body .entry)) k) ≡ true) ⌝ }
+{
+    if long {
+        return blocks::has_either(body, b'\r', b'\n');
+    }
+    blocks::has_either(body, b'\\', b'\\')
 }
 
 pub enum Size {
@@ -341,15 +353,13 @@ fn write(body: &[u8], long: bool, rules: Rules, output: &mut [u8]) -> Size
     ensures within { λ r. ⌜ Within r (length (now (body .entry))) ⌝ }
     ensures output { λ r. ⌜ Written (valueOf long rules (now (body .entry))) (now (output .entry)) (now (output .exit)) ⌝ }
 {
-    let first = first_special(long);
-    let second = second_special(long);
     let mut at = 0;
     let mut size = 0;
     let mut singles: u32 = 0;
     while at < body.len() {
         if singles == 0 {
             singles = 16;
-            let end = blocks::blocks_end(body, at, first, second);
+            let end = plain_blocks(body, at, long);
             output::put_part(body, at, end, output, size);
             size += end - at;
             at = end;
@@ -357,7 +367,7 @@ fn write(body: &[u8], long: bool, rules: Rules, output: &mut [u8]) -> Size
         }
         singles -= 1;
         let byte = body[at];
-        if blocks::neither(first, second, byte) {
+        if is_plain(byte, long) {
             output::put_byte(output, size, byte);
             size += 1;
             at += 1;
@@ -447,7 +457,7 @@ fn decode_body(body: &[u8], long: bool, rules: Rules, output: &mut [u8]) -> Deco
     ensures output { λ r. ⌜ now (output .exit) ≡ outputOf (withRoom (length (now (output .entry))) (valueOf long rules (now (body .entry)))) (now (output .entry)) ⌝ }
 {
     if 64 <= body.len() {
-        if !blocks::has_either(body, first_special(long), second_special(long)) {
+        if !has_special(body, long) {
             return decode_plain(body, output);
         }
     }

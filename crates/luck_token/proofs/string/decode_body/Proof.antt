@@ -5,21 +5,14 @@ use mathlib.Core.Option.{Option}
 use Prim.Native.Nat.{ℕ}
 use lib.ListN.{length}
 use borrow.Author.Tests.{not-true}
-use Rattle.luck_text.specs.Bytes.{byteAt}
 use Rattle.luck_token.specs.Decode.{withRoom, answerOf, outputOf}
 use Rattle.luck_token.proofs.Values as values
 use borrow.Author.Needs.{needs}
 use Rattle.luck_token.proofs.string.decode_body.Statement.{statement}
 use Rattle.luck_token.proofs.string.decode_body.Tie as tie
 
-first-special-requires : tie.Need-first-special-requires
-first-special-requires c κs = search needs
-
-second-special-requires : tie.Need-second-special-requires
-second-special-requires c κs = search needs
-
-has-either-requires : tie.Need-has-either-requires
-has-either-requires c κs = search needs
+has-special-requires : tie.Need-has-special-requires
+has-special-requires c κs = search needs
 
 decode-plain-requires : tie.Need-decode-plain-requires
 decode-plain-requires c κs = search needs
@@ -29,11 +22,8 @@ same-length c = search needs
 
 returns : tie.Need-returns
 returns c =
-    let a = c .before .before .before .before .before .before .before .before .before .before .before .args in
-    let none = c .before .before .before .before .before .has-either .ensures (not-true _ (c .before .before .before .before .if2 .taken)) in
-    let first = c .before .before .before .before .before .before .before .first-special .ensures in
-    let second = c .before .before .before .before .before .before .second-special .ensures in
-    let e = values.plain-value (a .long) (a .rules) (a .body .now) (λ k l. values.as-plain (a .long) (byteAt (a .body .now) k) first second (none k l)) in (
+    let a = c .before .before .before .before .before .before .before .before .before .args in
+    let e = values.plain-value (a .long) (a .rules) (a .body .now) (c .before .before .before .before .before .has-special .ensures (not-true _ (c .before .before .before .before .if2 .taken))) in (
       c .before .before .decode-plain .ensures .0 ∙ ap (λ (o : Option (List ℕ)). answerOf (withRoom (length (a .output .now)) o)) e,
       c .before .before .decode-plain .ensures .1 ∙ ap (λ (o : Option (List ℕ)). outputOf (withRoom (length (a .output .now)) o) (a .output .now)) e,
     )
@@ -60,9 +50,7 @@ pub decode-body-spec : {M : Type 1} → statement M
 decode-body-spec =
     tie.close
     (tie.spec
-    first-special-requires
-    second-special-requires
-    has-either-requires
+    has-special-requires
     decode-plain-requires
     same-length
     returns

@@ -14,49 +14,42 @@ use Rattle.luck_token.proofs.string.write.Statement.{statement}
 use Rattle.luck_token.proofs.string.write.Tie as tie
 
 abbrev Inv-loop : tie.InvT-loop
-Inv-loop body long rules output₀ first second at₀ size₀ singles₀ output at size singles = values.Kept long rules body output₀ output at size
+Inv-loop body long rules output₀ at₀ size₀ singles₀ output at size singles = values.Kept long rules body output₀ output at size
 
 abbrev μ-loop : tie.MeasureT-loop
-μ-loop body long rules output₀ first second at₀ size₀ singles₀ output at size singles = 17 * (length body - at) + (16 - singles)
-
-first-special-requires : tie.Need-first-special-requires Inv-loop μ-loop
-first-special-requires c κs = search needs
-
-second-special-requires : tie.Need-second-special-requires Inv-loop μ-loop
-second-special-requires c κs = search needs
+μ-loop body long rules output₀ at₀ size₀ singles₀ output at size singles = 17 * (length body - at) + (16 - singles)
 
 loop-holds : tie.Need-loop-holds Inv-loop μ-loop
 loop-holds c = ([], refl, omega arith, omega arith, values.start _ _ _, record { same = refl; front = λ _. refl })
 
 -- ---- Blocks
 
-blocks-end-requires : tie.Need-blocks-end-requires Inv-loop μ-loop
-blocks-end-requires c κs = omega arith
+plain-blocks-requires : tie.Need-plain-blocks-requires Inv-loop μ-loop
+plain-blocks-requires c κs = omega arith
 
 put-part-requires : tie.Need-put-part-requires Inv-loop μ-loop
-put-part-requires c κs = let e = c .before .blocks-end .ensures in (e .0, e .1)
+put-part-requires c κs = let e = c .before .plain-blocks .ensures in (e .0, e .1)
 
 sub-size : tie.Need-sub-size Inv-loop μ-loop
-sub-size c = let e = c .before .before .before .before .blocks-end .ensures in omega arith
+sub-size c = let e = c .before .before .before .before .plain-blocks .ensures in omega arith
 
 add-size : tie.Need-add-size Inv-loop μ-loop
 add-size c =
-    let e = c .before .before .before .before .blocks-end .ensures in
+    let e = c .before .before .before .before .plain-blocks .ensures in
     let l = c .before .before .before .before .before .before .before .loop in
     omega (arith, l .inv .2, e .0, e .1)
 
 loop-less : tie.Need-loop-less Inv-loop μ-loop
 loop-less c =
-    let e = c .before .before .before .before .blocks-end .ensures in
+    let e = c .before .before .before .before .plain-blocks .ensures in
     omega (arith, e .0, e .1, c .before .before .before .before .before .if1 .taken)
 
 loop-again : tie.Need-loop-again Inv-loop μ-loop
 loop-again c =
-    let e = c .before .before .before .before .blocks-end .ensures in
+    let e = c .before .before .before .before .plain-blocks .ensures in
     let l = c .before .before .before .before .before .before .before .loop in
-    let a = c .before .before .before .before .before .before .before .before .before .before .before .before .args in
-    values.kept-blocks (a .long) (a .rules) (a .body .now) (a .output .now) (l .output) (l .at) (l .size) (l .inv) (c .before .before .before .before .before .before .before .before .before .first-special .ensures) (c .before .before .before .before .before .before .before .before .second-special .ensures)
-    _ (c .before .before .before .before .blocks-end .result) e (c .before .before .put-part .ensures)
+    let a = c .before .before .before .before .before .before .before .before .before .before .args in
+    values.kept-part (a .long) (a .rules) (a .body .now) (a .output .now) (l .output) (l .at) (l .size) (l .inv) _ (c .before .before .before .before .plain-blocks .result) (e .0) (e .1) (e .2) (c .before .before .put-part .ensures)
 
 -- ---- Plain bytes
 
@@ -66,8 +59,8 @@ sub-singles c = omega arith
 shared-slice-read-byte : tie.Need-shared-slice-read-byte Inv-loop μ-loop
 shared-slice-read-byte c = search needs
 
-neither-requires : tie.Need-neither-requires Inv-loop μ-loop
-neither-requires c κs = search needs
+is-plain-requires : tie.Need-is-plain-requires Inv-loop μ-loop
+is-plain-requires c κs = search needs
 
 put-byte-requires : tie.Need-put-byte-requires Inv-loop μ-loop
 put-byte-requires c κs = search needs
@@ -84,8 +77,8 @@ loop-less-2 c = omega (arith, c .before .before .before .before .before .before 
 loop-again-2 : tie.Need-loop-again-2 Inv-loop μ-loop
 loop-again-2 c =
     let l = c .before .before .before .before .before .before .before .before .before .loop in
-    let a = c .before .before .before .before .before .before .before .before .before .before .before .before .before .before .args in
-    let plain = values.as-plain (a .long) (byteAt (a .body .now) (l .at)) (c .before .before .before .before .before .before .before .before .before .before .before .first-special .ensures) (c .before .before .before .before .before .before .before .before .before .before .second-special .ensures) (sym (c .before .before .before .before .before .neither .ensures) ∙ c .before .before .before .before .if2 .taken) in
+    let a = c .before .before .before .before .before .before .before .before .before .before .before .before .args in
+    let plain = sym (c .before .before .before .before .before .is-plain .ensures) ∙ c .before .before .before .before .if2 .taken in
     let is = values.plain-piece (a .long) (a .rules) (a .body .now) (l .at) plain in
     values.kept-piece (a .long) (a .rules) (a .body .now) (a .output .now) (l .output) (l .at) (l .size) (l .inv) (byteAt (a .body .now) (l .at) ∷ []) _ 1 1 refl is
     (omega arith, omega (arith, c .before .before .before .before .before .before .before .before .loop-test .taken)) (omega arith) (c .before .before .put-byte .ensures)
@@ -106,21 +99,21 @@ add-size-3 c = omega (arith, c .before .before .before .before .before .before .
 
 add-at-2 : tie.Need-add-at-2 Inv-loop μ-loop
 add-at-2 c =
-    let a = c .before .before .before .before .before .before .before .before .before .before .before .before .before .before .before .before .before .before .args in
+    let a = c .before .before .before .before .before .before .before .before .before .before .before .before .before .before .before .before .args in
     let found = c .before .before .before .before .before .piece .given in
     let t = values.seen (a .long) (a .rules) (a .body .now) (Byte (found .0 .0) (found .0 .1 .0)) (found .1) (c .before .before .before .before .before .before .before .piece-at .ensures) in
     omega (arith, t .inside)
 
 loop-less-3 : tie.Need-loop-less-3 Inv-loop μ-loop
 loop-less-3 c =
-    let a = c .before .before .before .before .before .before .before .before .before .before .before .before .before .before .before .before .before .before .args in
+    let a = c .before .before .before .before .before .before .before .before .before .before .before .before .before .before .before .before .args in
     let found = c .before .before .before .before .before .piece .given in
     let t = values.seen (a .long) (a .rules) (a .body .now) (Byte (found .0 .0) (found .0 .1 .0)) (found .1) (c .before .before .before .before .before .before .before .piece-at .ensures) in
     omega (arith, t .inside)
 
 loop-again-3 : tie.Need-loop-again-3 Inv-loop μ-loop
 loop-again-3 c =
-    let a = c .before .before .before .before .before .before .before .before .before .before .before .before .before .before .before .before .before .before .args in
+    let a = c .before .before .before .before .before .before .before .before .before .before .before .before .before .before .before .before .args in
     let found = c .before .before .before .before .before .piece .given in
     let t = values.seen (a .long) (a .rules) (a .body .now) (Byte (found .0 .0) (found .0 .1 .0)) (found .1) (c .before .before .before .before .before .before .before .piece-at .ensures) in
     let l = c .before .before .before .before .before .before .before .before .before .before .before .before .before .loop in
@@ -131,35 +124,35 @@ enum-known-piece-2 c = search needs
 
 put-char-requires : tie.Need-put-char-requires Inv-loop μ-loop
 put-char-requires c κs =
-    let a = c .before .before .before .before .before .before .before .before .before .before .before .before .before .before .before .args in
+    let a = c .before .before .before .before .before .before .before .before .before .before .before .before .before .args in
     let found = c .before .before .piece2 .given in
     let t = values.seen (a .long) (a .rules) (a .body .now) (Character (found .0 .0) (found .0 .1 .0)) (found .1) (c .before .before .before .before .piece-at .ensures) in
     t .inside .0
 
 add-size-4 : tie.Need-add-size-4 Inv-loop μ-loop
 add-size-4 c =
-    let a = c .before .before .before .before .before .before .before .before .before .before .before .before .before .before .before .before .before .before .args in
+    let a = c .before .before .before .before .before .before .before .before .before .before .before .before .before .before .before .before .args in
     let found = c .before .before .before .before .before .piece2 .given in
     let t = values.seen (a .long) (a .rules) (a .body .now) (Character (found .0 .0) (found .0 .1 .0)) (found .1) (c .before .before .before .before .before .before .before .piece-at .ensures) in
     omega (arith, c .before .before .before .before .before .before .before .before .before .before .before .before .before .loop .inv .2, t .inside, c .before .before .put-char .ensures .0, values.four-bytes (found .0 .0))
 
 add-at-3 : tie.Need-add-at-3 Inv-loop μ-loop
 add-at-3 c =
-    let a = c .before .before .before .before .before .before .before .before .before .before .before .before .before .before .before .before .before .before .args in
+    let a = c .before .before .before .before .before .before .before .before .before .before .before .before .before .before .before .before .args in
     let found = c .before .before .before .before .before .piece2 .given in
     let t = values.seen (a .long) (a .rules) (a .body .now) (Character (found .0 .0) (found .0 .1 .0)) (found .1) (c .before .before .before .before .before .before .before .piece-at .ensures) in
     omega (arith, t .inside)
 
 loop-less-4 : tie.Need-loop-less-4 Inv-loop μ-loop
 loop-less-4 c =
-    let a = c .before .before .before .before .before .before .before .before .before .before .before .before .before .before .before .before .before .before .args in
+    let a = c .before .before .before .before .before .before .before .before .before .before .before .before .before .before .before .before .args in
     let found = c .before .before .before .before .before .piece2 .given in
     let t = values.seen (a .long) (a .rules) (a .body .now) (Character (found .0 .0) (found .0 .1 .0)) (found .1) (c .before .before .before .before .before .before .before .piece-at .ensures) in
     omega (arith, t .inside)
 
 loop-again-4 : tie.Need-loop-again-4 Inv-loop μ-loop
 loop-again-4 c =
-    let a = c .before .before .before .before .before .before .before .before .before .before .before .before .before .before .before .before .before .before .args in
+    let a = c .before .before .before .before .before .before .before .before .before .before .before .before .before .before .before .before .args in
     let found = c .before .before .before .before .before .piece2 .given in
     let t = values.seen (a .long) (a .rules) (a .body .now) (Character (found .0 .0) (found .0 .1 .0)) (found .1) (c .before .before .before .before .before .before .before .piece-at .ensures) in
     let l = c .before .before .before .before .before .before .before .before .before .before .before .before .before .loop in
@@ -171,21 +164,21 @@ enum-known-piece-3 c = search needs
 
 add-at-4 : tie.Need-add-at-4 Inv-loop μ-loop
 add-at-4 c =
-    let a = c .before .before .before .before .before .before .before .before .before .before .before .before .before .before .args in
+    let a = c .before .before .before .before .before .before .before .before .before .before .before .before .args in
     let found = c .before .piece3 .given in
     let t = values.seen (a .long) (a .rules) (a .body .now) (Nothing (found .0 .0)) (found .1) (c .before .before .before .piece-at .ensures) in
     omega (arith, t .inside)
 
 loop-less-5 : tie.Need-loop-less-5 Inv-loop μ-loop
 loop-less-5 c =
-    let a = c .before .before .before .before .before .before .before .before .before .before .before .before .before .before .args in
+    let a = c .before .before .before .before .before .before .before .before .before .before .before .before .args in
     let found = c .before .piece3 .given in
     let t = values.seen (a .long) (a .rules) (a .body .now) (Nothing (found .0 .0)) (found .1) (c .before .before .before .piece-at .ensures) in
     omega (arith, t .inside)
 
 loop-again-5 : tie.Need-loop-again-5 Inv-loop μ-loop
 loop-again-5 c =
-    let a = c .before .before .before .before .before .before .before .before .before .before .before .before .before .before .args in
+    let a = c .before .before .before .before .before .before .before .before .before .before .before .before .args in
     let found = c .before .piece3 .given in
     let t = values.seen (a .long) (a .rules) (a .body .now) (Nothing (found .0 .0)) (found .1) (c .before .before .before .piece-at .ensures) in
     let l = c .before .before .before .before .before .before .before .before .before .loop in
@@ -202,7 +195,7 @@ same-length c = c .before .before .before .before .before .before .before .befor
 returns : tie.Need-returns Inv-loop μ-loop
 returns c =
     let l = c .before .before .before .before .before .before .before .before .loop in
-    let a = c .before .before .before .before .before .before .before .before .before .before .before .before .before .args in
+    let a = c .before .before .before .before .before .before .before .before .before .before .before .args in
     let t = values.seen (a .long) (a .rules) (a .body .now) Malformed (c .enum-told .given .1) (c .before .before .piece-at .ensures) in
     values.kept-bad (a .long) (a .rules) (a .body .now) (a .output .now) (l .output) (l .at) (l .size) (l .inv) (t .is) (c .before .before .before .before .before .before .before .loop-test .taken)
 
@@ -212,7 +205,7 @@ same-length-2 c = c .before .loop .inv .5 .same
 returns-2 : tie.Need-returns-2 Inv-loop μ-loop
 returns-2 c =
     let l = c .before .loop in
-    let a = c .before .before .before .before .before .before .args in
+    let a = c .before .before .before .before .args in
     values.kept-end (a .long) (a .rules) (a .body .now) (a .output .now) (l .output) (l .at) (l .size) (l .inv) (c .loop-test .left)
 
 pub write-spec : {M : Type 1} → statement M
@@ -221,10 +214,8 @@ write-spec =
     (tie.spec
     Inv-loop
     μ-loop
-    first-special-requires
-    second-special-requires
     loop-holds
-    blocks-end-requires
+    plain-blocks-requires
     put-part-requires
     sub-size
     add-size
@@ -232,7 +223,7 @@ write-spec =
     loop-again
     sub-singles
     shared-slice-read-byte
-    neither-requires
+    is-plain-requires
     put-byte-requires
     add-size-2
     add-at
