@@ -194,8 +194,9 @@ typedef struct {
  * 9 invalid use of '%' in the replacement; 10 invalid capture index in the replacement.
  *
  * With a pattern that luck_check_pattern accepts, and a replacement that luck_check_replacement accepts for its count under a
- * version other than 1, the six versions give the same answer and the same output, and none raises; 28, which real Lua raises
- * as "pattern too complex", can still be the answer.
+ * version other than 1, the six versions give the same answer and the same output, and none raises; with one that it accepts
+ * for its count under version 1, the trial under version 1 does not raise. 28, which real Lua raises as "pattern too complex",
+ * can still be the answer.
  */
 luck_trial luck_gsub_trial(uint32_t version, const uint8_t *pattern, size_t pattern_len, const uint8_t *replacement, size_t replacement_len,
                            const uint8_t *subject, size_t subject_len, uint32_t budget, uint8_t *output, size_t room);
