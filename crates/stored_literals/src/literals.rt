@@ -2,7 +2,7 @@
 // the answer's number in one byte, its offset and the value's length in two, and the value.
 ghost use Prim.Native.Nat.{_+_, _<_, _≤_};
 ghost use lib.ListN.{length};
-ghost use Rattle.stored_answers.specs.Places.{Lies, LiesBehind};
+ghost use Rattle.stored_literals.specs.Literals.{Lies, LiesBehind};
 ghost use Rattle.stored_records.specs.Tally.{Passes};
 use luck_token::string;
 use luck_token::string::Decoded;

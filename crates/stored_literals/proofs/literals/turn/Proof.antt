@@ -1,11 +1,11 @@
--- `stored_answers::literals::turn` meets its contract. Assumes nothing.
+-- `stored_literals::literals::turn` meets its contract. Assumes nothing.
 use native.Mathlib.Omega.{arith}
 use mathlib.Core.Path.{subst}
 use lib.ListN.{length}
-use Rattle.stored_answers.specs.Places.{LiesBehind}
+use Rattle.stored_literals.specs.Literals.{LiesBehind}
 use borrow.Author.Needs.{needs}
-use Rattle.stored_answers.proofs.literals.turn.Statement.{statement}
-use Rattle.stored_answers.proofs.literals.turn.Tie as tie
+use Rattle.stored_literals.proofs.literals.turn.Statement.{statement}
+use Rattle.stored_literals.proofs.literals.turn.Tie as tie
 
 record-at-requires : tie.Need-record-at-requires
 record-at-requires c κs = search needs
