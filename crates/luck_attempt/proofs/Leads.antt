@@ -47,7 +47,8 @@ use Rattle.luck_match.specs.declared.capture.Pair.{Pair}
 use Rattle.luck_matcher.specs.declared.matcher.Attempt.{Attempt}
 use Rattle.luck_match.specs.declared.single.Reached.{Reached}
 use Rattle.luck_match.proofs.Items.{items-end}
-use Rattle.luck_matcher.proofs.Turns as turns
+use Rattle.luck_match.proofs.Turns as turns
+use Rattle.luck_matcher.proofs.Repeats as repeats
 
 pub false-true : _≡_ {A = Bool} false true → ⊥
 false-true e = let z : _≡_ {A = ℕ} 0 1 = cc in absurd (omega arith)
@@ -112,8 +113,8 @@ module _ (sub : List ℕ) (budget : ℕ) where
   unfolding newLevel if_then_else_
   longest-is e s cs u h =
       ⊎-elim
-      (λ l. sym (end-not-failed e 2 cs u (λ v. longestFirst ending (e - 1 - s) s 1 cs v)) ∙ turns.longer ending e s 1 cs u l)
-      (λ l. turns.shortest ending e s 1 cs u (omega arith))
+      (λ l. sym (end-not-failed e 2 cs u (λ v. longestFirst ending (e - 1 - s) s 1 cs v)) ∙ repeats.longer ending e s 1 cs u l)
+      (λ l. repeats.shortest ending e s 1 cs u (omega arith))
       (order s e)
 
   -- the longest repeat is taken
@@ -130,11 +131,11 @@ module _ (sub : List ℕ) (budget : ℕ) where
     by-reach t e = ap (λ (y : Reach). maxExpand y ending shortest 1 cs) (e ∙ w)
 
     pub test-unpaid : r .«is_spent» ≡ true → stopped 27 0 (r .steps) ≡ taken
-    test-unpaid e = turns.expand-spent ending shortest 1 cs (r .steps) ∙ by-reach (spent (r .steps)) (turns.reach-is-spent r e)
+    test-unpaid e = repeats.expand-spent ending shortest 1 cs (r .steps) ∙ by-reach (spent (r .steps)) (repeats.reach-is-spent r e)
 
     module _ (e : r .«is_spent» ≡ false) (h : shortest ≤ r .end) where
       at-reach : ending (r .end) 2 cs (r .steps) ≡ taken
-      at-reach = longest-taken (r .end) shortest cs (r .steps) h ∙ by-reach (reached (r .end) (r .steps)) (turns.reach-is r e)
+      at-reach = longest-taken (r .end) shortest cs (r .steps) h ∙ by-reach (reached (r .end) (r .steps)) (repeats.reach-is r e)
 
       pub end-unpaid : budget ≤ r .steps → stopped 27 0 (r .steps) ≡ taken
       end-unpaid l = end-spent (r .end) 2 cs (r .steps) l ∙ at-reach
@@ -152,11 +153,11 @@ module _ (sub : List ℕ) (budget : ℕ) where
 
     pub last-star : Then pat p (single x star) q
         → maxExpand (reach matchClass sub budget x (length sub - (s + 1)) (s + 1) (u + 1)) ending s 1 cs ≡ match matchClass sub budget (items pat p) s 1 cs u
-    last-star t = turns.star-on sub budget x ending s 1 cs (u + 1) _ refl ∙ rest-ends star t
+    last-star t = repeats.star-on sub budget x ending s 1 cs (u + 1) _ refl ∙ rest-ends star t
 
     pub last-plus : Then pat p (single x plus) q
         → maxExpand (reach matchClass sub budget x (length sub - (s + 1)) (s + 1) (u + 1)) ending (s + 1) 1 cs ≡ match matchClass sub budget (items pat p) s 1 cs u
-    last-plus t = turns.plus-on sub budget x ending s 1 cs (u + 1) _ refl ∙ rest-ends plus t
+    last-plus t = repeats.plus-on sub budget x ending s 1 cs (u + 1) _ refl ∙ rest-ends plus t
 
 -- ---- The first test
 
@@ -196,7 +197,7 @@ module _ (pat : List ℕ) where
           inside = at .inside;
           on = λ sub budget s t u e h f.
               ap (λ (y : ℕ). match matchClass sub budget (items pat q) y 1 [] (u + 1)) e
-              ∙ turns.once-on sub budget x (match matchClass sub budget (items pat q)) s 1 [] (u + 1)
+              ∙ repeats.once-on sub budget x (match matchClass sub budget (items pat q)) s 1 [] (u + 1)
               ∙ turns.fitting sub pat budget 0 s 1 [] u h q x once at f;
         }
 

@@ -7,3 +7,4 @@ pub mod Captures
 pub mod Places
 pub mod Items
 pub mod Reading
+pub mod Turns

@@ -1,2 +1,2 @@
-pub mod Turns
-pub mod FirstTests
+pub mod Repeats
+pub mod Passed

@@ -1,3 +1,2 @@
 // The matching of a pattern at a place of the subject, within a budget of steps, after do_match of lstrlib.c.
-pub mod ahead;
 pub mod matcher;

@@ -7,7 +7,7 @@ ghost use Rattle.luck_match.specs.Class.{matchClass};
 ghost use Rattle.luck_match.specs.Match.{newLevel, startCapture, endCapture, captureToClose, longestFirst, expand, match};
 ghost use Rattle.luck_match.specs.Inner.{AreMasks, SingleIn, singleOf, captureOf, capturesOf, positional, Sound};
 ghost use Rattle.luck_matcher.specs.Inner.{outcomeOf, AttemptIn};
-use crate::ahead;
+use luck_ahead::ahead;
 use luck_match::capture;
 use luck_match::capture::Captures;
 use luck_match::capture::Close;

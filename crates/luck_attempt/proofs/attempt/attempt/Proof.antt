@@ -14,7 +14,8 @@ use Rattle.luck_matcher.specs.Inner.{outcomeBy, outcomeOf}
 use Rattle.luck_match.proofs.Captures.{is-open, is-position}
 use Rattle.luck_attempt.proofs.Leads as leads
 use Rattle.luck_match.proofs.Singles.{fits-inside}
-use Rattle.luck_matcher.proofs.Turns as turns
+use Rattle.luck_match.proofs.Turns as turns
+use Rattle.luck_matcher.proofs.Repeats as repeats
 use Rattle.luck_attempt.proofs.attempt.attempt.Statement.{statement}
 use Rattle.luck_attempt.proofs.attempt.attempt.Tie as tie
 
@@ -34,7 +35,7 @@ unfolding outcomeOf outcomeBy
 returns c =
     let l = c .before .items in
     let a = c .before .before .before .before .args in
-    (turns.steps-spent _ (a .pattern .now) _ _ _ _ _ _ (c .if1 .taken) ∙ l .inv .0, turns.no-match _ _ _ (λ e. omega arith))
+    (turns.steps-spent _ (a .pattern .now) _ _ _ _ _ _ (c .if1 .taken) ∙ l .inv .0, repeats.no-match _ _ _ (λ e. omega arith))
 
 add-begun : tie.Need-add-begun Inv-items μ-items
 add-begun c = omega arith
@@ -73,7 +74,7 @@ returns-4 c =
     let l = c .before .before .before .before .before .items in
     let h = c .before .before .before .before .if1 .left in
     let it = subst (ItemAt (a .pattern .now) (l .at)) (c .before .enum-told2 .given .1) (c .before .before .before .read .ensures) in
-    (turns.not-at-anchor _ _ _ _ _ _ _ _ h it (c .if2 .left) ∙ l .inv .0, turns.no-match _ _ _ (λ e. omega arith))
+    (turns.not-at-anchor _ _ _ _ _ _ _ _ h it (c .if2 .left) ∙ l .inv .0, repeats.no-match _ _ _ (λ e. omega arith))
 
 enum-known-item : tie.Need-enum-known-item Inv-items μ-items
 enum-known-item c = search needs
@@ -93,7 +94,7 @@ returns-5 c =
     let l = c .before .before .before .before .before .before .before .items in
     let h = c .before .before .before .before .before .before .if1 .left in
     let it = subst (ItemAt (a .pattern .now) (l .at)) (c .before .before .before .item .given .1) (c .before .before .before .before .before .read .ensures) in
-    (turns.unfitting _ _ _ _ _ _ _ _ h _ _ _ (it .on) (sym (c .before .fits2 .ensures) ∙ not-true _ (c .if3 .taken)) ∙ l .inv .0, turns.no-match _ _ _ (λ e. omega arith))
+    (turns.unfitting _ _ _ _ _ _ _ _ h _ _ _ (it .on) (sym (c .before .fits2 .ensures) ∙ not-true _ (c .if3 .taken)) ∙ l .inv .0, repeats.no-match _ _ _ (λ e. omega arith))
 
 add-place : tie.Need-add-place Inv-items μ-items
 add-place c =
@@ -119,7 +120,7 @@ items-again c =
     let h = c .before .before .before .before .before .before .if1 .left in
     let it = subst (ItemAt (a .pattern .now) (l .at)) (c .before .before .before .item .given .1) (c .before .before .before .before .before .read .ensures) in
     let f = sym (c .before .fits2 .ensures) ∙ not-false _ (c .if3 .left) in
-    (turns.once-on _ _ _ _ _ _ _ _ ∙ turns.fitting _ _ _ _ _ _ _ _ h _ _ _ (it .on) f ∙ l .inv .0, it .on .inside, omega (arith, fits-inside _ _ _ _ f))
+    (repeats.once-on _ _ _ _ _ _ _ _ ∙ turns.fitting _ _ _ _ _ _ _ _ h _ _ _ (it .on) f ∙ l .inv .0, it .on .inside, omega (arith, fits-inside _ _ _ _ f))
 
 enum-known-item-2 : tie.Need-enum-known-item-2 Inv-items μ-items
 enum-known-item-2 c = search needs
@@ -194,7 +195,7 @@ returns-7 c =
     let l = c .before .before .before .before .before .before .before .items in
     let h = c .before .before .before .before .before .before .if1 .left in
     let it = subst (ItemAt (a .pattern .now) (l .at)) (c .before .before .before .item3 .given .1) (c .before .before .before .before .before .read .ensures) in
-    (turns.unfitting _ _ _ _ _ _ _ _ h _ _ _ (it .on) (sym (c .before .fits4 .ensures) ∙ not-true _ (c .if6 .taken)) ∙ l .inv .0, turns.no-match _ _ _ (λ e. omega arith))
+    (turns.unfitting _ _ _ _ _ _ _ _ h _ _ _ (it .on) (sym (c .before .fits4 .ensures) ∙ not-true _ (c .if6 .taken)) ∙ l .inv .0, repeats.no-match _ _ _ (λ e. omega arith))
 
 add-if7 : tie.Need-add-if7 Inv-items μ-items
 add-if7 c =

@@ -3,7 +3,7 @@ use native.Mathlib.Omega.{arith}
 use mathlib.Core.Path.{sym, _∙_}
 use borrow.Author.Needs.{needs}
 use Rattle.luck_matcher.specs.Inner.{outcomeBy, outcomeOf}
-use Rattle.luck_matcher.proofs.Turns as turns
+use Rattle.luck_matcher.proofs.Repeats as repeats
 use Rattle.luck_attempt.proofs.attempt.attempt_at.Statement.{statement}
 use Rattle.luck_attempt.proofs.attempt.attempt_at.Tie as tie
 
@@ -57,7 +57,7 @@ returns-3 c =
     let z = c .before .before .before .before .if1 .taken in
     let h = c .before .before .before .if2 .taken in
     let f = sym (c .before .before .fits2 .ensures) ∙ c .before .if3 .left in
-    (sym (q .1 .fails z (c .if4 .left) (a .subject .now) (a .budget) (a .place) (a .used) (omega (arith, q .3)) f), turns.no-match _ _ _ (λ e. omega arith))
+    (sym (q .1 .fails z (c .if4 .left) (a .subject .now) (a .budget) (a .place) (a .used) (omega (arith, q .3)) f), repeats.no-match _ _ _ (λ e. omega arith))
 
 attempt-from-requires-2 : tie.Need-attempt-from-requires-2
 attempt-from-requires-2 c κs = search needs

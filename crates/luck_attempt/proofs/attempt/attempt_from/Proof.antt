@@ -4,7 +4,7 @@ use Rattle.luck_match.specs.Inner.{capturesIn}
 use Rattle.luck_matcher.specs.Inner.{outcomeBy, outcomeOf}
 use Rattle.luck_match.proofs.Items.{items-end}
 use Rattle.luck_attempt.proofs.Leads as leads
-use Rattle.luck_matcher.proofs.Turns as turns
+use Rattle.luck_match.proofs.Turns as turns
 use Rattle.luck_attempt.proofs.attempt.attempt_from.Statement.{statement}
 use Rattle.luck_attempt.proofs.attempt.attempt_from.Tie as tie
 

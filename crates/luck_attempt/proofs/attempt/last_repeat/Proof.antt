@@ -5,7 +5,7 @@ use borrow.Author.Needs.{needs}
 use Rattle.luck_match.specs.Inner.{capturesIn}
 use Rattle.luck_matcher.specs.Inner.{outcomeBy, outcomeOf}
 use Rattle.luck_attempt.proofs.Leads as leads
-use Rattle.luck_matcher.proofs.Turns as turns
+use Rattle.luck_matcher.proofs.Repeats as repeats
 use Rattle.luck_attempt.proofs.attempt.last_repeat.Statement.{statement}
 use Rattle.luck_attempt.proofs.attempt.last_repeat.Tie as tie
 
@@ -20,7 +20,7 @@ unfolding outcomeOf outcomeBy
 returns c kept shortest h =
     let a = c .before .before .before .before .args in
     let r = c .before .reach in
-    (leads.test-unpaid (a .subject .now) (a .budget) _ _ _ (r .result) (r .ensures .0) shortest _ (c .if1 .taken), turns.no-match _ _ _ (λ e. omega arith))
+    (leads.test-unpaid (a .subject .now) (a .budget) _ _ _ (r .result) (r .ensures .0) shortest _ (c .if1 .taken), repeats.no-match _ _ _ (λ e. omega arith))
 
 returns-2 : tie.Need-returns-2
 unfolding outcomeOf outcomeBy
@@ -28,7 +28,7 @@ returns-2 c kept shortest h =
     let a = c .before .before .before .before .before .before .args in
     let r = c .before .before .before .reach in
     let g : shortest ≤ r .result .end = omega (arith, h, r .ensures .1) in
-    (leads.end-unpaid (a .subject .now) (a .budget) _ _ _ (r .result) (r .ensures .0) shortest _ (c .before .before .if1 .left) g (c .if2 .taken), turns.no-match _ _ _ (λ e. omega arith))
+    (leads.end-unpaid (a .subject .now) (a .budget) _ _ _ (r .result) (r .ensures .0) shortest _ (c .before .before .if1 .left) g (c .if2 .taken), repeats.no-match _ _ _ (λ e. omega arith))
 
 add-t12 : tie.Need-add-t12
 add-t12 c = search needs

@@ -9,7 +9,8 @@ use Rattle.luck_match.specs.Match.{newLevel, matched, longestFirst, match}
 use Rattle.luck_match.specs.Class.{matchClass}
 use Rattle.luck_match.specs.Inner.{capturesOf, capturesIn, captureOf, Sound, ItemAt, HeldIn, heldAs, FoundIn, foundOf, singleOf, reachOf}
 use Rattle.luck_matcher.specs.Inner.{outcomeBy, outcomeOf, AttemptIn}
-use Rattle.luck_matcher.proofs.Turns as turns
+use Rattle.luck_match.proofs.Turns as turns
+use Rattle.luck_matcher.proofs.Repeats as repeats
 use Rattle.luck_match.proofs.Captures.{all-pairs, sound-later, kept-later, sound-started, sound-finished, starts-capture, ends-capture, all-taken, none-to-close, close-seen, is-open, is-position}
 use Rattle.luck_match.proofs.Singles.{fits-inside}
 use Rattle.luck_pattern.specs.Items.{items}
@@ -46,7 +47,7 @@ abbrev μ : lts.MeasureT-loop
 module _ (t : ℕ) where
   returns : lts.Need-returns (E t) (do-match-at t) do-match.Post Inv μ
   unfolding outcomeOf outcomeBy
-  returns c = (turns.too-deep _ _ _ (c .if1 .taken), turns.no-match _ _ _ (λ e. omega arith))
+  returns c = (turns.too-deep _ _ _ (c .if1 .taken), repeats.no-match _ _ _ (λ e. omega arith))
 
   add-deeper : lts.Need-add-deeper (E t) (do-match-at t) do-match.Post Inv μ
   add-deeper c = omega arith
@@ -58,7 +59,7 @@ module _ (t : ℕ) where
   unfolding outcomeOf outcomeBy
   returns-2 c =
       let inv = c .before .loop .inv in
-      (turns.steps-spent _ (c .before .before .before .before .before .args .pattern .now) _ _ _ _ _ _ (c .if2 .taken) ∙ inv .0, turns.no-match _ _ _ (λ e. omega arith))
+      (turns.steps-spent _ (c .before .before .before .before .before .args .pattern .now) _ _ _ _ _ _ (c .if2 .taken) ∙ inv .0, repeats.no-match _ _ _ (λ e. omega arith))
 
   add-steps : lts.Need-add-steps (E t) (do-match-at t) do-match.Post Inv μ
   add-steps c = omega arith
@@ -112,7 +113,7 @@ module _ (t : ℕ) where
       let inv = c .before .before .before .before .before .loop .inv in
       let h = c .before .before .before .before .if2 .left in
       let it = subst (ItemAt (c .before .before .before .before .before .before .before .before .before .args .pattern .now) (c .before .before .before .before .before .loop .at)) (c .before .enum-told2 .given .1) (c .before .before .before .read .ensures) in
-      (turns.not-at-anchor _ _ _ _ _ _ _ _ h it (c .if3 .left) ∙ inv .0, turns.no-match _ _ _ (λ e. omega arith))
+      (turns.not-at-anchor _ _ _ _ _ _ _ _ h it (c .if3 .left) ∙ inv .0, repeats.no-match _ _ _ (λ e. omega arith))
 
   enum-known-item : lts.Need-enum-known-item (E t) (do-match-at t) do-match.Post Inv μ
   enum-known-item c = search needs
@@ -126,7 +127,7 @@ module _ (t : ℕ) where
       let inv = c .before .before .before .before .before .loop .inv in
       let h = c .before .before .before .before .if2 .left in
       let it = subst (ItemAt (c .before .before .before .before .before .before .before .before .before .args .pattern .now) (c .before .before .before .before .before .loop .at)) (c .before .item .given .1) (c .before .before .before .read .ensures) in
-      (turns.at-raises _ _ _ _ _ _ _ _ h _ it ∙ inv .0, turns.no-match _ _ _ (λ e. omega arith))
+      (turns.at-raises _ _ _ _ _ _ _ _ h _ it ∙ inv .0, repeats.no-match _ _ _ (λ e. omega arith))
 
   enum-known-item-2 : lts.Need-enum-known-item-2 (E t) (do-match-at t) do-match.Post Inv μ
   enum-known-item-2 c = search needs
@@ -201,7 +202,7 @@ module _ (t : ℕ) where
       let inv = c .before .before .before .before .before .before .before .before .loop .inv in
       let h = c .before .before .before .before .before .before .before .if2 .left in
       let it = subst (ItemAt (c .before .before .before .before .before .before .before .before .before .before .before .before .args .pattern .now) (c .before .before .before .before .before .before .before .before .loop .at)) (c .before .before .before .before .item5 .given .1) (c .before .before .before .before .before .before .read .ensures) in
-      (turns.held-as _ _ _ _ _ _ held.Bad (c .enum-told3 .given .1) (c .before .before .match-capture .ensures .0 _ _ _) ∙ turns.at-reference _ _ _ _ _ _ _ _ h _ _ it ∙ inv .0, turns.no-match _ _ _ (λ e. omega arith))
+      (repeats.held-as _ _ _ _ _ _ held.Bad (c .enum-told3 .given .1) (c .before .before .match-capture .ensures .0 _ _ _) ∙ turns.at-reference _ _ _ _ _ _ _ _ h _ _ it ∙ inv .0, repeats.no-match _ _ _ (λ e. omega arith))
 
   enum-told-4 : lts.Need-enum-told-4 (E t) (do-match-at t) do-match.Post Inv μ
   enum-told-4 c = search needs
@@ -212,7 +213,7 @@ module _ (t : ℕ) where
       let inv = c .before .before .before .before .before .before .before .before .loop .inv in
       let h = c .before .before .before .before .before .before .before .if2 .left in
       let it = subst (ItemAt (c .before .before .before .before .before .before .before .before .before .before .before .before .args .pattern .now) (c .before .before .before .before .before .before .before .before .loop .at)) (c .before .before .before .before .item5 .given .1) (c .before .before .before .before .before .before .read .ensures) in
-      (turns.held-as _ _ _ _ _ _ held.Differs (c .enum-told4 .given .1) (c .before .before .match-capture .ensures .0 _ _ _) ∙ turns.at-reference _ _ _ _ _ _ _ _ h _ _ it ∙ inv .0, turns.no-match _ _ _ (λ e. omega arith))
+      (repeats.held-as _ _ _ _ _ _ held.Differs (c .enum-told4 .given .1) (c .before .before .match-capture .ensures .0 _ _ _) ∙ turns.at-reference _ _ _ _ _ _ _ _ h _ _ it ∙ inv .0, repeats.no-match _ _ _ (λ e. omega arith))
 
   enum-known-held : lts.Need-enum-known-held (E t) (do-match-at t) do-match.Post Inv μ
   enum-known-held c = search needs
@@ -237,7 +238,7 @@ module _ (t : ℕ) where
       let h = c .before .before .before .before .before .before .before .before .if2 .left in
       let it = subst (ItemAt (c .before .before .before .before .before .before .before .before .before .before .before .before .before .args .pattern .now) (c .before .before .before .before .before .before .before .before .before .loop .at)) (c .before .before .before .before .before .item5 .given .1) (c .before .before .before .before .before .before .before .read .ensures) in
       let i = subst (λ x. HeldIn x (c .before .before .before .before .before .before .before .before .before .loop .place) (length (c .before .before .before .before .before .before .before .before .before .before .before .before .before .args .subject .now))) (c .before .held .given .1) (c .before .before .before .match-capture .ensures .1) in
-      (turns.held-as _ _ _ _ _ _ (held.Same _) (c .before .held .given .1) (c .before .before .before .match-capture .ensures .0 _ _ _) ∙ turns.at-reference _ _ _ _ _ _ _ _ h _ _ it ∙ inv .0, omega (arith, it .further, it .inside, i, inv .1))
+      (repeats.held-as _ _ _ _ _ _ (held.Same _) (c .before .held .given .1) (c .before .before .before .match-capture .ensures .0 _ _ _) ∙ turns.at-reference _ _ _ _ _ _ _ _ h _ _ it ∙ inv .0, omega (arith, it .further, it .inside, i, inv .1))
 
   enum-known-item-6 : lts.Need-enum-known-item-6 (E t) (do-match-at t) do-match.Post Inv μ
   enum-known-item-6 c = search needs
@@ -255,7 +256,7 @@ module _ (t : ℕ) where
       let inv = c .before .before .before .before .before .before .before .loop .inv in
       let h = c .before .before .before .before .before .before .if2 .left in
       let it = subst (ItemAt (c .before .before .before .before .before .before .before .before .before .before .before .args .pattern .now) (c .before .before .before .before .before .before .before .loop .at)) (c .before .before .before .item6 .given .1) (c .before .before .before .before .before .read .ensures) in
-      (turns.unfitting _ _ _ _ _ _ _ _ h _ _ _ (it .on) (sym (c .before .fits2 .ensures) ∙ not-true _ (c .if4 .taken)) ∙ inv .0, turns.no-match _ _ _ (λ e. omega arith))
+      (turns.unfitting _ _ _ _ _ _ _ _ h _ _ _ (it .on) (sym (c .before .fits2 .ensures) ∙ not-true _ (c .if4 .taken)) ∙ inv .0, repeats.no-match _ _ _ (λ e. omega arith))
 
   add-place-2 : lts.Need-add-place-2 (E t) (do-match-at t) do-match.Post Inv μ
   add-place-2 c =
@@ -278,7 +279,7 @@ module _ (t : ℕ) where
       let it = subst (ItemAt (c .before .before .before .before .before .before .before .before .before .before .before .args .pattern .now) (c .before .before .before .before .before .before .before .loop .at)) (c .before .before .before .item6 .given .1) (c .before .before .before .before .before .read .ensures) in
       let f = (sym (c .before .fits2 .ensures) ∙ not-false _ (c .if4 .left)) in
       let g = fits-inside _ _ _ _ f in
-      (turns.once-on _ _ _ _ _ _ _ _ ∙ turns.fitting _ _ _ _ _ _ _ _ h _ _ _ (it .on) f ∙ inv .0, omega (arith, it .on .further, it .on .inside, inv .1))
+      (repeats.once-on _ _ _ _ _ _ _ _ ∙ turns.fitting _ _ _ _ _ _ _ _ h _ _ _ (it .on) f ∙ inv .0, omega (arith, it .on .further, it .on .inside, inv .1))
 
   enum-known-item-7 : lts.Need-enum-known-item-7 (E t) (do-match-at t) do-match.Post Inv μ
   enum-known-item-7 c = search needs
@@ -319,7 +320,7 @@ module _ (t : ℕ) where
       let h = c .before .before .before .before .before .before .before .before .before .before .if2 .left in
       let it = subst (ItemAt (c .before .before .before .before .before .before .before .before .before .before .before .before .before .before .before .args .pattern .now) (c .before .before .before .before .before .before .before .before .before .before .before .loop .at)) (c .before .before .before .before .before .before .before .item7 .given .1) (c .before .before .before .before .before .before .before .before .before .read .ensures) in
       let f = (sym (c .before .before .before .before .before .fits3 .ensures) ∙ (c .before .before .before .before .if5 .taken)) in
-      (turns.ends-it _ _ (c .if6 .taken) _ (c .before .before .do-match .ensures .0) _ ∙ turns.optional-on _ _ _ _ _ _ _ _ ∙ turns.fitting _ _ _ _ _ _ _ _ h _ _ _ (it .on) f ∙ inv .0, c .before .before .do-match .ensures .1)
+      (repeats.ends-it _ _ (c .if6 .taken) _ (c .before .before .do-match .ensures .0) _ ∙ repeats.optional-on _ _ _ _ _ _ _ _ ∙ turns.fitting _ _ _ _ _ _ _ _ h _ _ _ (it .on) f ∙ inv .0, c .before .before .do-match .ensures .1)
 
   loop-less-3 : lts.Need-loop-less-3 (E t) (do-match-at t) do-match.Post Inv μ
   loop-less-3 c =
@@ -334,7 +335,7 @@ module _ (t : ℕ) where
       let h = c .before .before .before .before .before .before .before .before .before .before .if2 .left in
       let it = subst (ItemAt (c .before .before .before .before .before .before .before .before .before .before .before .before .before .before .before .args .pattern .now) (c .before .before .before .before .before .before .before .before .before .before .before .loop .at)) (c .before .before .before .before .before .before .before .item7 .given .1) (c .before .before .before .before .before .before .before .before .before .read .ensures) in
       let f = (sym (c .before .before .before .before .before .fits3 .ensures) ∙ (c .before .before .before .before .if5 .taken)) in
-      (turns.goes-on _ _ (c .if6 .left) _ (c .before .before .do-match .ensures .0) _ ∙ turns.optional-on _ _ _ _ _ _ _ _ ∙ turns.fitting _ _ _ _ _ _ _ _ h _ _ _ (it .on) f ∙ inv .0, omega (arith, it .on .further, it .on .inside, inv .1))
+      (repeats.goes-on _ _ (c .if6 .left) _ (c .before .before .do-match .ensures .0) _ ∙ repeats.optional-on _ _ _ _ _ _ _ _ ∙ turns.fitting _ _ _ _ _ _ _ _ h _ _ _ (it .on) f ∙ inv .0, omega (arith, it .on .further, it .on .inside, inv .1))
 
   loop-less-4 : lts.Need-loop-less-4 (E t) (do-match-at t) do-match.Post Inv μ
   loop-less-4 c =
@@ -390,7 +391,7 @@ module _ (t : ℕ) where
       let h = c .before .before .before .before .before .before .before .before .if2 .left in
       let it = subst (ItemAt (c .before .before .before .before .before .before .before .before .before .before .before .before .before .args .pattern .now) (c .before .before .before .before .before .before .before .before .before .loop .at)) (c .before .before .before .before .before .item8 .given .1) (c .before .before .before .before .before .before .before .read .ensures) in
       let f = (sym (c .before .before .before .fits4 .ensures) ∙ (c .before .before .if7 .taken)) in
-      (turns.expand-spent _ _ _ _ _ ∙ turns.star-on _ _ _ _ _ _ _ _ _ (turns.reach-is-spent _ (c .if8 .taken) ∙ c .before .reach .ensures .0) ∙ turns.fitting _ _ _ _ _ _ _ _ h _ _ _ (it .on) f ∙ inv .0, turns.no-match _ _ _ (λ e. omega arith))
+      (repeats.expand-spent _ _ _ _ _ ∙ repeats.star-on _ _ _ _ _ _ _ _ _ (repeats.reach-is-spent _ (c .if8 .taken) ∙ c .before .reach .ensures .0) ∙ turns.fitting _ _ _ _ _ _ _ _ h _ _ _ (it .on) f ∙ inv .0, repeats.no-match _ _ _ (λ e. omega arith))
 
   max-expand-requires : lts.Need-max-expand-requires (E t) (do-match-at t) do-match.Post Inv μ
   max-expand-requires c κs =
@@ -407,7 +408,7 @@ module _ (t : ℕ) where
       let h = c .before .before .before .before .before .before .before .before .before .before .if2 .left in
       let it = subst (ItemAt (c .before .before .before .before .before .before .before .before .before .before .before .before .before .before .before .args .pattern .now) (c .before .before .before .before .before .before .before .before .before .before .before .loop .at)) (c .before .before .before .before .before .before .before .item8 .given .1) (c .before .before .before .before .before .before .before .before .before .read .ensures) in
       let f = (sym (c .before .before .before .before .before .fits4 .ensures) ∙ (c .before .before .before .before .if7 .taken)) in
-      (c .max-expand .ensures .0 ∙ turns.expand-from _ _ _ _ _ _ ∙ turns.star-on _ _ _ _ _ _ _ _ _ (turns.reach-is _ (c .before .before .if8 .left) ∙ c .before .before .before .reach .ensures .0) ∙ turns.fitting _ _ _ _ _ _ _ _ h _ _ _ (it .on) f ∙ inv .0, c .max-expand .ensures .1)
+      (c .max-expand .ensures .0 ∙ repeats.expand-from _ _ _ _ _ _ ∙ repeats.star-on _ _ _ _ _ _ _ _ _ (repeats.reach-is _ (c .before .before .if8 .left) ∙ c .before .before .before .reach .ensures .0) ∙ turns.fitting _ _ _ _ _ _ _ _ h _ _ _ (it .on) f ∙ inv .0, c .max-expand .ensures .1)
 
   loop-less-5 : lts.Need-loop-less-5 (E t) (do-match-at t) do-match.Post Inv μ
   loop-less-5 c =
@@ -447,7 +448,7 @@ module _ (t : ℕ) where
       let inv = c .before .before .before .before .before .before .before .loop .inv in
       let h = c .before .before .before .before .before .before .if2 .left in
       let it = subst (ItemAt (c .before .before .before .before .before .before .before .before .before .before .before .args .pattern .now) (c .before .before .before .before .before .before .before .loop .at)) (c .before .before .before .item9 .given .1) (c .before .before .before .before .before .read .ensures) in
-      (turns.unfitting _ _ _ _ _ _ _ _ h _ _ _ (it .on) (sym (c .before .fits5 .ensures) ∙ not-true _ (c .if9 .taken)) ∙ inv .0, turns.no-match _ _ _ (λ e. omega arith))
+      (turns.unfitting _ _ _ _ _ _ _ _ h _ _ _ (it .on) (sym (c .before .fits5 .ensures) ∙ not-true _ (c .if9 .taken)) ∙ inv .0, repeats.no-match _ _ _ (λ e. omega arith))
 
   add-reach-2 : lts.Need-add-reach-2 (E t) (do-match-at t) do-match.Post Inv μ
   add-reach-2 c =
@@ -471,7 +472,7 @@ module _ (t : ℕ) where
       let h = c .before .before .before .before .before .before .before .before .if2 .left in
       let it = subst (ItemAt (c .before .before .before .before .before .before .before .before .before .before .before .before .before .args .pattern .now) (c .before .before .before .before .before .before .before .before .before .loop .at)) (c .before .before .before .before .before .item9 .given .1) (c .before .before .before .before .before .before .before .read .ensures) in
       let f = (sym (c .before .before .before .fits5 .ensures) ∙ not-false _ (c .before .before .if9 .left)) in
-      (turns.expand-spent _ _ _ _ _ ∙ turns.plus-on _ _ _ _ _ _ _ _ _ (turns.reach-is-spent _ (c .if10 .taken) ∙ c .before .reach2 .ensures .0) ∙ turns.fitting _ _ _ _ _ _ _ _ h _ _ _ (it .on) f ∙ inv .0, turns.no-match _ _ _ (λ e. omega arith))
+      (repeats.expand-spent _ _ _ _ _ ∙ repeats.plus-on _ _ _ _ _ _ _ _ _ (repeats.reach-is-spent _ (c .if10 .taken) ∙ c .before .reach2 .ensures .0) ∙ turns.fitting _ _ _ _ _ _ _ _ h _ _ _ (it .on) f ∙ inv .0, repeats.no-match _ _ _ (λ e. omega arith))
 
   add-max-expand : lts.Need-add-max-expand (E t) (do-match-at t) do-match.Post Inv μ
   add-max-expand c =
@@ -495,7 +496,7 @@ module _ (t : ℕ) where
       let h = c .before .before .before .before .before .before .before .before .before .before .if2 .left in
       let it = subst (ItemAt (c .before .before .before .before .before .before .before .before .before .before .before .before .before .before .before .args .pattern .now) (c .before .before .before .before .before .before .before .before .before .before .before .loop .at)) (c .before .before .before .before .before .before .before .item9 .given .1) (c .before .before .before .before .before .before .before .before .before .read .ensures) in
       let f = (sym (c .before .before .before .before .before .fits5 .ensures) ∙ not-false _ (c .before .before .before .before .if9 .left)) in
-      (c .max-expand2 .ensures .0 ∙ turns.expand-from _ _ _ _ _ _ ∙ turns.plus-on _ _ _ _ _ _ _ _ _ (turns.reach-is _ (c .before .before .if10 .left) ∙ c .before .before .before .reach2 .ensures .0) ∙ turns.fitting _ _ _ _ _ _ _ _ h _ _ _ (it .on) f ∙ inv .0, c .max-expand2 .ensures .1)
+      (c .max-expand2 .ensures .0 ∙ repeats.expand-from _ _ _ _ _ _ ∙ repeats.plus-on _ _ _ _ _ _ _ _ _ (repeats.reach-is _ (c .before .before .if10 .left) ∙ c .before .before .before .reach2 .ensures .0) ∙ turns.fitting _ _ _ _ _ _ _ _ h _ _ _ (it .on) f ∙ inv .0, c .max-expand2 .ensures .1)
 
   enum-known-item-10 : lts.Need-enum-known-item-10 (E t) (do-match-at t) do-match.Post Inv μ
   enum-known-item-10 c = search needs
@@ -568,7 +569,7 @@ module _ (t : ℕ) where
       let h = c .before .before .before .before .before .before .before .before .if2 .left in
       let it = subst (ItemAt (c .before .before .before .before .before .before .before .before .before .before .before .before .before .args .pattern .now) (c .before .before .before .before .before .before .before .before .before .loop .at)) (c .before .before .before .before .before .item11 .given .1) (c .before .before .before .before .before .before .before .read .ensures) in
       let i = subst (λ x. FoundIn x (c .before .before .before .before .before .before .before .before .before .loop .place) (length (c .before .before .before .before .before .before .before .before .before .before .before .before .before .args .subject .now))) (c .before .found .given .1) (c .before .before .before .match-balance .ensures .1) in
-      let w = turns.found-as (found.At _) (c .before .found .given .1) _ (c .before .before .before .match-balance .ensures .0) in
+      let w = repeats.found-as (found.At _) (c .before .found .given .1) _ (c .before .before .before .match-balance .ensures .0) in
       (turns.balanced _ _ _ _ _ _ _ _ h _ _ _ _ it w ∙ inv .0, omega (arith, it .further, it .inside, i, inv .1))
 
   enum-told-5 : lts.Need-enum-told-5 (E t) (do-match-at t) do-match.Post Inv μ
@@ -580,8 +581,8 @@ module _ (t : ℕ) where
       let inv = c .before .before .before .before .before .before .before .before .loop .inv in
       let h = c .before .before .before .before .before .before .before .if2 .left in
       let it = subst (ItemAt (c .before .before .before .before .before .before .before .before .before .before .before .before .args .pattern .now) (c .before .before .before .before .before .before .before .before .loop .at)) (c .before .before .before .before .item11 .given .1) (c .before .before .before .before .before .before .read .ensures) in
-      let w = turns.found-as found.Nothing (c .enum-told5 .given .1) _ (c .before .before .match-balance .ensures .0) in
-      (turns.unbalanced _ _ _ _ _ _ _ _ h _ _ _ it w ∙ inv .0, turns.no-match _ _ _ (λ e. omega arith))
+      let w = repeats.found-as found.Nothing (c .enum-told5 .given .1) _ (c .before .before .match-balance .ensures .0) in
+      (turns.unbalanced _ _ _ _ _ _ _ _ h _ _ _ it w ∙ inv .0, repeats.no-match _ _ _ (λ e. omega arith))
 
   enum-known-item-12 : lts.Need-enum-known-item-12 (E t) (do-match-at t) do-match.Post Inv μ
   enum-known-item-12 c = search needs
@@ -606,7 +607,7 @@ module _ (t : ℕ) where
       let inv = c .before .before .before .before .before .before .before .loop .inv in
       let h = c .before .before .before .before .before .before .if2 .left in
       let it = subst (ItemAt (c .before .before .before .before .before .before .before .before .before .before .before .args .pattern .now) (c .before .before .before .before .before .before .before .loop .at)) (c .before .before .before .item12 .given .1) (c .before .before .before .before .before .read .ensures) in
-      (turns.no-frontier _ _ _ _ _ _ _ _ h _ _ (it .0) (sym (c .before .is-frontier .ensures) ∙ not-true _ (c .if12 .taken)) ∙ inv .0, turns.no-match _ _ _ (λ e. omega arith))
+      (turns.no-frontier _ _ _ _ _ _ _ _ h _ _ (it .0) (sym (c .before .is-frontier .ensures) ∙ not-true _ (c .if12 .taken)) ∙ inv .0, repeats.no-match _ _ _ (λ e. omega arith))
 
   loop-less-8 : lts.Need-loop-less-8 (E t) (do-match-at t) do-match.Post Inv μ
   loop-less-8 c =

@@ -9,7 +9,7 @@ use Rattle.luck_match.specs.Match.{newLevel, matched, longestFirst, match}
 use Rattle.luck_match.specs.Class.{matchClass}
 use Rattle.luck_match.specs.Inner.{capturesOf, capturesIn, captureOf, Sound, ItemAt, HeldIn, heldAs, FoundIn, foundOf, singleOf, reachOf}
 use Rattle.luck_matcher.specs.Inner.{outcomeBy, outcomeOf, AttemptIn}
-use Rattle.luck_matcher.proofs.Turns as turns
+use Rattle.luck_matcher.proofs.Repeats as repeats
 use Rattle.luck_match.proofs.Captures.{all-pairs, sound-later, kept-later, sound-started, sound-finished, starts-capture, ends-capture, all-taken, none-to-close, close-seen, is-open, is-position}
 use Rattle.luck_match.proofs.Singles.{fits-inside}
 use Rattle.luck_match.specs.declared.capture.Close.the-variants as close
@@ -71,7 +71,7 @@ module _ (t : ℕ) where
   unfolding outcomeOf outcomeBy
   returns-2 c =
       let h = close-seen (c .before .before .before .before .before .args .t9) close.Nothing (c .enum-told .given .1) (c .before .before .capture-to-close .ensures) in
-      (none-to-close (c .before .before .before .before .before .args .t9) (all-pairs (c .before .before .before .before .before .args .t9 .pairs) (c .before .before .before .before .before .good .1 .1 .1 .1 .1 .1 .1 .1 .0 .1 .1 .1 .0 .1 .0 .1)) (c .before .before .before .before .before .pre .1 .3 .few) _ _ _ _ (h .0), turns.no-match _ _ _ (λ e. omega arith))
+      (none-to-close (c .before .before .before .before .before .args .t9) (all-pairs (c .before .before .before .before .before .args .t9 .pairs) (c .before .before .before .before .before .good .1 .1 .1 .1 .1 .1 .1 .1 .0 .1 .1 .1 .0 .1 .0 .1)) (c .before .before .before .before .before .pre .1 .3 .few) _ _ _ _ (h .0), repeats.no-match _ _ _ (λ e. omega arith))
 
 pub end-capture-proof : {M : Type 1} (t : ℕ) → lts.Closed (E t) (end-capture-at t) end-capture.Post M
 end-capture-proof t =

@@ -10,12 +10,12 @@ use Rattle.luck_match.specs.Match.{captureToClose, newLevel, failed, longestFir
 use Rattle.luck_match.specs.Class.{matchClass}
 use Rattle.luck_match.specs.Inner.{capturesOf}
 use Rattle.luck_matcher.specs.Inner.{outcomeBy, outcomeOf}
-use Rattle.luck_matcher.proofs.Turns as turns
+use Rattle.luck_matcher.proofs.Repeats as repeats
 use Rattle.luck_match.proofs.Captures.{sound-later, is-open}
 use Rattle.luck_pattern.specs.Items.{items}
-use Rattle.luck_matcher.proofs.FirstTests as tests
-use Rattle.luck_matcher.proofs.ahead.first_test.Reads as first-test
-use Rattle.luck_matcher.proofs.ahead.fails_at.Reads as fails-at
+use Rattle.luck_matcher.proofs.Passed as tests
+use Rattle.luck_ahead.proofs.ahead.first_test.Reads as first-test
+use Rattle.luck_ahead.proofs.ahead.fails_at.Reads as fails-at
 use Rattle.luck_matcher.proofs.matcher.do_match.Reads as do-match
 use Rattle.luck_matcher.proofs.matcher.max_expand.Reads as max-expand
 use Rattle.luck_matcher.proofs.matcher.+do_match+end_capture+max_expand+min_expand+start_capture.Lts-max_expand as lts
@@ -64,7 +64,7 @@ module _ (t : ℕ) where
   returns : lts.Need-returns (E t) (max-expand-at t) max-expand.Post Inv μ
   returns c =
       let inv = c .before .before .before .before .before .before .loop .inv in
-      (turns.longest-ends _ _ _ _ _ _ _ _ (c .before .before .do-match .ensures .0) (inv .1 .0) (c .if3 .taken) ∙ inv .0, c .before .before .do-match .ensures .1)
+      (repeats.longest-ends _ _ _ _ _ _ _ _ (c .before .before .do-match .ensures .0) (inv .1 .0) (c .if3 .taken) ∙ inv .0, c .before .before .do-match .ensures .1)
 
   -- the latest capture was looked at
   opened : (c : lts.Joined1 (E t) (max-expand-at t) max-expand.Post Inv μ)
@@ -93,7 +93,7 @@ module _ (t : ℕ) where
   unfolding outcomeOf outcomeBy
   returns-2 c =
       let inv = c .before .before .before .loop .inv in
-      (tests.passed-last _ _ _ _ _ _ _ (passed (c .before)) (inv .1 .0) (c .if4 .taken) ∙ inv .0, turns.no-match _ _ _ (λ e. omega arith))
+      (tests.passed-last _ _ _ _ _ _ _ (passed (c .before)) (inv .1 .0) (c .if4 .taken) ∙ inv .0, repeats.no-match _ _ _ (λ e. omega arith))
 
   sub-place : lts.Need-sub-place (E t) (max-expand-at t) max-expand.Post Inv μ
   sub-place c = omega arith

@@ -12,14 +12,14 @@ use Rattle.luck_match.specs.Match.{captureToClose, newLevel, failed, match}
 use Rattle.luck_match.specs.Class.{matchClass}
 use Rattle.luck_match.specs.Inner.{capturesOf, singleOf}
 use Rattle.luck_matcher.specs.Inner.{outcomeBy, outcomeOf}
-use Rattle.luck_matcher.proofs.Turns as turns
+use Rattle.luck_matcher.proofs.Repeats as repeats
 use Rattle.luck_match.proofs.Captures.{sound-later, is-open}
 use Rattle.luck_match.proofs.Singles.{fits-inside}
 use Rattle.luck_pattern.specs.Items.{minus, items}
 use Rattle.luck_match.specs.Match.{expand}
-use Rattle.luck_matcher.proofs.FirstTests as tests
-use Rattle.luck_matcher.proofs.ahead.first_test.Reads as first-test
-use Rattle.luck_matcher.proofs.ahead.fails_at.Reads as fails-at
+use Rattle.luck_matcher.proofs.Passed as tests
+use Rattle.luck_ahead.proofs.ahead.first_test.Reads as first-test
+use Rattle.luck_ahead.proofs.ahead.fails_at.Reads as fails-at
 use Rattle.luck_match.proofs.single.fits.Reads as fits-reads
 use Rattle.luck_matcher.proofs.matcher.do_match.Reads as do-match
 use Rattle.luck_matcher.proofs.matcher.min_expand.Reads as min-expand
@@ -102,7 +102,7 @@ module _ (t : ℕ) where
   returns-2 c =
       let a = c .before .before .before .before .before .before .before .before .before .args in
       let here = c .before .before .before .before .loop in
-      (tests.trying-spent (a .subject .now) (a .budget) (singleOf (a .pattern .now) (a .at) (a .end)) (match matchClass (a .subject .now) (a .budget) (items (a .pattern .now) (a .end + 1))) (a .level) (capturesOf (a .t10)) (a .place) (a .used) (here .tested) (here .tried) (here .steps) (here .inv .0) _ (passed (c .before .before)) (c .before .if4 .taken) (c .if5 .taken), turns.no-match _ _ _ (λ e. omega arith))
+      (tests.trying-spent (a .subject .now) (a .budget) (singleOf (a .pattern .now) (a .at) (a .end)) (match matchClass (a .subject .now) (a .budget) (items (a .pattern .now) (a .end + 1))) (a .level) (capturesOf (a .t10)) (a .place) (a .used) (here .tested) (here .tried) (here .steps) (here .inv .0) _ (passed (c .before .before)) (c .before .if4 .taken) (c .if5 .taken), repeats.no-match _ _ _ (λ e. omega arith))
 
   add-steps-2 : lts.Need-add-steps-2 (E t) (min-expand-at t) min-expand.Post Inv μ
   add-steps-2 c = omega arith
@@ -115,7 +115,7 @@ module _ (t : ℕ) where
   returns-3 c =
       let a = c .before .before .before .before .before .before .before .before .before .before .before .before .args in
       let here = c .before .before .before .before .before .before .before .loop in
-      (tests.trying-fails (a .subject .now) (a .budget) (singleOf (a .pattern .now) (a .at) (a .end)) (match matchClass (a .subject .now) (a .budget) (items (a .pattern .now) (a .end + 1))) (a .level) (capturesOf (a .t10)) (a .place) (a .used) (here .tested) (here .tried) (here .steps) (here .inv .0) _ (passed (c .before .before .before .before .before)) (c .before .before .before .before .if4 .taken) (c .before .before .before .if5 .left) (sym (c .before .fits2 .ensures) ∙ not-true _ (c .if6 .taken)), turns.no-match _ _ _ (λ e. omega arith))
+      (tests.trying-fails (a .subject .now) (a .budget) (singleOf (a .pattern .now) (a .at) (a .end)) (match matchClass (a .subject .now) (a .budget) (items (a .pattern .now) (a .end + 1))) (a .level) (capturesOf (a .t10)) (a .place) (a .used) (here .tested) (here .tried) (here .steps) (here .inv .0) _ (passed (c .before .before .before .before .before)) (c .before .before .before .before .if4 .taken) (c .before .before .before .if5 .left) (sym (c .before .fits2 .ensures) ∙ not-true _ (c .if6 .taken)), repeats.no-match _ _ _ (λ e. omega arith))
 
   -- a byte is left: it was tested, or it is the first
   inside : (c : lts.Joined4 (E t) (min-expand-at t) min-expand.Post Inv μ) → c .before .before .before .loop .tried < length (c .before .before .before .before .before .before .before .before .args .subject .now)

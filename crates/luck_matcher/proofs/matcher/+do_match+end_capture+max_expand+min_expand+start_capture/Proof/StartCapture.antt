@@ -9,7 +9,7 @@ use Rattle.luck_match.specs.Match.{newLevel, matched, longestFirst, match}
 use Rattle.luck_match.specs.Class.{matchClass}
 use Rattle.luck_match.specs.Inner.{capturesOf, capturesIn, captureOf, Sound, ItemAt, HeldIn, heldAs, FoundIn, foundOf, singleOf, reachOf}
 use Rattle.luck_matcher.specs.Inner.{outcomeBy, outcomeOf, AttemptIn}
-use Rattle.luck_matcher.proofs.Turns as turns
+use Rattle.luck_matcher.proofs.Repeats as repeats
 use Rattle.luck_match.proofs.Captures.{all-pairs, sound-later, kept-later, sound-started, sound-finished, starts-capture, ends-capture, all-taken, none-to-close, close-seen, is-open, is-position}
 use Rattle.luck_match.proofs.Singles.{fits-inside}
 use Rattle.luck_matcher.proofs.matcher.do_match.Reads as do-match
@@ -23,7 +23,7 @@ E t = (do-match-below t, do-match.Post)
 module _ (t : ℕ) where
   returns : lts.Need-returns (E t) (start-capture-at t) start-capture.Post
   unfolding outcomeOf outcomeBy
-  returns c = (all-taken (c .before .before .before .args .captures) (all-pairs (c .before .before .before .args .captures .pairs) (c .before .before .before .good .1 .1 .1 .1 .1 .1 .1 .1 .0 .1 .1 .1 .0 .1 .0 .1)) (c .before .before .before .pre .1 .4 .few) _ _ _ _ _ (c .if1 .taken), turns.no-match _ _ _ (λ e. omega arith))
+  returns c = (all-taken (c .before .before .before .args .captures) (all-pairs (c .before .before .before .args .captures .pairs) (c .before .before .before .good .1 .1 .1 .1 .1 .1 .1 .1 .0 .1 .1 .1 .0 .1 .0 .1)) (c .before .before .before .pre .1 .4 .few) _ _ _ _ _ (c .if1 .taken), repeats.no-match _ _ _ (λ e. omega arith))
 
   mul-t17 : lts.Need-mul-t17 (E t) (start-capture-at t) start-capture.Post
   mul-t17 c = omega arith

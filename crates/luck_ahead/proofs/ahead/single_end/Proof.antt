@@ -1,4 +1,4 @@
--- `luck_matcher::ahead::single_end` meets its contract, a law of `Reading` for each way. Assumes nothing.
+-- `luck_ahead::ahead::single_end` meets its contract, a law of `Reading` for each way. Assumes nothing.
 use native.Mathlib.Omega.{arith}
 use mathlib.Core.Path.{refl, subst}
 use mathlib.Core.Logic.{inl, inr, ⊎-elim}
@@ -7,8 +7,8 @@ use Rattle.luck_match.specs.Inner.{ClosesIn}
 use Rattle.luck_match.specs.declared.subject.Found.{Found}
 use Rattle.luck_match.proofs.Reading.{set-at, class-at, byte-at}
 use borrow.Author.Needs.{needs}
-use Rattle.luck_matcher.proofs.ahead.single_end.Statement.{statement}
-use Rattle.luck_matcher.proofs.ahead.single_end.Tie as tie
+use Rattle.luck_ahead.proofs.ahead.single_end.Statement.{statement}
+use Rattle.luck_ahead.proofs.ahead.single_end.Tie as tie
 
 returns : tie.Need-returns
 returns c = λ z. absurd (omega arith)

@@ -1,10 +1,10 @@
--- `luck_matcher::ahead::first_test` meets its contract. Assumes nothing.
+-- `luck_ahead::ahead::first_test` meets its contract. Assumes nothing.
 use native.Mathlib.Omega.{arith}
 use Rattle.luck_match.proofs.Reading.{end-at}
-use Rattle.luck_matcher.proofs.FirstTests.{sure-one, sure-two}
+use Rattle.luck_ahead.proofs.FirstTests.{sure-one, sure-two}
 use borrow.Author.Needs.{needs}
-use Rattle.luck_matcher.proofs.ahead.first_test.Statement.{statement}
-use Rattle.luck_matcher.proofs.ahead.first_test.Tie as tie
+use Rattle.luck_ahead.proofs.ahead.first_test.Statement.{statement}
+use Rattle.luck_ahead.proofs.ahead.first_test.Tie as tie
 
 returns : tie.Need-returns
 returns c = λ z. absurd (omega arith)

@@ -1,9 +1,9 @@
--- `luck_matcher::ahead::must_fit` meets its contract. Assumes nothing.
+-- `luck_ahead::ahead::must_fit` meets its contract. Assumes nothing.
 use native.Mathlib.Omega.{arith}
-use Rattle.luck_matcher.proofs.FirstTests as laws
+use Rattle.luck_ahead.proofs.FirstTests as laws
 use borrow.Author.Needs.{needs}
-use Rattle.luck_matcher.proofs.ahead.must_fit.Statement.{statement}
-use Rattle.luck_matcher.proofs.ahead.must_fit.Tie as tie
+use Rattle.luck_ahead.proofs.ahead.must_fit.Statement.{statement}
+use Rattle.luck_ahead.proofs.ahead.must_fit.Tie as tie
 
 single-end-requires : tie.Need-single-end-requires
 single-end-requires c κs = search needs

@@ -1,11 +1,11 @@
--- `luck_matcher::ahead::fails_at` meets its contract. Assumes nothing.
+-- `luck_ahead::ahead::fails_at` meets its contract. Assumes nothing.
 use Prim.Native.Nat.{ℕ}
 use native.Mathlib.Omega.{arith}
 use mathlib.Core.Path.{_≡_, sym, _∙_}
 use borrow.Author.Tests.{not-true}
 use borrow.Author.Needs.{needs}
-use Rattle.luck_matcher.proofs.ahead.fails_at.Statement.{statement}
-use Rattle.luck_matcher.proofs.ahead.fails_at.Tie as tie
+use Rattle.luck_ahead.proofs.ahead.fails_at.Statement.{statement}
+use Rattle.luck_ahead.proofs.ahead.fails_at.Tie as tie
 
 returns : tie.Need-returns
 returns c = λ z. let e : _≡_ {A = ℕ} 0 1 = cc in absurd (omega arith)

@@ -3,7 +3,7 @@ ghost use mathlib.Core.Bool.{true};
 ghost use mathlib.Core.Path.{_≡_};
 ghost use Prim.Native.Nat.{_<_};
 ghost use Rattle.luck_match.specs.Inner.{AreMasks, SingleIn};
-ghost use Rattle.luck_matcher.specs.Inner.{SingleEnds, MustFit, Sure, FailsHere};
+ghost use Rattle.luck_ahead.specs.Inner.{SingleEnds, MustFit, Sure, FailsHere};
 use luck_match::item;
 use luck_match::single;
 use luck_match::subject::Found;
