@@ -3,6 +3,7 @@
 use Prim.Native.Nat.{ℕ}
 use Prim.Native.Char.{code}
 use mathlib.Core.Path.{_≡_, refl}
+use mathlib.Core.Bool.{Bool, true, _&&_}
 use mathlib.Core.List.{List, [], _∷_, _++_}
 use lib.ListN.{replicate}
 use Rattle.luck_text.specs.Bytes.{ascii, if_then_else_, among, isDigit, isXdigit, run, digitValue, numeralFrom, numeral}
@@ -15,13 +16,14 @@ use Rattle.luck_pattern.specs.Pattern.{headOf, escapeOf, escapeAt, memberAt, me
 use Rattle.luck_pack.specs.Pack.{getnumlimit, fixedString, numberedOption, getoption, kindOf, numberOr, luckSizeof, luckSize, maxalign, isPowerOfTwo, isMisaligned, aligned, variable, alignBy, alignmentOf, alignToNext, kindTurn, optionTurn, packTurn, packEnd, packWalk, checkPack}
 use Rattle.luck_pattern.specs.Replacement.{escaped, pieces, allowsDigit, piecesWalk, checkReplacement}
 use Rattle.luck_format.specs.Format.{isFlag, isModifier, getFormat, scanPrecision, scanWidth, scanFormat, modifiersAt, isConversion, flagsFor, flagsRun, takesPrecision, afterTwoDigits, goodModifiers, conversionTurn, specifierTurn, percentTurn, formatTurn, formatEnd, formatWalk, checkFormat}
-use Rattle.luck_line.specs.Line.{twoDigits, capturesIn, replacementWith, plainCheck, checkBy, checkOf, bodyAnswer, lineAnswer}
+use Rattle.luck_format.specs.Date.{secondBytes, isPair, singleWidth, pairWidth, conversionWidth, dateTurn, dateEnd, isStarT, isTable, conversionsWalk, dateWalk, checkDate}
+use Rattle.luck_line.specs.Line.{lineNumbers, twoDigits, capturesIn, replacementWith, plainCheck, checkBy, checkOf, bodyAnswer, lineAnswer}
 use Rattle.luck_line.specs.Row.{newline, column, justified, fourColumns, sevenColumns, row}
 use Rattle.luck_lines.specs.Lines.{lastLine, linesFrom, lines, rows, listing}
 
 -- what is computed
 unfoldable pub computed : Unit {0}
-unfolding if_then_else_ among isDigit isXdigit run digitValue numeralFrom numeral walk walkFrom isVersion versions has rulesOf rfc3629 tailsOf follow widthBy sequence sequenceAt noneIllFormed illFormed codePoint charAt afterVersion afterUtf8 checkText closeLatest isClosed allClosed headOf escapeOf escapeAt memberAt memberBy memberTurn membersEnd firstMember setEnd isEmptySet setAs setRead escapeAs escapeRead onward afterClose headTurn patternTurn patternEnd patternWalk checkPattern escaped pieces allowsDigit piecesWalk checkReplacement isFlag isModifier getFormat scanPrecision scanWidth scanFormat modifiersAt isConversion flagsFor flagsRun takesPrecision afterTwoDigits goodModifiers conversionTurn specifierTurn percentTurn formatTurn formatEnd formatWalk checkFormat getnumlimit fixedString numberedOption getoption kindOf numberOr luckSizeof luckSize maxalign isPowerOfTwo isMisaligned aligned variable alignBy alignmentOf alignToNext kindTurn optionTurn packTurn packEnd packWalk checkPack twoDigits capturesIn replacementWith plainCheck checkBy checkOf bodyAnswer lineAnswer column justified fourColumns sevenColumns row lastLine linesFrom lines rows listing
+unfolding if_then_else_ among isDigit isXdigit run digitValue numeralFrom numeral walk walkFrom isVersion versions has rulesOf rfc3629 tailsOf follow widthBy sequence sequenceAt noneIllFormed illFormed codePoint charAt afterVersion afterUtf8 checkText closeLatest isClosed allClosed headOf escapeOf escapeAt memberAt memberBy memberTurn membersEnd firstMember setEnd isEmptySet setAs setRead escapeAs escapeRead onward afterClose headTurn patternTurn patternEnd patternWalk checkPattern escaped pieces allowsDigit piecesWalk checkReplacement isFlag isModifier getFormat scanPrecision scanWidth scanFormat modifiersAt isConversion flagsFor flagsRun takesPrecision afterTwoDigits goodModifiers conversionTurn specifierTurn percentTurn formatTurn formatEnd formatWalk checkFormat secondBytes isPair singleWidth pairWidth conversionWidth dateTurn dateEnd isStarT isTable conversionsWalk dateWalk checkDate getnumlimit fixedString numberedOption getoption kindOf numberOr luckSizeof luckSize maxalign isPowerOfTwo isMisaligned aligned variable alignBy alignmentOf alignToNext kindTurn optionTurn packTurn packEnd packWalk checkPack twoDigits capturesIn replacementWith plainCheck checkBy checkOf bodyAnswer lineAnswer column justified fourColumns sevenColumns row lastLine linesFrom lines rows listing
 computed = tt
 
 abbrev line : List ℕ → List ℕ → List ℕ
@@ -50,3 +52,48 @@ heads = refl
 pub longest-line : (lineAnswer (replicate 4005 0) ≡ refused 30 0) × (lineAnswer (replicate 4006 0) ≡ refused 31 0)
 unfolding computed
 longest-line = (refl, refl)
+
+-- a line for each number that a line is answered, from 0 on
+abbrev answered : List (List ℕ)
+answered =
+    ascii "F1   %d"
+    ∷ ascii "F1   %"
+    ∷ ascii "F1   %y"
+    ∷ ascii "F1   %------d"
+    ∷ ascii "F1   %123d"
+    ∷ ascii "F1   %.123d"
+    ∷ ascii "F4   %#d"
+    ∷ ascii "F4   %000000000000000000000d"
+    ∷ ascii "P1   [a"
+    ∷ ascii "P1   [^]"
+    ∷ ascii "P1   %f"
+    ∷ ascii "P1   (a"
+    ∷ ascii "P1   ((((((((((((((((((((((((((((((((("
+    ∷ ascii "P1   %1"
+    ∷ ascii "K3   y"
+    ∷ ascii "K3   c"
+    ∷ ascii "K3   i17"
+    ∷ ascii "K3   !8i3"
+    ∷ ascii "S3   z"
+    ∷ ascii "G2   %"
+    ∷ ascii "G2   %x"
+    ∷ ascii "G2 0 %2"
+    ∷ ascii "D2   %Q"
+    ∷ (ascii "F1   " ++ (0xFF ∷ []))
+    ∷ ascii "F7   x"
+    ∷ ascii "F"
+    ∷ replicate 4006 0
+    ∷ []
+
+abbrev numbersOf : List (List ℕ) → List ℕ
+numbersOf [] = []
+numbersOf (text ∷ more) = lineAnswer text .number ∷ numbersOf more
+
+abbrev allAmong : List ℕ → List ℕ → Bool
+allAmong [] numbers = true
+allAmong (n ∷ more) numbers = among n numbers && allAmong more numbers
+
+-- the list of a line's numbers has no other
+pub line-numbers : allAmong lineNumbers (numbersOf answered) ≡ true
+unfolding computed
+line-numbers = refl

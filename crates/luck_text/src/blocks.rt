@@ -1,4 +1,5 @@
-// Long runs of bytes that are neither of two, as between two line breaks or escapes: they are passed over by blocks.
+// Long runs of bytes that are neither of two, as between two line breaks or escapes: they are passed over by blocks. The contracts say what callers go by: that no byte
+// of the two is passed over. How much is passed over is a matter of speed alone.
 ghost use mathlib.Core.Path.{_≡_};
 ghost use mathlib.Core.Bool.{true, false};
 ghost use Prim.Native.Nat.{ℕ, _<_, _≤_};

@@ -215,7 +215,11 @@ fn wrong_literal_records() -> Records {
     let mut wrong = |literal: Literal| records.push_literal(&QUESTION, 10, &literal);
     wrong(REFUSED);
     wrong(Literal { skipped: 1, ..REFUSED });
+    wrong(Literal { number: 1, ..REFUSED });
     wrong(Literal { first: 0, ..REFUSED });
+    wrong(Literal { second: 121, ..REFUSED });
+    wrong(Literal { offset: 3, ..REFUSED });
+    wrong(Literal { count: 1, ..REFUSED });
     wrong(Literal { start: 12, ..REFUSED });
     wrong(Literal { end: 15, ..REFUSED });
     wrong(Literal { spanned: 0, ..REFUSED });

@@ -111,12 +111,19 @@ fn rows(file: &Path) -> io::Result<Vec<Record>> {
     lines.map(|line| row(line).ok_or_else(|| io::Error::other(line.to_owned()))).collect()
 }
 
-/// Right ones, and ones that are wrong in one field each.
+/// Trials that 5.1 runs to the end and the other versions do not, each with the answer of one of the two versions that it names.
+fn wrong_in_one_version() -> impl Iterator<Item = Record> {
+    let others = (2..=8).map(|other| format!("1{other} 1000 10 \"a\" \"%x\" \"a\" 0 0 1 3 \"x\""));
+    let first = "12 1000 10 \"a\" \"%x\" \"a\" 29 9 1 2 \"\"".to_owned();
+    others.chain([first]).map(|line| row(&line).unwrap())
+}
+
+/// Right ones, ones that are wrong in one field each, and ones that are wrong in one version.
 fn wrong() -> Vec<Record> {
     let line = "123456 1000 10 \"a\" \"x\" \"aba\" 0 0 2 6 \"xbx\"";
     let right = || row(line).unwrap();
     let raised = || row("123456 1000 10 \"(a\" \"%1\" \"ab\" 29 6 1 3 \"\"").unwrap();
-    vec![
+    let mut records = vec![
         right(),
         Record { number: 27, ..right() },
         Record { kind: 1, ..right() },
@@ -133,7 +140,9 @@ fn wrong() -> Vec<Record> {
         Record { kind: 7, known: KINDS_ALIKE | NUMBER_AND_KIND, ..raised() },
         Record { number: 0, known: NUMBER_AND_KIND, ..raised() },
         Record { steps: 9, known: NUMBER_AND_KIND, ..raised() },
-    ]
+    ];
+    records.extend(wrong_in_one_version());
+    records
 }
 
 fn all_bytes(records: &[Record]) -> Vec<u8> {
