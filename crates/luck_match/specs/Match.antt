@@ -82,7 +82,7 @@ due budget u k = let on = k (u + 1) in if ltb u budget then on else stopped 27 0
 abbrev pub maxLevels : ℕ
 maxLevels = 200
 
--- a new level is opened: 28 where there are as many already
+-- a new level is opened: 28 where `maxLevels` are open already
 unfoldable pub newLevel : ℕ → ℕ → (ℕ → Outcome) → Outcome
 newLevel l u k = let on = k (l + 1) in if ltb l maxLevels then on else stopped 28 0 u
 
@@ -94,7 +94,7 @@ orElse (stopped number kind u) k = stopped number kind u
 
 -- ---- Items
 
--- start_capture: as many as there may be already raises 8; a failing level takes the capture back, since the captures are handed on by value
+-- start_capture: raises 8 where there are `maxCaptures` already; a failing level takes the capture back, since the captures are handed on by value
 unfoldable pub startCapture : Capture → Rest → ℕ → ℕ → List Capture → ℕ → Outcome
 startCapture c rest s l cs u =
     let on = newLevel l u (λ m. rest s m (cs ++ (c ∷ [])) u) in

@@ -1,5 +1,5 @@
--- What is written for a match (add_s and get_onecapture of lstrlib.c 5.4, and add_s of 5.1 for version 1; document 01, "Writing"), byte by byte into an output of a given
--- room.
+-- What is written for a match (add_s and get_onecapture of lstrlib.c 5.4, and add_s of 5.1 for version 1; document 01, "Writing"), byte by byte into an
+-- output of a given room.
 -- Assumes nothing.
 use Prim.Native.Nat.{ℕ, zero, suc, _+_, _-_, _/_, _%_}
 use Prim.Native.Char.{code}
