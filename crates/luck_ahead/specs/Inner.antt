@@ -7,7 +7,7 @@ use mathlib.Core.List.{List}
 use mathlib.Core.Option.{none}
 use Rattle.luck_text.specs.Bytes.{byteAt}
 use Rattle.luck_pattern.specs.Items.{single, repeatOf, items}
-use Rattle.luck_match.specs.Class.{matchClass}
+use Rattle.luck_subject.specs.Class.{matchClass}
 use Rattle.luck_match.specs.Match.{Capture, failed, newLevel, captureToClose, fitsAt, match}
 use Rattle.luck_ahead.specs.declared.ahead.Ahead.{Ahead}
 use Rattle.luck_match.specs.Inner.{singleOf, SingleIn, repeatRead, ItemAt}

@@ -2,11 +2,12 @@
 ghost use mathlib.Core.Bool.{true};
 ghost use mathlib.Core.Path.{_≡_};
 ghost use Prim.Native.Nat.{_<_};
-ghost use Rattle.luck_match.specs.Inner.{AreMasks, SingleIn};
+ghost use Rattle.luck_subject.specs.Inner.{AreMasks};
+ghost use Rattle.luck_match.specs.Inner.{SingleIn};
 ghost use Rattle.luck_ahead.specs.Inner.{SingleEnds, MustFit, Sure, FailsHere};
 use luck_match::item;
 use luck_match::single;
-use luck_match::subject::Found;
+use luck_subject::subject::Found;
 
 // The single from `at` up to `end` fails the rest of a pattern where it does not fit, after so many steps; with no steps nothing is known.
 pub struct Ahead {

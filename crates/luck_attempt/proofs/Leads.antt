@@ -12,32 +12,8 @@ use borrow.Author.Tests.{lt-ltb, le-ltb}
 use Rattle.luck_text.specs.Bytes.{if_then_else_}
 use Rattle.luck_text.proofs.Cases.{if-true, if-false, order}
 use Rattle.luck_pattern.specs.Items.{Single, Repeat, once, star, plus, Item, start-capture, position-capture, single, items}
-use Rattle.luck_match.specs.Class.{matchClass}
-use Rattle.luck_match.specs.Match.{
-  Capture,
-  opened,
-  position,
-  Outcome,
-  matched,
-  failed,
-  stopped,
-  Rest,
-  due,
-  newLevel,
-  orElse,
-  startCapture,
-  passedOver,
-  Reach,
-  reach,
-  reached,
-  spent,
-  longestFirst,
-  maxExpand,
-  fitsAt,
-  expand,
-  doItem,
-  match,
-}
+use Rattle.luck_subject.specs.Class.{matchClass}
+use Rattle.luck_match.specs.Match.{Capture, opened, position, Outcome, matched, failed, stopped, Rest, due, newLevel, orElse, startCapture, passedOver, Reach, reach, reached, spent, longestFirst, maxExpand, fitsAt, expand, doItem, match}
 use Rattle.luck_match.specs.Inner.{Then, reachOf, positional, noPair, pairsOf, capturesOf, PairIn, Sound}
 use Rattle.luck_matcher.specs.Inner.{AttemptIn}
 use Rattle.luck_attempt.specs.Inner.{FailsBy, LeadsTo, GoesOn, LastIn, LeadIn}

@@ -7,7 +7,7 @@ use mathlib.Core.Bool.{Bool, true, false}
 use mathlib.Core.List.{List, [], _∷_}
 use lib.ListN.{length}
 use Rattle.luck_pattern.specs.Items.{Single, once, plus, Item, single, items}
-use Rattle.luck_match.specs.Class.{matchClass}
+use Rattle.luck_subject.specs.Class.{matchClass}
 use Rattle.luck_match.specs.Match.{failed, fitsAt, maxExpand, reach, match}
 use Rattle.luck_attempt.specs.declared.attempt.Lead.{Lead}
 use Rattle.luck_match.specs.Inner.{singleOf, SingleIn}

@@ -14,25 +14,8 @@ use lib.Dec.{eqb, leb}
 use borrow.Author.Tests.{lt-ltb, le-ltb, le-leb, lt-leb, eq-eqb, ne-eqb}
 use Rattle.luck_text.specs.Bytes.{if_then_else_}
 use Rattle.luck_text.proofs.Cases.{by-test, second-false, order}
-use Rattle.luck_match.specs.Match.{
-  Capture,
-  opened,
-  position,
-  closed,
-  startOf,
-  toCloseBy,
-  captureToClose,
-  Outcome,
-  Rest,
-  raised,
-  failed,
-  newLevel,
-  startCapture,
-  endCapture,
-  sameBytes,
-  matchCapture,
-  backReference,
-}
+use Rattle.luck_match.specs.Match.{Capture, opened, position, closed, startOf, toCloseBy, captureToClose, Outcome, Rest, raised, failed, newLevel, startCapture, endCapture, matchCapture, backReference}
+use Rattle.luck_subject.specs.Subject.{sameBytes}
 use Rattle.luck_match.specs.Inner.{unfinished, positional, captureOf, noPair, pairsOf, capturesOf, capturesIn, PairIn, Sound, KeptIn, closeOf, CloseIn}
 use Rattle.luck_match.specs.declared.capture.Pair.{Pair}
 use Rattle.luck_match.specs.declared.capture.Captures.{Captures}

@@ -1,8 +1,5 @@
-pub mod Frontiers
-pub mod Classes
 pub mod Sets
 pub mod Singles
-pub mod Subjects
 pub mod Captures
 pub mod Places
 pub mod Items

@@ -82,11 +82,12 @@ use Rattle.luck_pattern.specs.Items.{
   items,
 }
 use Rattle.luck_pattern.proofs.Patterns as patterns
-use Rattle.luck_match.specs.Inner.{singleOf, SingleIn, foundOf, closingOf, ClosesIn, repeatRead, Then, Single-then, ItemAt}
+use Rattle.luck_match.specs.Inner.{singleOf, SingleIn, closingOf, ClosesIn, repeatRead, Then, Single-then, ItemAt}
+use Rattle.luck_subject.specs.Inner.{foundOf}
 use Rattle.luck_match.specs.declared.item.Item.{Item as Coded}
 use Rattle.luck_match.specs.declared.item.Item.the-variants as coded
-use Rattle.luck_match.specs.declared.subject.Found.{Found}
-use Rattle.luck_match.specs.declared.subject.Found.the-variants as found
+use Rattle.luck_subject.specs.declared.subject.Found.{Found}
+use Rattle.luck_subject.specs.declared.subject.Found.the-variants as found
 use Rattle.luck_match.proofs.Items.{items-at, IsRepeat, is-repeat}
 
 -- ---- The first member of a set

@@ -13,7 +13,7 @@ use Rattle.luck_text.specs.Bytes.{if_then_else_, byteAt, between}
 use Rattle.luck_text.proofs.Cases.{if-false, first-false, second-false}
 use Rattle.luck_pattern.specs.Pattern.{firstMember}
 use Rattle.luck_pattern.specs.Items.{Element, escape, range, plain, elementsFrom, elementsOf, setOf}
-use Rattle.luck_match.specs.Class.{isElement, isAnyOf, inSet}
+use Rattle.luck_match.specs.Single.{isElement, isAnyOf, inSet}
 
 module _ (pat : List ℕ) (e : ℕ) where
   from-end : (n q : ℕ) → e ≤ q → elementsFrom pat e n q ≡ []

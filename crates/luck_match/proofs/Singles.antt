@@ -12,8 +12,9 @@ use borrow.Author.Tests.{lt-ltb, le-ltb, ltb-true, ne-eqb}
 use Rattle.luck_text.specs.Bytes.{if_then_else_, byteAt}
 use Rattle.luck_text.proofs.Cases.{and-left}
 use Rattle.luck_pattern.specs.Items.{Set, Single, class, setOf}
-use Rattle.luck_match.specs.Class.{inSet, fits}
-use Rattle.luck_match.specs.Match.{byteBefore, isFrontier, fitsAt, Reach, reached, spent, reach}
+use Rattle.luck_match.specs.Single.{inSet, fits}
+use Rattle.luck_subject.specs.Subject.{byteBefore}
+use Rattle.luck_match.specs.Match.{isFrontier, fitsAt, Reach, reached, spent, reach}
 use Rattle.luck_match.specs.Inner.{singleOf}
 
 -- ---- The single at place p

@@ -10,8 +10,9 @@ use borrow.Author.Tests.{lt-ltb, le-ltb, eq-eqb, ne-eqb}
 use Rattle.luck_text.specs.Bytes.{if_then_else_}
 use Rattle.luck_text.proofs.Cases.{if-true, if-false}
 use Rattle.luck_pattern.specs.Items.{Set, Single, Repeat, Item, start-capture, position-capture, end-capture, end-anchor, balance, frontier, back-reference, single, raises, items}
-use Rattle.luck_match.specs.Class.{matchClass}
-use Rattle.luck_match.specs.Match.{Capture, opened, position, captureToClose, Outcome, matched, failed, stopped, raised, Rest, due, newLevel, startCapture, endCapture, backReference, matchBalance, goesOnAt, isFrontier, passedOver, fitsAt, expand, doItem, match}
+use Rattle.luck_subject.specs.Class.{matchClass}
+use Rattle.luck_match.specs.Match.{Capture, opened, position, captureToClose, Outcome, matched, failed, stopped, raised, Rest, due, newLevel, startCapture, endCapture, backReference, goesOnAt, isFrontier, passedOver, fitsAt, expand, doItem, match}
+use Rattle.luck_subject.specs.Subject.{matchBalance}
 use Rattle.luck_match.specs.Inner.{Then}
 
 -- ---- Levels

@@ -8,13 +8,13 @@ use mathlib.Core.List.{List, [], _∷_}
 use mathlib.Core.Option.{Option, none, some}
 use lib.ListN.{length, getD}
 use lib.Dec.{eqb}
-use Rattle.luck_text.specs.Bytes.{if_then_else_, byteAt, isDigit, isXdigit, isLuaWhitespace}
+use Rattle.luck_text.specs.Bytes.{if_then_else_, byteAt}
 use Rattle.luck_pattern.specs.Pattern.{SetEnd, closes-at, cut-at, unclosed}
 use Rattle.luck_pattern.specs.Items.{Single, any, class, among-set, byte, Repeat, once, optional, star, plus, minus, Item, start-capture, position-capture, end-capture, end-anchor, balance, frontier, back-reference, single, raises, setOf, items}
-use Rattle.luck_match.specs.Class.{isLower, isUpper, isCntrl, isPunct, toLower, matchClass}
+use Rattle.luck_subject.specs.Class.{matchClass}
 use Rattle.luck_match.specs.Match.{Capture, opened, position, closed, failed, raised, Rest, Reach, reached, spent, reach}
-use Rattle.luck_match.specs.declared.subject.Found.{Found}
-use Rattle.luck_match.specs.declared.subject.Found.the-variants as found
+use Rattle.luck_subject.specs.declared.subject.Found.{Found}
+use Rattle.luck_subject.specs.declared.subject.Found.the-variants as found
 use Rattle.luck_match.specs.declared.single.Reached.{Reached}
 use Rattle.luck_match.specs.declared.capture.Pair.{Pair}
 use Rattle.luck_match.specs.declared.capture.Captures.{Captures}
@@ -24,39 +24,6 @@ use Rattle.luck_match.specs.declared.capture.Held.{Held}
 use Rattle.luck_match.specs.declared.capture.Held.the-variants as held
 use Rattle.luck_match.specs.declared.item.Item.{Item as Read}
 use Rattle.luck_match.specs.declared.item.Item.the-variants as read
-
--- ---- Classes
-
--- the mask of a byte: a bit for each class from which the others are made
-unfoldable pub bit : ℕ → Bool → ℕ
-bit n true = n
-bit n false = 0
-
-unfoldable pub maskOf : ℕ → ℕ
-maskOf c =
-    bit 1 (isCntrl c) + bit 2 (isDigit c) + bit 4 (isLower c) + bit 8 (isPunct c) + bit 16 (isLuaWhitespace c) + bit 32 (isUpper c) + bit 64 (isXdigit c)
-    + bit 128 (eqb c 0)
-
-unfoldable pub AreMasks : List ℕ → Type 0
-AreMasks masks = (c : ℕ) → c < 256 → getD masks c 0 ≡ maskOf c
-
--- the bits of the class that a small letter names, 0 where it names none
-unfoldable pub classBits : ℕ → ℕ
-classBits letter =
-    if eqb letter (code "a") then 36
-    else if eqb letter (code "c") then 1
-    else if eqb letter (code "d") then 2
-    else if eqb letter (code "g") then 46
-    else if eqb letter (code "l") then 4
-    else if eqb letter (code "p") then 8
-    else if eqb letter (code "s") then 16
-    else if eqb letter (code "u") then 32
-    else if eqb letter (code "w") then 38
-    else if eqb letter (code "x") then 64
-    else if eqb letter (code "z") then 128 else 0
-
-unfoldable pub bitsOf : ℕ → ℕ
-bitsOf cl = classBits (toLower cl)
 
 -- ---- Singles
 
@@ -84,16 +51,6 @@ classReach sub budget letter s u = reach matchClass sub budget (class letter) (l
 
 abbrev pub ReachIn : Reached → ℕ → ℕ → Type 0
 ReachIn r s len = (s ≤ r .end) × (r .end ≤ len)
-
--- ---- The subject
-
-abbrev pub foundOf : Found → Option ℕ
-foundOf (found.At e) = some e
-foundOf found.Nothing = none
-
-abbrev pub FoundIn : Found → ℕ → ℕ → Type 0
-FoundIn (found.At e) s len = (s < e) × (e ≤ len)
-FoundIn found.Nothing s len = Unit {0}
 
 -- ---- Captures
 

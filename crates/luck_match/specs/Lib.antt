@@ -1,3 +1,3 @@
-pub mod Class
+pub mod Single
 pub mod Match
 pub mod Inner

@@ -30,7 +30,8 @@ use Rattle.luck_pattern.specs.Items.{
   single,
   raises,
 }
-use Rattle.luck_match.specs.Class.{inSet, fits}
+use Rattle.luck_subject.specs.Subject.{sameBytes, matchBalance, byteBefore}
+use Rattle.luck_match.specs.Single.{inSet, fits}
 
 -- ---- Captures
 
@@ -107,11 +108,6 @@ endCapture (some i) rest s l cs u =
     let start = startOf (getD cs i (opened 0)) in
     newLevel l u (λ m. rest s m (set cs i (closed start (s - start))) u)
 
--- n bytes of the subject from place a and from place b on are the same
-unfoldable pub sameBytes : List ℕ → ℕ → ℕ → ℕ → Bool
-sameBytes sub zero a b = true
-sameBytes sub (suc n) a b = eqb (byteAt sub a) (byteAt sub b) && sameBytes sub n (a + 1) (b + 1)
-
 -- match_capture, of a capture that is there
 unfoldable pub matchCapture : List ℕ → Capture → Rest → ℕ → ℕ → List Capture → ℕ → Outcome
 matchCapture sub (opened start) rest s l cs u = raised 7 u
@@ -126,29 +122,9 @@ backReference sub d rest s l cs u =
     let on = matchCapture sub (getD cs (d - 1) (opened 0)) rest s l cs u in
     if ltb 0 d && leb d (length cs) then on else raised 7 u
 
--- matchbalance, inside `depth` of x: the place after the y that closes the first. n bytes are left
-unfoldable pub balanceEnd : List ℕ → ℕ → ℕ → ℕ → ℕ → ℕ → Option ℕ
-balanceEnd sub x y zero depth s = none
-balanceEnd sub x y (suc n) depth s =
-    let closes = balanceEnd sub x y n (depth - 1) (s + 1) in
-    let opens = balanceEnd sub x y n (depth + 1) (s + 1) in
-    let passes = balanceEnd sub x y n depth (s + 1) in
-    if eqb (byteAt sub s) y then (if eqb depth 1 then some (s + 1) else closes)
-    else if eqb (byteAt sub s) x then opens else passes
-
--- the x stands at s
-unfoldable pub matchBalance : List ℕ → ℕ → ℕ → ℕ → Option ℕ
-matchBalance sub x y s =
-    if ltb s (length sub) && eqb (byteAt sub s) x then balanceEnd sub x y (length sub - (s + 1)) 1 (s + 1) else none
-
 unfoldable pub goesOnAt : Option ℕ → Rest → ℕ → List Capture → ℕ → Outcome
 goesOnAt none rest l cs u = failed u
 goesOnAt (some e) rest l cs u = rest e l cs u
-
--- the byte before s. A zero byte stands before the subject's first byte; after its last one byteAt gives a zero byte
-unfoldable pub byteBefore : List ℕ → ℕ → ℕ
-byteBefore sub zero = 0
-byteBefore sub (suc s) = byteAt sub s
 
 -- the byte before s is outside the set, and the byte at s inside
 unfoldable pub isFrontier : (ℕ → ℕ → Bool) → List ℕ → Set → ℕ → Bool

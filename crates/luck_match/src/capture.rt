@@ -4,7 +4,7 @@ ghost use Prim.Native.Nat.{ℕ, _≤_, _<_};
 ghost use lib.ListN.{length};
 ghost use Rattle.luck_match.specs.Match.{Rest, captureToClose, backReference};
 ghost use Rattle.luck_match.specs.Inner.{capturesOf, capturesIn, Sound, KeptIn, closeOf, CloseIn, heldAs, HeldIn};
-use crate::subject;
+use luck_subject::subject;
 
 // lstrlib.c's CAP_UNFINISHED and CAP_POSITION stand in the place of a length.
 pub const UNFINISHED: usize = 0xFFFF_FFFF_FFFF_FFFF;

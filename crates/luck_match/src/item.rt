@@ -5,8 +5,9 @@ ghost use mathlib.Core.Path.{_≡_};
 ghost use Rattle.luck_text.specs.Bytes.{byteAt};
 ghost use Rattle.luck_pattern.specs.Pattern.{setEnd};
 ghost use Rattle.luck_pattern.specs.Items.{repeatOf};
-ghost use Rattle.luck_match.specs.Inner.{foundOf, closingOf, ClosesIn, AtSet, AtEscape, AtFrontier, repeatRead, ItemAt};
-use crate::subject::Found;
+ghost use Rattle.luck_subject.specs.Inner.{foundOf};
+ghost use Rattle.luck_match.specs.Inner.{closingOf, ClosesIn, AtSet, AtEscape, AtFrontier, repeatRead, ItemAt};
+use luck_subject::subject::Found;
 
 // What stands at a place of a pattern, with the place after it.
 pub enum Item {

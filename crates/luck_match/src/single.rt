@@ -3,11 +3,14 @@ ghost use mathlib.Core.Path.{_≡_};
 ghost use Prim.Native.Nat.{_-_, _<_, _≤_};
 ghost use lib.ListN.{length};
 ghost use Rattle.luck_pattern.specs.Items.{setOf, elementsOf};
-ghost use Rattle.luck_match.specs.Class.{matchClass, isAnyOf, inSet};
+ghost use Rattle.luck_subject.specs.Class.{matchClass};
+ghost use Rattle.luck_match.specs.Single.{isAnyOf, inSet};
 ghost use Rattle.luck_match.specs.Match.{isFrontier, fitsAt, reach};
-ghost use Rattle.luck_match.specs.Inner.{AreMasks, SingleIn, singleOf, classReach, reachOf, ReachIn};
-use crate::class;
-use crate::subject;
+ghost use Rattle.luck_subject.specs.Inner.{AreMasks};
+ghost use Rattle.luck_match.specs.Inner.{SingleIn, singleOf, classReach, reachOf, ReachIn};
+use luck_subject::class;
+use luck_subject::subject;
+use luck_text::scan;
 
 // Whether the byte is among the elements from `from` up to the closing `]` at `closing`.
 fn is_any_of(masks: &[u8; 256], pattern: &[u8], from: usize, closing: usize, byte: u8) -> bool
@@ -108,7 +111,7 @@ pub fn is_frontier(
         pattern,
         opening,
         closing,
-        subject::byte_at(subject, place),
+        scan::byte_at(subject, place),
     )
 }
 

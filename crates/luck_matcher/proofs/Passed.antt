@@ -13,7 +13,7 @@ use borrow.Author.Tests.{eqb-true}
 use Rattle.luck_text.proofs.Cases.{order}
 use Rattle.luck_pattern.specs.Items.{Single, minus}
 use Rattle.luck_match.specs.Match.{Capture, captureToClose, Outcome, failed, Rest, newLevel, orElse, longestFirst, fitsAt, expand, stopped}
-use Rattle.luck_match.specs.Class.{matchClass}
+use Rattle.luck_subject.specs.Class.{matchClass}
 use Rattle.luck_match.specs.Inner.{unfinished, noPair, pairsOf}
 use Rattle.luck_ahead.specs.Inner.{Sure, FailsHere}
 use Rattle.luck_matcher.specs.Inner.{outcomeOf}

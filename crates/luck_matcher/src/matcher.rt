@@ -3,9 +3,10 @@ ghost use mathlib.Core.Path.{_≡_};
 ghost use Prim.Native.Nat.{ℕ, _+_, _-_, _<_, _≤_};
 ghost use lib.ListN.{length};
 ghost use Rattle.luck_pattern.specs.Items.{items, minus};
-ghost use Rattle.luck_match.specs.Class.{matchClass};
+ghost use Rattle.luck_subject.specs.Class.{matchClass};
 ghost use Rattle.luck_match.specs.Match.{newLevel, startCapture, endCapture, captureToClose, longestFirst, expand, match};
-ghost use Rattle.luck_match.specs.Inner.{AreMasks, SingleIn, singleOf, captureOf, capturesOf, positional, Sound};
+ghost use Rattle.luck_subject.specs.Inner.{AreMasks};
+ghost use Rattle.luck_match.specs.Inner.{SingleIn, singleOf, captureOf, capturesOf, positional, Sound};
 ghost use Rattle.luck_matcher.specs.Inner.{outcomeOf, AttemptIn};
 use luck_ahead::ahead;
 use luck_match::capture;
@@ -16,8 +17,8 @@ use luck_match::capture::Pair;
 use luck_match::item;
 use luck_match::item::Item;
 use luck_match::single;
-use luck_match::subject;
-use luck_match::subject::Found;
+use luck_subject::subject;
+use luck_subject::subject::Found;
 
 // How an attempt ends: number 0, a match with its end and in `more` the count of its captures; 1, a failure; 27 steps spent; 28 too deep;
 // 29 raised, with its kind in `more`.

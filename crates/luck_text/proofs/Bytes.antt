@@ -76,6 +76,14 @@ module _ (test : ℕ → Bool) where
   unfolding run
   run-end text p h = rw (drop-of-length-le text h)
 
+  -- a run that is not empty has its first byte
+  pub run-first : (text : List ℕ) (p : ℕ) → 0 < run test (drop p text) → (p < length text) × (test (byteAt text p) ≡ true)
+  run-first text p h = ⊎-elim (λ l. (l, go l (test (byteAt text p)) refl)) (λ g. absurd (omega (arith, run-end text p g))) (order p (length text))
+    where
+      go : p < length text → (t : Bool) → test (byteAt text p) ≡ t → test (byteAt text p) ≡ true
+      go l true e = e
+      go l false e = absurd (omega (arith, run-stop text p l e))
+
   run-length : (text : List ℕ) → run test text ≤ length text
   unfolding run
   run-length [] = omega arith

@@ -2,7 +2,7 @@
 ghost use mathlib.Core.Path.{_≡_};
 ghost use Prim.Native.Nat.{_≤_, min};
 ghost use lib.ListN.{length, drop};
-ghost use Rattle.luck_text.specs.Bytes.{part, among, run as runOf, digitValue, numeral as numeralOf};
+ghost use Rattle.luck_text.specs.Bytes.{byteAt, part, among, run as runOf, digitValue, numeral as numeralOf};
 ghost use Rattle.luck_text.specs.Scan.{inClass, most, grown};
 
 // What a run is made of.
@@ -54,6 +54,16 @@ pub fn is_in(class: Class, byte: u8) -> bool
         Class::Whitespace => is_lua_whitespace(byte),
         Class::Byte(b) => b == byte,
     }
+}
+
+// The byte at a place, a zero byte past the end.
+pub fn byte_at(text: &[u8], at: usize) -> u8
+    ensures { λ r. ⌜ r ≡ byteAt (now (text .entry)) at ⌝ }
+{
+    if at < text.len() {
+        return text[at];
+    }
+    0
 }
 
 // How many bytes from `at` on belong to the class, up to the first that does not.

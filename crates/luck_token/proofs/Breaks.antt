@@ -5,7 +5,7 @@ use native.Mathlib.Omega.{arith}
 use mathlib.Core.Path.{_≡_, refl, sym, ap, _∙_}
 use mathlib.Core.Bool.{Bool, true, false, _&&_}
 use mathlib.Core.List.{List}
-use lib.ListN.{length, List·getD-eq-default}
+use lib.ListN.{length}
 use lib.Dec.{eqb}
 use borrow.Author.Tests.{eqb-true, ne-eqb}
 use Rattle.luck_text.specs.Bytes.{if_then_else_, byteAt}
@@ -13,28 +13,28 @@ use Rattle.luck_token.specs.Whitespace.{lineBreak}
 use Rattle.luck_text.proofs.Cases.{by-test, and-left, and-right, present}
 
 module _ (lfcr : Bool) (text : List ℕ) (p : ℕ) where
-  pub cr-lf : byteAt text p ≡ 13 → eqb (byteAt text (p + 1)) 10 ≡ true → 2 ≡ lineBreak lfcr text p
+  pub cr-lf : byteAt text p ≡ 13 → byteAt text (p + 1) ≡ 10 → 2 ≡ lineBreak lfcr text p
   unfolding lineBreak if_then_else_
   cr-lf e f = rw (e, f)
 
-  pub lone-cr : byteAt text p ≡ 13 → eqb (byteAt text (p + 1)) 10 ≡ false → lfcr ≡ true → 1 ≡ lineBreak lfcr text p
+  pub lone-cr : byteAt text p ≡ 13 → (byteAt text (p + 1) ≡ 10 → ⊥) → lfcr ≡ true → 1 ≡ lineBreak lfcr text p
   unfolding lineBreak if_then_else_
-  lone-cr e f g = rw (e, f, g)
+  lone-cr e f g = rw (e, ne-eqb (byteAt text (p + 1)) 10 f, g)
 
-  pub plain-cr : byteAt text p ≡ 13 → eqb (byteAt text (p + 1)) 10 ≡ false → lfcr ≡ false → 0 ≡ lineBreak lfcr text p
+  pub plain-cr : byteAt text p ≡ 13 → (byteAt text (p + 1) ≡ 10 → ⊥) → lfcr ≡ false → 0 ≡ lineBreak lfcr text p
   unfolding lineBreak if_then_else_
-  plain-cr e f g = rw (e, f, g)
+  plain-cr e f g = rw (e, ne-eqb (byteAt text (p + 1)) 10 f, g)
 
-  pub lf-cr : byteAt text p ≡ 10 → eqb (byteAt text (p + 1)) 13 ≡ true → lfcr ≡ true → 2 ≡ lineBreak lfcr text p
+  pub lf-cr : byteAt text p ≡ 10 → byteAt text (p + 1) ≡ 13 → lfcr ≡ true → 2 ≡ lineBreak lfcr text p
   unfolding lineBreak if_then_else_
   lf-cr e f g = rw (e, f, g)
 
-  pub lf-without-cr : byteAt text p ≡ 10 → eqb (byteAt text (p + 1)) 13 ≡ false → 1 ≡ lineBreak lfcr text p
+  pub lf-without-cr : byteAt text p ≡ 10 → (byteAt text (p + 1) ≡ 13 → ⊥) → 1 ≡ lineBreak lfcr text p
   unfolding lineBreak if_then_else_
   lf-without-cr e f = go lfcr
     where
       go : (t : Bool) → 1 ≡ lineBreak t text p
-      go true = rw (e, f)
+      go true = rw (e, ne-eqb (byteAt text (p + 1)) 13 f)
       go false = rw e
 
   pub lone-lf : byteAt text p ≡ 10 → lfcr ≡ false → 1 ≡ lineBreak lfcr text p
@@ -48,11 +48,6 @@ module _ (lfcr : Bool) (text : List ℕ) (p : ℕ) where
       go : (t : Bool) → 0 ≡ lineBreak t text p
       go true = rw (ne-eqb (byteAt text p) 13 e, ne-eqb (byteAt text p) 10 f)
       go false = rw (ne-eqb (byteAt text p) 13 e, ne-eqb (byteAt text p) 10 f)
-
-  pub end-break : length text ≤ p → 0 ≡ lineBreak lfcr text p
-  end-break h =
-      let e = List·getD-eq-default text 0 {n = p} h in
-      no-break (λ f. absurd (omega arith)) (λ f. absurd (omega arith))
 
   byte-there : (q b : ℕ) → 0 < b → eqb (byteAt text q) b ≡ true → q < length text
   byte-there q b h e = present text q (omega (arith, eqb-true (byteAt text q) b e))

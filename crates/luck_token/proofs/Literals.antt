@@ -41,7 +41,7 @@ use Rattle.luck_token.specs.declared.string.Piece.{Piece as Found}
 use Rattle.luck_token.specs.declared.string.Escape.{Escape}
 use Rattle.luck_token.specs.declared.string.Escape.the-variants.{Decimal}
 use Rattle.luck_text.proofs.Cases.{by-test, if-true, if-false, and-left, and-right, both-true, first-false, second-false, order}
-use Rattle.luck_text.proofs.Bytes.{within, below, above, digit-more, digit-end, hex-value}
+use Rattle.luck_text.proofs.Bytes.{within, below, above, run-more, run-first, digit-more, digit-end, hex-value}
 use Rattle.luck_token.proofs.Breaks.{no-break}
 use Rattle.luck_text.proofs.Neither.{neither-first, neither-second}
 
@@ -143,15 +143,42 @@ module _ (lfcr : Bool) (body : List ℕ) (p : ℕ) where
 
 -- `\x`
 module _ (body : List ℕ) (p : ℕ) where
-  pub hex-bad : (isXdigit (byteAt body (p + 2)) && isXdigit (byteAt body (p + 3))) ≡ false → malformed ≡ hexEscape body p
-  unfolding hexEscape
-  hex-bad e = sym (if-false _ _ _ e)
+  digit : ℕ → Bool
+  digit q = isXdigit (byteAt body q)
 
-  pub hex-cut : length body < p + 4 → malformed ≡ hexEscape body p
-  hex-cut h = hex-bad (second-false (isXdigit (byteAt body (p + 2))) (isXdigit (byteAt body (p + 3))) (ap isXdigit (List·getD-eq-default body 0 {n = p + 3} (omega arith)) ∙ zero-byte))
+  -- the digits at a place and behind it: both, where their run has two, else one of them is none
+  two : 2 ≤ run isXdigit (drop (p + 2) body) → (p + 4 ≤ length body) × ((digit (p + 2) ≡ true) × (digit (p + 3) ≡ true))
+  unfolding digit
+  two h =
+      let first = run-first isXdigit body (p + 2) (omega arith) in
+      let next : p + 2 + 1 ≡ p + 3 = omega arith in
+      let more = run-more isXdigit body (p + 2) (first .0) (first .1) ∙ ap (λ (q : ℕ). suc (run isXdigit (drop q body))) next in
+      let second = run-first isXdigit body (p + 3) (omega arith) in
+      (omega (arith, second .0), (first .1, second .1))
+
+  not-two : run isXdigit (drop (p + 2) body) < 2 → (digit (p + 2) && digit (p + 3)) ≡ false
+  unfolding digit
+  not-two h = go (digit (p + 2) && digit (p + 3)) refl
     where
-      zero-byte : isXdigit 0 ≡ false
-      zero-byte = unfold isXdigit isDigit in refl
+      there : (q : ℕ) → digit q ≡ true → q < length body
+      there q e = ⊎-elim (λ l. l) (λ g. absurd (true≢false (sym e ∙ ap isXdigit (List·getD-eq-default body 0 {n = q} g) ∙ zero-byte))) (order q (length body))
+        where
+          zero-byte : isXdigit 0 ≡ false
+          zero-byte = unfold isXdigit isDigit in refl
+
+      go : (t : Bool) → (digit (p + 2) && digit (p + 3)) ≡ t → (digit (p + 2) && digit (p + 3)) ≡ false
+      go false e = e
+      go true e =
+          let a = and-left (digit (p + 2)) (digit (p + 3)) e in
+          let b = and-right (digit (p + 2)) (digit (p + 3)) e in
+          let next : p + 2 + 1 ≡ p + 3 = omega arith in
+          let first = run-more isXdigit body (p + 2) (there (p + 2) a) a ∙ ap (λ (q : ℕ). suc (run isXdigit (drop q body))) next in
+          let second = run-more isXdigit body (p + 3) (there (p + 3) b) b in
+          absurd (omega arith)
+
+  pub hex-bad : run isXdigit (drop (p + 2) body) < 2 → malformed ≡ hexEscape body p
+  unfolding hexEscape digit
+  hex-bad h = sym (if-false _ _ _ (not-two h))
 
   two-digits : p + 4 ≤ length body → numeral 16 (part body (p + 2) (p + 4)) ≡ digitValue (byteAt body (p + 2)) * 16 + digitValue (byteAt body (p + 3))
   unfolding numeral
@@ -164,11 +191,17 @@ module _ (body : List ℕ) (p : ℕ) where
       ∙ digit-more 16 body (p + 4) (digitValue (byteAt body (p + 2))) (p + 3) (omega arith) (omega arith)
       ∙ digit-end 16 body (p + 4) _ (p + 3 + 1) (inl (omega arith))
 
-  pub hex-byte : (value : ℕ) → p + 4 ≤ length body → isXdigit (byteAt body (p + 2)) ≡ true → isXdigit (byteAt body (p + 3)) ≡ true
-      → value ≡ min (numeral 16 (part body (p + 2) (p + 4))) most → piece (value % 256 ∷ []) 4 ≡ hexEscape body p
-  unfolding hexEscape
-  hex-byte value h a b e =
-      let small : value % 256 ≡ numeral 16 (part body (p + 2) (p + 4)) = omega (arith, two-digits h, hex-value (byteAt body (p + 2)) a, hex-value (byteAt body (p + 3)) b) in
+  pub hex-inside : 2 ≤ run isXdigit (drop (p + 2) body) → p + 4 ≤ length body
+  hex-inside h = two h .0
+
+  pub hex-byte : (value : ℕ) → 2 ≤ run isXdigit (drop (p + 2) body) → value ≡ min (numeral 16 (part body (p + 2) (p + 4))) most
+      → piece (value % 256 ∷ []) 4 ≡ hexEscape body p
+  unfolding hexEscape digit
+  hex-byte value h e =
+      let t = two h in
+      let a = t .1 .0 in
+      let b = t .1 .1 in
+      let small : value % 256 ≡ numeral 16 (part body (p + 2) (p + 4)) = omega (arith, two-digits (t .0), hex-value (byteAt body (p + 2)) a, hex-value (byteAt body (p + 3)) b) in
       ap (λ (v : ℕ). piece (v ∷ []) 4) small ∙ sym (if-true _ _ _ (both-true _ _ a b))
 
 -- `\ddd`

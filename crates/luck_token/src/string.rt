@@ -156,21 +156,14 @@ fn hex_escape(body: &[u8], at: usize) -> Piece
     requires { ⌜ at + 1 < length (now body) ⌝ }
     ensures { λ r. ⌜ IsPiece (hexEscape (now (body .entry)) at) (now (body .entry)) at r ⌝ }
 {
-    if body.len() - at < 4 {
+    if scan::run(body, at + 2, Class::HexDigit) < 2 {
         return Piece::Malformed;
     }
-    let high = body[at + 2];
-    let low = body[at + 3];
-    if scan::is_in(Class::HexDigit, high) {
-        if scan::is_in(Class::HexDigit, low) {
-            let value = scan::numeral(body, at + 2, at + 4, 16);
-            return Piece::Byte {
-                value: (value % 256) as u8,
-                width: 4,
-            };
-        }
+    let value = scan::numeral(body, at + 2, at + 4, 16);
+    Piece::Byte {
+        value: (value % 256) as u8,
+        width: 4,
     }
-    Piece::Malformed
 }
 
 // One to three decimal digits, at most 255.
@@ -223,20 +216,13 @@ fn unicode_escape(body: &[u8], at: usize, rules: Rules) -> Piece
     requires { ⌜ at + 1 < length (now body) ⌝ }
     ensures { λ r. ⌜ IsPiece (unicodeEscape rules (now (body .entry)) at) (now (body .entry)) at r ⌝ }
 {
-    let open = at + 2;
-    if body.len() <= open {
-        return Piece::Malformed;
-    }
-    if body[open] != b'{' {
+    if scan::byte_at(body, at + 2) != b'{' {
         return Piece::Malformed;
     }
     let from = at + 3;
     let count = scan::run(body, from, Class::HexDigit);
     let close = from + count;
-    if body.len() <= close {
-        return Piece::Malformed;
-    }
-    if body[close] != b'}' {
+    if scan::byte_at(body, close) != b'}' {
         return Piece::Malformed;
     }
     let value = scan::numeral(body, from, close, 16);

@@ -1,9 +1,6 @@
 // Whitespace and line breaks.
 ghost use mathlib.Core.Path.{_≡_};
-ghost use Prim.Native.Nat.{_+_, _<_};
-ghost use lib.ListN.{length};
-ghost use lib.Dec.{eqb};
-ghost use Rattle.luck_text.specs.Bytes.{byteAt, isLuaWhitespace};
+ghost use Rattle.luck_text.specs.Bytes.{isLuaWhitespace};
 ghost use Rattle.luck_token.specs.Version.{rulesOf};
 ghost use Rattle.luck_token.specs.Whitespace.{lineBreak, stripLineBreak};
 use crate::version;
@@ -16,28 +13,13 @@ pub fn is_lua_whitespace(byte: u8) -> bool
     scan::is_in(Class::Whitespace, byte)
 }
 
-// Whether this byte stands after `at`.
-fn is_next(text: &[u8], at: usize, byte: u8) -> bool
-    requires { ⌜ (at < length (now text)) × (0 < byte) ⌝ }
-    ensures { λ r. ⌜ r ≡ eqb (byteAt (now (text .entry)) (at + 1)) byte ⌝ }
-{
-    let next = at + 1;
-    if text.len() <= next {
-        return false;
-    }
-    text[next] == byte
-}
-
 // How many bytes the line break at `at` has, 0 where there is none.
 pub fn line_break(text: &[u8], at: usize, lfcr: bool) -> usize
     ensures { λ r. ⌜ r ≡ lineBreak lfcr (now (text .entry)) at ⌝ }
 {
-    if text.len() <= at {
-        return 0;
-    }
-    let here = text[at];
+    let here = scan::byte_at(text, at);
     if here == b'\r' {
-        if is_next(text, at, b'\n') {
+        if scan::byte_at(text, at + 1) == b'\n' {
             return 2;
         }
         if lfcr {
@@ -47,7 +29,7 @@ pub fn line_break(text: &[u8], at: usize, lfcr: bool) -> usize
     }
     if here == b'\n' {
         if lfcr {
-            if is_next(text, at, b'\r') {
+            if scan::byte_at(text, at + 1) == b'\r' {
                 return 2;
             }
         }

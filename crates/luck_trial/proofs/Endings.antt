@@ -59,26 +59,8 @@ use Rattle.luck_pattern.specs.Items.{
   items,
 }
 use Rattle.luck_pattern.specs.Replacement.{pieces}
-use Rattle.luck_match.specs.Class.{matchClass}
-use Rattle.luck_match.specs.Match.{
-  Capture,
-  opened,
-  position,
-  closed,
-  captureToClose,
-  Outcome,
-  matched,
-  failed,
-  stopped,
-  Rest,
-  due,
-  startCapture,
-  endCapture,
-  matchCapture,
-  backReference,
-  doItem,
-  match,
-}
+use Rattle.luck_subject.specs.Class.{matchClass}
+use Rattle.luck_match.specs.Match.{Capture, opened, position, closed, captureToClose, Outcome, matched, failed, stopped, Rest, due, startCapture, endCapture, matchCapture, backReference, doItem, match}
 use Rattle.luck_trial.specs.Gsub.{writerOf, gsub}
 use Rattle.luck_trial.proofs.Attempts.{Kept, due-kept, level-kept, single-kept, balance-kept, frontier-kept, closed-kept}
 use Rattle.luck_trial.proofs.Runs.{Fine, AttemptFine, pieces-end, gsub-fine}

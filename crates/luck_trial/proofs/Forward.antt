@@ -12,39 +12,8 @@ use borrow.Author.Tests.{ltb-true}
 use Rattle.luck_text.specs.Bytes.{byteAt}
 use Rattle.luck_text.proofs.Cases.{by-test}
 use Rattle.luck_pattern.specs.Items.{Single, Repeat, once, optional, star, plus, minus, Item, start-capture, position-capture, end-capture, end-anchor, balance, frontier, back-reference, single, raises}
-use Rattle.luck_match.specs.Match.{
-  Capture,
-  opened,
-  position,
-  closed,
-  captureToClose,
-  Outcome,
-  matched,
-  failed,
-  stopped,
-  Rest,
-  due,
-  newLevel,
-  orElse,
-  startCapture,
-  endCapture,
-  matchCapture,
-  backReference,
-  balanceEnd,
-  matchBalance,
-  goesOnAt,
-  passedOver,
-  Reach,
-  reached,
-  spent,
-  longestFirst,
-  maxExpand,
-  reach,
-  minExpand,
-  expand,
-  doItem,
-  match,
-}
+use Rattle.luck_match.specs.Match.{Capture, opened, position, closed, captureToClose, Outcome, matched, failed, stopped, Rest, due, newLevel, orElse, startCapture, endCapture, matchCapture, backReference, goesOnAt, passedOver, Reach, reached, spent, longestFirst, maxExpand, reach, minExpand, expand, doItem, match}
+use Rattle.luck_subject.specs.Subject.{balanceEnd, matchBalance}
 
 module _ (inClass : ℕ → ℕ → Bool) (sub : List ℕ) (budget : ℕ) (b w : ℕ) where
   -- steps from w on, within the budget

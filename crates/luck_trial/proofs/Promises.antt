@@ -13,7 +13,7 @@ use Rattle.luck_token.specs.Version.{isVersion, rulesOf}
 use Rattle.luck_answer.specs.Answer.{accepted}
 use Rattle.luck_pattern.specs.Pattern.{checkPattern}
 use Rattle.luck_pattern.specs.Replacement.{isStrict, checkReplacement}
-use Rattle.luck_match.specs.Class.{matchClass}
+use Rattle.luck_subject.specs.Class.{matchClass}
 use Rattle.luck_trial.specs.Gsub.{outputAfter, strGsub, gsub}
 use Rattle.luck_trial.proofs.Writings.{walk-accepted, strict-accepted, writers-alike}
 use Rattle.luck_trial.proofs.Quiet.{quiet}

@@ -11,7 +11,7 @@ use Rattle.luck_answer.specs.Answer.{accepted}
 use Rattle.luck_pattern.specs.Pattern.{checkPattern}
 use Rattle.luck_pattern.specs.Items.{items}
 use Rattle.luck_pattern.specs.Replacement.{pieces, piecesWalk}
-use Rattle.luck_match.specs.Class.{matchClass}
+use Rattle.luck_subject.specs.Class.{matchClass}
 use Rattle.luck_trial.specs.Gsub.{writerOf, gsub}
 use Rattle.luck_trial.proofs.Runs.{gsub-fine}
 use Rattle.luck_trial.proofs.Sound.{AllClosed, flagsOf, NotRaised, match-sound}

@@ -17,7 +17,7 @@ use Rattle.luck_text.proofs.Cases.{if-true, if-false, order}
 use Rattle.luck_pattern.specs.Items.{Item, items}
 use Rattle.luck_token.specs.Version.{isVersion}
 use Rattle.luck_pattern.specs.Replacement.{pieces}
-use Rattle.luck_match.specs.Class.{matchClass}
+use Rattle.luck_subject.specs.Class.{matchClass}
 use Rattle.luck_match.specs.Match.{Outcome, matched, failed, stopped, match}
 use Rattle.luck_replace.specs.Replace.{Wrote, append, addPieces}
 use Rattle.luck_trial.specs.Gsub.{Answer, answer, andWrote, Rounds, Writer, endsAgain, copyByte, copyRest, round, anchoredRound, roundsFrom, rounds, strGsub, writerOf, gsub}

@@ -12,7 +12,7 @@ use Rattle.luck_text.specs.Bytes.{byteAt, part}
 use Rattle.luck_text.proofs.Cases.{by-test}
 use Rattle.luck_pattern.specs.Items.{Item, items}
 use Rattle.luck_pattern.specs.Replacement.{Piece, literal, digit, percent, other, lone, pieces}
-use Rattle.luck_match.specs.Class.{matchClass}
+use Rattle.luck_subject.specs.Class.{matchClass}
 use Rattle.luck_match.specs.Match.{Capture, opened, position, closed, Outcome, matched, failed, stopped, match}
 use Rattle.luck_replace.specs.Replace.{Wrote, wrote, ended, andThen, append, decimal, addCapture, addDigit, addPiece, addPieces}
 use Rattle.luck_trial.specs.Gsub.{

@@ -23,28 +23,7 @@ use Rattle.luck_pattern.specs.Items.{
   single,
   raises,
 }
-use Rattle.luck_match.specs.Match.{
-  Capture,
-  opened,
-  position,
-  closed,
-  startOf,
-  toCloseBy,
-  captureToClose,
-  Outcome,
-  matched,
-  failed,
-  stopped,
-  Rest,
-  due,
-  newLevel,
-  startCapture,
-  endCapture,
-  matchCapture,
-  backReference,
-  doItem,
-  match,
-}
+use Rattle.luck_match.specs.Match.{Capture, opened, position, closed, startOf, toCloseBy, captureToClose, Outcome, matched, failed, stopped, Rest, due, newLevel, startCapture, endCapture, matchCapture, backReference, doItem, match}
 use Rattle.luck_trial.proofs.Attempts.{Kept, due-kept, level-kept, single-kept, balance-kept, frontier-kept, closed-kept}
 use Rattle.luck_trial.proofs.Runs.{AttemptFine}
 

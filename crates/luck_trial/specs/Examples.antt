@@ -18,8 +18,10 @@ use Rattle.luck_pattern.specs.Items.{elementsFrom, elementsOf, setOf, repeatOf,
 use Rattle.luck_pattern.specs.Replacement.{escaped, pieces, allowsDigit, piecesWalk, checkReplacement}
 use Rattle.luck_format.specs.Format.{isFlag, isModifier, getFormat, scanPrecision, scanWidth, scanFormat, modifiersAt, isConversion, flagsFor, flagsRun, takesPrecision, afterTwoDigits, goodModifiers, conversionTurn, specifierTurn, percentTurn, formatTurn, formatEnd, formatWalk, checkFormat}
 use Rattle.luck_pack.specs.Pack.{getnumlimit, fixedString, numberedOption, getoption, kindOf, numberOr, luckSizeof, luckSize, maxalign, isPowerOfTwo, isMisaligned, aligned, variable, alignBy, alignmentOf, alignToNext, kindTurn, optionTurn, packTurn, packEnd, packWalk, checkPack}
-use Rattle.luck_match.specs.Class.{isLower, isUpper, isAlpha, isAlnum, isCntrl, isGraph, isPunct, toLower, classTest, classBy, matchClass, isElement, isAnyOf, inSet, fits}
-use Rattle.luck_match.specs.Match.{toCloseBy, captureToClose, due, newLevel, orElse, startCapture, endCapture, sameBytes, matchCapture, backReference, balanceEnd, matchBalance, goesOnAt, byteBefore, isFrontier, passedOver, longestFirst, maxExpand, fitsAt, reach, minExpand, expand, doItem, match}
+use Rattle.luck_subject.specs.Class.{isLower, isUpper, isAlpha, isAlnum, isCntrl, isGraph, isPunct, toLower, classTest, classBy, matchClass}
+use Rattle.luck_match.specs.Single.{isElement, isAnyOf, inSet, fits}
+use Rattle.luck_match.specs.Match.{toCloseBy, captureToClose, due, newLevel, orElse, startCapture, endCapture, matchCapture, backReference, goesOnAt, isFrontier, passedOver, longestFirst, maxExpand, fitsAt, reach, minExpand, expand, doItem, match}
+use Rattle.luck_subject.specs.Subject.{sameBytes, balanceEnd, matchBalance, byteBefore}
 use Rattle.luck_replace.specs.Replace.{andThen, append, decimalFrom, decimal, addCapture, addDigit, addPiece, addPieces}
 use Rattle.luck_trial.specs.Gsub.{Answer as Trial, answer, andWrote, endsAgain, copyByte, copyRest, round, anchoredRound, roundsFrom, rounds, strGsub, writerOf, gsub}
 

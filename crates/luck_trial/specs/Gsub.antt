@@ -11,7 +11,7 @@ use Rattle.luck_text.specs.Bytes.{if_then_else_, byteAt}
 use Rattle.luck_token.specs.Version.{isVersion}
 use Rattle.luck_pattern.specs.Items.{Item, items}
 use Rattle.luck_pattern.specs.Replacement.{Piece, pieces}
-use Rattle.luck_match.specs.Class.{matchClass}
+use Rattle.luck_subject.specs.Class.{matchClass}
 use Rattle.luck_trial.specs.declared.gsub.Trial.{Trial}
 use Rattle.luck_match.specs.Match.{Capture, Outcome, matched, failed, stopped, match}
 use Rattle.luck_replace.specs.Replace.{Wrote, wrote, ended, append, addPieces}

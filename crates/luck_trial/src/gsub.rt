@@ -5,14 +5,14 @@ ghost use mathlib.Core.Option.{none};
 ghost use Prim.Native.Nat.{ℕ, _≤_};
 ghost use lib.ListN.{length};
 ghost use Rattle.luck_pattern.specs.Items.{items};
-ghost use Rattle.luck_match.specs.Class.{matchClass};
+ghost use Rattle.luck_subject.specs.Class.{matchClass};
 ghost use Rattle.luck_match.specs.Match.{match};
 ghost use Rattle.luck_trial.specs.Gsub.{outputAfter, report, reportOf, anchoredRound, rounds, gsub};
-ghost use Rattle.luck_match.specs.Inner.{AreMasks};
+ghost use Rattle.luck_subject.specs.Inner.{AreMasks};
 ghost use Rattle.luck_trial.specs.Inner.{writerBy, Reported};
 use luck_attempt::attempt;
-use luck_match::class;
 use luck_replace::replace;
+use luck_subject::class;
 use luck_token::version;
 
 // Number 0 is done; a kind from 1 to 10 goes with 29, and 0 with every other number.

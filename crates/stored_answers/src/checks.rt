@@ -2,13 +2,13 @@
 // four each, and the count in two.
 ghost use Prim.Native.Nat.{_+_, _≤_};
 ghost use lib.ListN.{length};
-ghost use Rattle.stored_answers.specs.Places.{AnswerLies};
+ghost use Rattle.stored_questions.specs.Places.{AnswerLies};
 ghost use Rattle.stored_records.specs.Tally.{Passes};
-use crate::question;
-use crate::question::Asked;
-use crate::question::Question;
 use luck_structs::answer;
 use luck_structs::answer::Answer;
+use stored_questions::question;
+use stored_questions::question::Asked;
+use stored_questions::question::Question;
 use stored_records::bytes;
 use stored_records::tally::Turn;
 

@@ -2,17 +2,15 @@
 // as the checks have it, whether there is a span in one, and its start and end in four each.
 ghost use Prim.Native.Nat.{_+_, _≤_};
 ghost use lib.ListN.{length};
-ghost use Rattle.stored_answers.specs.Places.{AnswerLies};
+ghost use Rattle.stored_questions.specs.Places.{AnswerLies};
 ghost use Rattle.stored_records.specs.Tally.{Passes};
 use crate::checks;
-use crate::question;
-use crate::question::Asked;
-use crate::question::Question;
-use luck_linter::rules::format_string;
-use luck_linter::rules::format_string::LiteralChecked;
 use luck_structs::answer::Answer;
 use luck_structs::literal;
 use luck_structs::literal::Literal;
+use stored_questions::question;
+use stored_questions::question::Asked;
+use stored_questions::question::Question;
 use stored_records::bytes;
 use stored_records::tally::Turn;
 
@@ -34,23 +32,8 @@ fn agrees(file: &[u8], question: Question) -> bool
     requires { ⌜ AnswerLies 27 (length (now file)) question ⌝ }
 {
     let start = bytes::word_at(file, question.answer);
-    let given = literal::of_checked(ask(file, question, start));
+    let given = literal::of_checked(question::ask_literal(file, question, start));
     is_same(given, answer_at(file, question.answer + 4))
-}
-
-fn ask(file: &[u8], question: Question, start: u32) -> LiteralChecked
-    requires { ⌜ AnswerLies 27 (length (now file)) question ⌝ }
-{
-    let from = question.text;
-    let to = question.answer;
-    let captures = question.captures;
-    format_string::check_literal(
-        question.kind,
-        question.version,
-        captures,
-        start,
-        &file[from..to],
-    )
 }
 
 // A skipped literal has an answer of zeros, and one without a span a span of zeros.

@@ -4,7 +4,7 @@ use mathlib.Core.Path.{refl, subst}
 use mathlib.Core.Logic.{inl, inr, ⊎-elim}
 use lib.ListN.{length}
 use Rattle.luck_match.specs.Inner.{ClosesIn}
-use Rattle.luck_match.specs.declared.subject.Found.{Found}
+use Rattle.luck_subject.specs.declared.subject.Found.{Found}
 use Rattle.luck_match.proofs.Reading.{set-at, class-at, byte-at}
 use borrow.Author.Needs.{needs}
 use Rattle.luck_ahead.proofs.ahead.single_end.Statement.{statement}

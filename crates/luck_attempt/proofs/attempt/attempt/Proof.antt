@@ -7,7 +7,7 @@ use borrow.Author.Needs.{needs}
 use borrow.Author.Tests.{not-true, not-false}
 use lib.ListN.{length}
 use Rattle.luck_pattern.specs.Items.{items}
-use Rattle.luck_match.specs.Class.{matchClass}
+use Rattle.luck_subject.specs.Class.{matchClass}
 use Rattle.luck_match.specs.Match.{match, passedOver}
 use Rattle.luck_match.specs.Inner.{ItemAt, capturesIn}
 use Rattle.luck_matcher.specs.Inner.{outcomeBy, outcomeOf}

@@ -2,7 +2,7 @@
 use mathlib.Core.Path.{_∙_}
 use borrow.Author.Needs.{needs}
 use Rattle.luck_pattern.specs.Items.{items}
-use Rattle.luck_match.specs.Class.{matchClass}
+use Rattle.luck_subject.specs.Class.{matchClass}
 use Rattle.luck_match.specs.Match.{match}
 use Rattle.luck_attempt.proofs.Leads as leads
 use Rattle.luck_attempt.proofs.attempt.first_capture.Statement.{statement}

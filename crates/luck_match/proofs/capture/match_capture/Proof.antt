@@ -16,7 +16,7 @@ use Rattle.luck_match.proofs.Captures.{
 use Rattle.luck_match.proofs.capture.match_capture.Statement.{statement}
 use Rattle.luck_match.proofs.capture.match_capture.Tie as tie
 use Rattle.luck_match.proofs.capture.match_capture.Reads as reads
-use Rattle.luck_match.proofs.subject.same_bytes.Reads as same-bytes
+use Rattle.luck_subject.proofs.subject.same_bytes.Reads as same-bytes
 use Rattle.luck_match.proofs.capture.match_capture.Lts as lts
 
 wide : (c : lts.Start (same-bytes.Asked, same-bytes.Learnt) reads.Pre reads.Post) → c .args .t2 .count ≤ length (c .args .t2 .pairs)

@@ -5,7 +5,7 @@ use native.Mathlib.Omega.{arith}
 use lib.ListN.{length}
 use borrow.Author.Needs.{needs}
 use Rattle.luck_match.specs.Inner.{ClosesIn}
-use Rattle.luck_match.specs.declared.subject.Found.{Found}
+use Rattle.luck_subject.specs.declared.subject.Found.{Found}
 use Rattle.luck_match.proofs.Reading.{frontier-at, frontier-unclosed, frontier-no-set, frontier-last}
 use Rattle.luck_match.proofs.item.read_frontier.Statement.{statement}
 use Rattle.luck_match.proofs.item.read_frontier.Tie as tie

@@ -3,7 +3,7 @@ use mathlib.Core.Path.{subst}
 use lib.ListN.{length}
 use borrow.Author.Needs.{needs}
 use Rattle.luck_match.specs.Inner.{ClosesIn}
-use Rattle.luck_match.specs.declared.subject.Found.{Found}
+use Rattle.luck_subject.specs.declared.subject.Found.{Found}
 use Rattle.luck_match.proofs.Reading.{set-at, set-unclosed}
 use Rattle.luck_match.proofs.item.read_set.Statement.{statement}
 use Rattle.luck_match.proofs.item.read_set.Tie as tie

@@ -2,7 +2,7 @@
 use native.Mathlib.Omega.{arith}
 use mathlib.Core.Path.{_∙_}
 use borrow.Author.Needs.{needs}
-use Rattle.luck_match.specs.Class.{matchClass}
+use Rattle.luck_subject.specs.Class.{matchClass}
 use Rattle.luck_match.proofs.Singles.{fits-any, fits-class, fits-set, fits-byte, fits-end}
 use Rattle.luck_match.proofs.single.fits.Statement.{statement}
 use Rattle.luck_match.proofs.single.fits.Tie as tie

@@ -2,7 +2,7 @@
 use mathlib.Core.Path.{ap, _∙_}
 use mathlib.Core.Bool.{not}
 use borrow.Author.Needs.{needs}
-use Rattle.luck_match.specs.Class.{matchClass}
+use Rattle.luck_subject.specs.Class.{matchClass}
 use Rattle.luck_match.proofs.Sets.{set-complement, set-plain}
 use Rattle.luck_match.proofs.single.in_set.Statement.{statement}
 use Rattle.luck_match.proofs.single.in_set.Tie as tie

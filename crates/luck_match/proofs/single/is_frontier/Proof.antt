@@ -2,7 +2,8 @@
 use mathlib.Core.Path.{sym, ap, _∙_}
 use borrow.Author.Needs.{needs}
 use Rattle.luck_pattern.specs.Items.{setOf}
-use Rattle.luck_match.specs.Class.{matchClass, inSet}
+use Rattle.luck_subject.specs.Class.{matchClass}
+use Rattle.luck_match.specs.Single.{inSet}
 use Rattle.luck_match.proofs.Singles.{frontier-before, frontier-at}
 use Rattle.luck_match.proofs.single.is_frontier.Statement.{statement}
 use Rattle.luck_match.proofs.single.is_frontier.Tie as tie

@@ -4,7 +4,7 @@ use native.Mathlib.Omega.{arith}
 use mathlib.Core.Path.{_≡_, refl, sym, ap, _∙_}
 use lib.ListN.{length}
 use borrow.Author.Tests.{not-true, not-false}
-use Rattle.luck_match.specs.Class.{matchClass}
+use Rattle.luck_subject.specs.Class.{matchClass}
 use Rattle.luck_match.specs.Match.{reach}
 use Rattle.luck_match.specs.Inner.{singleOf}
 use Rattle.luck_match.proofs.Singles.{of-class, fits-inside, reach-spent, reach-stop, reach-more}

@@ -5,7 +5,7 @@ use mathlib.Core.Path.{_≡_, refl, sym, _∙_}
 use lib.ListN.{length}
 use borrow.Author.Tests.{not-true, not-false}
 use Rattle.luck_pattern.specs.Items.{class}
-use Rattle.luck_match.specs.Class.{matchClass}
+use Rattle.luck_subject.specs.Class.{matchClass}
 use Rattle.luck_match.specs.Inner.{classReach}
 use Rattle.luck_match.proofs.Singles.{class-end, class-fits, reach-spent, reach-stop, reach-more}
 use borrow.Author.Needs.{needs}

@@ -1,45 +1,60 @@
 -- `luck_token::string::unicode_escape` meets its contract. Assumes nothing.
-use mathlib.Core.Path.{_≡_, refl, sym, ap, subst, _∙_}
-use Prim.Native.Nat.{ℕ, zero, suc, _+_, _-_, _*_, _≤_, _<_, min, max}
+use mathlib.Core.Path.{_≡_, sym, _∙_}
+use Prim.Native.Nat.{_+_, _≤_, _<_}
 use native.Mathlib.Omega.{arith}
-use Rattle.luck_text.specs.Bytes.{byteAt}
-use lib.ListN.{List·getD-eq-default}
-use Rattle.luck_text.specs.Bytes.{isXdigit}
+use lib.ListN.{length}
+use Rattle.luck_text.specs.Bytes.{byteAt, isXdigit}
 use Rattle.luck_text.proofs.Bytes.{run-inside}
+use Rattle.luck_text.proofs.Cases.{present}
 use Rattle.luck_token.proofs.Literals.{exact, allowed-small, no-open, no-close, no-code-point, code-point}
 use borrow.Author.Needs.{needs}
 use Rattle.luck_token.proofs.string.unicode_escape.Statement.{statement}
 use Rattle.luck_token.proofs.string.unicode_escape.Tie as tie
 
-add-open : tie.Need-add-open
-add-open c = search needs
+-- the opening brace, and that it lies in the text
+opened : (c : tie.Else1) → byteAt (c .before .before .before .args .body .now) (c .before .before .before .args .at + 2) ≡ 123
+opened c = sym (c .before .byte-at .ensures) ∙ c .if1 .left
+
+open-inside : (c : tie.Else1) → c .before .before .before .args .at + 2 < length (c .before .before .before .args .body .now)
+open-inside c = let a = c .before .before .before .args in present (a .body .now) (a .at + 2) (omega (arith, opened c))
+
+-- the closing one
+closed : (c : tie.Else2) → byteAt (c .before .before .before .before .before .before .args .body .now) (c .before .before .before .before .before .before .args .at + 3 + c .before .before .run .result) ≡ 125
+closed c = sym (c .before .byte-at2 .ensures) ∙ c .if2 .left
+
+close-inside : (c : tie.Else2) → c .before .before .before .before .before .before .args .at + 3 + c .before .before .run .result < length (c .before .before .before .before .before .before .args .body .now)
+close-inside c = let a = c .before .before .before .before .before .before .args in present (a .body .now) (a .at + 3 + c .before .before .run .result) (omega (arith, closed c))
+
+add-byte-at : tie.Need-add-byte-at
+add-byte-at c = search needs
+
+byte-at-requires : tie.Need-byte-at-requires
+byte-at-requires c κs = search needs
 
 returns : tie.Need-returns
-returns c = record { is = no-open (c .before .before .args .rules) (c .before .before .args .body .now) (c .before .before .args .at) (λ e. absurd (omega (arith, List·getD-eq-default (c .before .before .args .body .now) 0 {n = c .before .before .args .at + 2} (c .if1 .taken)))); inside = tt }
-
-shared-slice-read-if2 : tie.Need-shared-slice-read-if2
-shared-slice-read-if2 c = search needs
-
-returns-2 : tie.Need-returns-2
-returns-2 c = record { is = no-open (c .before .before .before .before .args .rules) (c .before .before .before .before .args .body .now) (c .before .before .before .before .args .at) (c .if2 .taken); inside = tt }
+returns c =
+    let a = c .before .before .before .args in
+    record { is = no-open (a .rules) (a .body .now) (a .at) (λ e. c .if1 .taken (c .before .byte-at .ensures ∙ e)); inside = tt }
 
 add-from : tie.Need-add-from
-add-from c = search needs
+add-from c = omega (arith, open-inside c)
 
 run-requires : tie.Need-run-requires
 run-requires c κs = search needs
 
 add-close : tie.Need-add-close
-add-close c = omega (arith, c .run .ensures, run-inside isXdigit (c .before .before .before .before .before .args .body .now) (c .before .before .before .before .before .args .at + 3) (omega arith))
+add-close c =
+    let a = c .before .before .before .before .args in
+    omega (arith, c .run .ensures, run-inside isXdigit (a .body .now) (a .at + 3) (omega (arith, open-inside (c .before))))
 
-returns-3 : tie.Need-returns-3
-returns-3 c = record { is = no-close (c .before .before .before .before .before .before .args .rules) (c .before .before .before .before .before .before .args .body .now) (c .before .before .before .before .before .before .args .at) (c .before .run .result) (c .before .run .ensures) (λ e. absurd (omega (arith, List·getD-eq-default (c .before .before .before .before .before .before .args .body .now) 0 {n = c .before .before .before .before .before .before .args .at + 3 + c .before .run .result} (c .if3 .taken)))); inside = tt }
+byte-at-requires-2 : tie.Need-byte-at-requires-2
+byte-at-requires-2 c κs = search needs
 
-shared-slice-read-if4 : tie.Need-shared-slice-read-if4
-shared-slice-read-if4 c = search needs
-
-returns-4 : tie.Need-returns-4
-returns-4 c = record { is = no-close (c .before .before .before .before .before .before .before .before .args .rules) (c .before .before .before .before .before .before .before .before .args .body .now) (c .before .before .before .before .before .before .before .before .args .at) (c .before .before .before .run .result) (c .before .before .before .run .ensures) (c .if4 .taken); inside = tt }
+returns-2 : tie.Need-returns-2
+returns-2 c =
+    let x = c .before .before in
+    let a = x .before .before .before .before .args in
+    record { is = no-close (a .rules) (a .body .now) (a .at) (x .run .result) (x .run .ensures) (λ e. c .if2 .taken (c .before .byte-at2 .ensures ∙ e)); inside = tt }
 
 numeral-requires : tie.Need-numeral-requires
 numeral-requires c κs = search needs
@@ -47,25 +62,29 @@ numeral-requires c κs = search needs
 allows-code-point-requires : tie.Need-allows-code-point-requires
 allows-code-point-requires c κs = search needs
 
-add-t16 : tie.Need-add-t16
-add-t16 c = omega arith
+add-t13 : tie.Need-add-t13
+add-t13 c = omega (arith, close-inside (c .before .before .before))
 
-returns-5 : tie.Need-returns-5
+returns-3 : tie.Need-returns-3
 unfolding exact
-returns-5 c =
+returns-3 c =
+    let n = c .before .before in
+    let x = n .before .before .before in
+    let a = x .before .before .before .before .args in
+    let allowed = sym (c .before .allows-code-point .ensures) ∙ c .if3 .taken in
     record {
-      is =
-          code-point (c .before .before .before .before .before .before .before .before .before .before .before .args .rules) (c .before .before .before .before .before .before .before .before .before .before .before .args .body .now) (c .before .before .before .before .before .before .before .before .before .before .before .args .at) (c .before .before .before .before .before .before .run .result) (c .before .before .before .before .before .before .run .ensures) (c .before .before .numeral .result) (c .before .before .numeral .ensures) (c .before .before .before .before .before .before .before .if2 .left) (c .before .before .before .if4 .left)
-          (sym (c .before .allows-code-point .ensures) ∙ c .if5 .taken);
-      inside =
-          (omega (arith, allowed-small (c .before .before .before .before .before .before .before .before .before .before .before .args .rules) (c .before .before .numeral .result) (c .before .before .before .before .before .before .run .result) (sym (c .before .allows-code-point .ensures) ∙ c .if5 .taken)), (omega arith, omega arith));
+      is = code-point (a .rules) (a .body .now) (a .at) (x .run .result) (x .run .ensures) (n .numeral .result) (n .numeral .ensures) (opened (x .before)) (closed (n .before)) allowed;
+      inside = (omega (arith, allowed-small (a .rules) (n .numeral .result) (x .run .result) allowed), (omega arith, omega (arith, close-inside (n .before))));
     }
 
-returns-6 : tie.Need-returns-6
+returns-4 : tie.Need-returns-4
 unfolding exact
-returns-6 c =
+returns-4 c =
+    let n = c .before .before in
+    let x = n .before .before .before in
+    let a = x .before .before .before .before .args in
     record {
-      is = no-code-point (c .before .before .before .before .before .before .before .before .before .before .before .args .rules) (c .before .before .before .before .before .before .before .before .before .before .before .args .body .now) (c .before .before .before .before .before .before .before .before .before .before .before .args .at) (c .before .before .before .before .before .before .run .result) (c .before .before .before .before .before .before .run .ensures) (c .before .before .numeral .result) (c .before .before .numeral .ensures) (sym (c .before .allows-code-point .ensures) ∙ c .if5 .left);
+      is = no-code-point (a .rules) (a .body .now) (a .at) (x .run .result) (x .run .ensures) (n .numeral .result) (n .numeral .ensures) (sym (c .before .allows-code-point .ensures) ∙ c .if3 .left);
       inside = tt;
     }
 
@@ -73,18 +92,16 @@ pub unicode-escape-spec : {M : Type 1} → statement M
 unicode-escape-spec =
     tie.close
     (tie.spec
-    add-open
+    add-byte-at
+    byte-at-requires
     returns
-    shared-slice-read-if2
-    returns-2
     add-from
     run-requires
     add-close
-    returns-3
-    shared-slice-read-if4
-    returns-4
+    byte-at-requires-2
+    returns-2
     numeral-requires
     allows-code-point-requires
-    add-t16
-    returns-5
-    returns-6)
+    add-t13
+    returns-3
+    returns-4)

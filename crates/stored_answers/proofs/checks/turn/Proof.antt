@@ -1,7 +1,7 @@
 -- `stored_answers::checks::turn` meets its contract. Assumes nothing.
 use mathlib.Core.Path.{subst}
 use lib.ListN.{length}
-use Rattle.stored_answers.specs.Places.{Asks}
+use Rattle.stored_questions.specs.Places.{Asks}
 use borrow.Author.Needs.{needs}
 use Rattle.stored_answers.proofs.checks.turn.Statement.{statement}
 use Rattle.stored_answers.proofs.checks.turn.Tie as tie

@@ -6,8 +6,9 @@ use borrow.Author.Needs.{needs}
 use borrow.Author.Tests.{not-true, not-false}
 use lib.ListN.{length}
 use Rattle.luck_match.specs.Match.{newLevel, matched, longestFirst, match}
-use Rattle.luck_match.specs.Class.{matchClass}
-use Rattle.luck_match.specs.Inner.{capturesOf, capturesIn, captureOf, Sound, ItemAt, HeldIn, heldAs, FoundIn, foundOf, singleOf, reachOf}
+use Rattle.luck_subject.specs.Class.{matchClass}
+use Rattle.luck_match.specs.Inner.{capturesOf, capturesIn, captureOf, Sound, ItemAt, HeldIn, heldAs, singleOf, reachOf}
+use Rattle.luck_subject.specs.Inner.{FoundIn, foundOf}
 use Rattle.luck_matcher.specs.Inner.{outcomeBy, outcomeOf, AttemptIn}
 use Rattle.luck_match.proofs.Turns as turns
 use Rattle.luck_matcher.proofs.Repeats as repeats
@@ -16,13 +17,13 @@ use Rattle.luck_match.proofs.Singles.{fits-inside}
 use Rattle.luck_pattern.specs.Items.{items}
 use Rattle.luck_match.specs.Match.{startCapture, passedOver}
 use Rattle.luck_match.specs.declared.capture.Held.the-variants as held
-use Rattle.luck_match.specs.declared.subject.Found.the-variants as found
+use Rattle.luck_subject.specs.declared.subject.Found.the-variants as found
 use Rattle.luck_match.proofs.item.read.Reads as read-reads
 use Rattle.luck_match.proofs.capture.keep.Reads as keep-reads
 use Rattle.luck_match.proofs.capture.match_capture.Reads as match-capture-reads
 use Rattle.luck_match.proofs.single.fits.Reads as fits-reads
 use Rattle.luck_match.proofs.single.reach.Reads as reach-reads
-use Rattle.luck_match.proofs.subject.match_balance.Reads as match-balance-reads
+use Rattle.luck_subject.proofs.subject.match_balance.Reads as match-balance-reads
 use Rattle.luck_match.proofs.single.is_frontier.Reads as is-frontier-reads
 use Rattle.luck_matcher.proofs.matcher.do_match.Reads as do-match
 use Rattle.luck_matcher.proofs.matcher.end_capture.Reads as end-capture
