@@ -1,4 +1,5 @@
-// What the rest of a pattern surely tests first, so that a place where it fails is passed without opening a level there.
+// What the rest of a pattern surely tests first, so that a place where it fails is passed without opening a level there. The contracts say that what is told is true:
+// telling nothing would meet them too, and be slower.
 ghost use mathlib.Core.Bool.{true};
 ghost use mathlib.Core.Path.{_≡_};
 ghost use Prim.Native.Nat.{_<_};
@@ -70,6 +71,7 @@ fn must_fit(pattern: &[u8], at: usize) -> usize
 pub fn first_test(pattern: &[u8], next: usize, level: u32, is_open: bool) -> Ahead
     ensures { λ r. ⌜ (0 < r .steps → Sure (now (pattern .entry)) next level «is_open» r) ⌝ }
 {
+    // a `)` opens a second level
     if 199 <= level {
         return Ahead {
             steps: 0,

@@ -1,7 +1,6 @@
 -- What the functions of an attempt promise each other. This crate is for the trial only, and no contract of `gsub` rests on these.
 -- Assumes nothing.
 use Prim.Native.Nat.{ℕ, _+_, _-_, _<_, _≤_}
-use Prim.Native.Char.{code}
 use mathlib.Core.Path.{_≡_}
 use mathlib.Core.Bool.{Bool, true, false}
 use mathlib.Core.List.{List, [], _∷_}

@@ -4,13 +4,12 @@ use Prim.Native.Nat.{ℕ, _+_, _≤_, _<_}
 use native.Mathlib.Omega.{arith}
 use mathlib.Core.Path.{_≡_, refl, sym, ap, ap₂, _∙_}
 use mathlib.Core.Logic.{_⊎_, inl, inr}
-use mathlib.Core.Bool.{Bool, true, false, not, _&&_, _||_}
+use mathlib.Core.Bool.{Bool, true, false, _&&_, _||_}
 use mathlib.Core.List.{List}
 use lib.ListN.{length, List·getD-eq-default}
-use lib.Dec.{eqb, leb}
-use borrow.Author.Tests.{eq-eqb, ne-eqb, lt-leb, le-leb}
+use borrow.Author.Tests.{ne-eqb, lt-leb, le-leb}
 use Rattle.luck_text.specs.Bytes.{if_then_else_, byteAt, among}
-use Rattle.luck_text.specs.Walk.{walkFrom, Turn, stop, goes}
+use Rattle.luck_text.specs.Walk.{walkFrom, stop, goes}
 use Rattle.luck_text.proofs.Walk.{walk-end, walk-stop, walk-goes}
 use Rattle.luck_text.proofs.Cases.{if-true, if-false, both-true, first-false, second-false}
 use Rattle.luck_answer.specs.Answer.{Answer, accepted, refused}

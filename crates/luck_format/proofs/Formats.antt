@@ -11,7 +11,7 @@ use borrow.Author.Tests.{lt-ltb, le-ltb, le-leb, lt-leb, eq-eqb, ne-eqb}
 use Rattle.luck_text.specs.Bytes.{if_then_else_, byteAt, ascii, among, isDigit, run}
 use Rattle.luck_utf8.specs.Utf8.{charAt}
 use Rattle.luck_token.specs.Version.{rulesOf}
-use Rattle.luck_text.specs.Walk.{Turn, stop, goes, walkFrom}
+use Rattle.luck_text.specs.Walk.{stop, goes, walkFrom}
 use Rattle.luck_token.specs.declared.version.Rules.{Rules}
 use Rattle.luck_text.proofs.Cases.{second-false}
 use Rattle.luck_text.proofs.Bytes.{run-inside}

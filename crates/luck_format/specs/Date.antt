@@ -1,8 +1,9 @@
--- Which formats of os.date are accepted (validate_os_date of luck, after checkoption of loslib.c).
+-- Which formats of os.date are accepted (validate_os_date of luck, after checkoption of loslib.c): document 01, "Checks that the trial does not need", and
+-- point 6 of document 03.
 -- Assumes nothing.
 use Prim.Native.Nat.{ℕ, _+_}
 use Prim.Native.Char.{code}
-use mathlib.Core.Bool.{Bool, true, false, not, _&&_, _||_}
+use mathlib.Core.Bool.{Bool, not, _&&_, _||_}
 use mathlib.Core.List.{List, []}
 use lib.ListN.{length}
 use lib.Dec.{eqb, leb}

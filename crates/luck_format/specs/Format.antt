@@ -1,10 +1,10 @@
 -- How a format of string.format is read (scanformat of 5.1 to 5.3 and Luau, getformat and checkformat of 5.4 and 5.5, in lstrlib.c), and
--- which are accepted (validate_format of luck).
+-- which are accepted (validate_format of luck): document 01, "Checks that the trial does not need".
 -- Assumes nothing.
 use Prim.Native.Nat.{ℕ, _+_, _-_, min}
 use Prim.Native.Char.{code}
 use mathlib.Core.Bool.{Bool, true, false, not, _&&_, _||_}
-use mathlib.Core.List.{List, []}
+use mathlib.Core.List.{List}
 use lib.ListN.{length, drop}
 use lib.Dec.{eqb, leb, ltb}
 use Rattle.luck_text.specs.Bytes.{if_then_else_, byteAt, ascii, among, isDigit, run}

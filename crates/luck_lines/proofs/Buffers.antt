@@ -1,12 +1,12 @@
 -- Laws of a buffer whose bytes from `at` on move to its front: `to` of them are moved.
 -- Assumes nothing.
-use mathlib.Core.Path.{_≡_, refl, sym, ap, ap₂, subst, _∙_}
+use mathlib.Core.Path.{_≡_, sym, ap, ap₂, _∙_}
 use Prim.Native.Nat.{ℕ, zero, suc, _+_, _-_, _<_, _≤_}
 use native.Mathlib.Nat.{sub-zero, zero-sub, suc-sub-suc}
 use native.Mathlib.Numerals.{add-one}
 use native.Mathlib.Omega.{arith}
 use mathlib.Core.List.{List, [], _∷_, _++_}
-use lib.ListN.{length, getD, set, take, drop, take-append-drop, length-set, length-drop}
+use lib.ListN.{length, getD, set, take, drop, take-append-drop, length-drop}
 use lib.Seq.{take-nil, take-suc, take-all, take-suc-set, drop-set-lt, drop-drop, getD-drop, length-take-le}
 use Rattle.luck_text.specs.Bytes.{part}
 use Rattle.luck_lines.specs.Stream.{inFront}

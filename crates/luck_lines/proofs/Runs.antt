@@ -5,7 +5,7 @@ use native.Mathlib.Omega.{arith}
 use mathlib.Core.Path.{_≡_, refl, sym, ap, subst, _∙_}
 use mathlib.Core.Logic.{_⊎_, inl, inr}
 use mathlib.Core.Bool.{Bool, true, false, true≢false}
-use mathlib.Core.List.{List, [], _∷_, _++_, append-nil, append-assoc}
+use mathlib.Core.List.{List, [], _++_, append-nil, append-assoc}
 use lib.ListN.{length, drop}
 use Rattle.luck_lines.specs.Stream.{rowLength, lineLength, feed, finish, rowsAfter, Run, reads, takes, ends}
 use Rattle.luck_lines.proofs.Cuts.{same, cut, all-taken}

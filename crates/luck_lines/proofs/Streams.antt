@@ -5,9 +5,9 @@ use Prim.Native.Nat.{ℕ, zero, suc, _+_, _-_, _<_, _≤_}
 use native.Mathlib.Nat.{le-of-eq}
 use native.Mathlib.Omega.{arith}
 use mathlib.Core.Bool.{Bool, true, false, not, _||_}
-use mathlib.Core.List.{List, [], _∷_, _++_, append-nil, append-assoc}
+use mathlib.Core.List.{List, [], _++_, append-nil}
 use lib.ListN.{length, take, drop, take-append-drop, length-append, length-drop, drop-of-length-le}
-use lib.Seq.{getD-take, getD-drop, take-at, drop-at, take-all, length-take-le, take-append-add, take-append-le, drop-append-add, drop-append-le, drop-drop}
+use lib.Seq.{take-at, drop-at, take-all, length-take-le, take-append-add, take-append-le, drop-append-add, drop-append-le, drop-drop}
 use lib.Dec.{eqb, ltb}
 use borrow.Author.Tests.{lt-ltb, le-ltb, ne-eqb, eq-eqb}
 use borrow.Rule.Slice.PartMut.{putMid}
@@ -21,7 +21,7 @@ use Rattle.luck_text.proofs.Neither.{neither-first}
 use Rattle.luck_answer.specs.Answer.{refused}
 use Rattle.luck_line.specs.Line.{longest, lineAnswer}
 use Rattle.luck_line.specs.Row.{answerRow}
-use Rattle.luck_lines.specs.Stream.{rowLength, lineLength, rowOf, Taken, taken, State, state, unended, lineTurn, feedTurn, feed, finish, fedOf, inFront}
+use Rattle.luck_lines.specs.Stream.{lineLength, rowOf, Taken, taken, State, state, unended, lineTurn, feedTurn, feed, finish, fedOf, inFront}
 use Rattle.luck_lines.specs.Inner.{unendedAt}
 use Rattle.luck_lines.specs.declared.stream.Fed.{Fed}
 use Rattle.luck_line.proofs.Heads.{part-whole}

@@ -104,7 +104,7 @@ fn unended(length: usize, used: usize, wrote: usize, long: bool) -> Fed
     }
 }
 
-// The end of the input, with what is left of it, in which no newline is (what a `feed` with room for a row leaves that wrote none): the row of a last line
+// The end of the input, with what is left of it, in which no newline is (such is what is left by a `feed` that had room for a row and wrote none): the row of a last line
 // that lacks its newline. Answers how many bytes it wrote: 0 where nothing is left, and where the output has no room for a row.
 pub fn finish(left: &[u8], output: &mut [u8], long: bool) -> usize
     ensures wrote { λ r. ⌜ r ≡ length (finish long (now (left .entry)) (length (now (output .entry)))) ⌝ }

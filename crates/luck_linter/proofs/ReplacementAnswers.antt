@@ -9,7 +9,7 @@ use mathlib.Core.Option.{Option, none, some}
 use lib.ListN.{length}
 use lib.Dec.{leb}
 use borrow.Author.Tests.{leb-true, le-leb}
-use Rattle.luck_text.specs.Bytes.{if_then_else_, among, isDigit}
+use Rattle.luck_text.specs.Bytes.{among, isDigit}
 use Rattle.luck_token.specs.Version.{rulesOf}
 use Rattle.luck_text.proofs.Cases.{by-test, and-right}
 use Rattle.luck_answer.specs.Answer.{Answer, refused}

@@ -20,22 +20,7 @@ use Rattle.luck_token.specs.declared.version.Rules.{Rules}
 use Rattle.luck_token.specs.declared.span.Span.{Span}
 use Rattle.luck_text.proofs.Cases.{if-true, if-false}
 use Rattle.luck_answer.specs.Answer.{Answer, accepted, refused, refusal}
-use Rattle.luck_linter.specs.StringLiteral.{
-  isKind,
-  bodyWalk,
-  isNumericEscape,
-  hasNumericEscape,
-  LiteralAnswer,
-  skippedAnswer,
-  unspanned,
-  spannedAnswer,
-  spanAt,
-  withSpan,
-  checkBody,
-  checkShort,
-  afterText,
-  checkLiteral,
-}
+use Rattle.luck_linter.specs.StringLiteral.{isKind, bodyWalk, isNumericEscape, hasNumericEscape, skippedAnswer, unspanned, spannedAnswer, spanAt, withSpan, checkBody, checkShort, afterText, checkLiteral}
 use Rattle.luck_answer.specs.declared.format_pattern.PatternError.{PatternError}
 use Rattle.luck_answer.specs.declared.format_pattern.PatternError.the-variants as error
 

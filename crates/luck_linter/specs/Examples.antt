@@ -1,4 +1,4 @@
--- A text for every number in the list of every check, most of them from document 01's table of refusals: the lists name no number that their check never answers.
+-- A text for every number in the list of each check, with the counts below, most of them from document 01's table of refusals: the lists name no number that their check never answers.
 -- Assumes nothing.
 use Prim.Native.Nat.{ℕ}
 use Prim.Native.Char.{code}

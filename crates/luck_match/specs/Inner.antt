@@ -1,9 +1,9 @@
--- What the code of items, singles and captures promises the matching. This crate is for the trial only, and no contract of `gsub` rests on these.
+-- What the code of items, singles and captures promises the matching and the writing of a match. This crate is for the trial only, and no contract of `gsub` rests on these.
 -- Assumes nothing.
 use Prim.Native.Nat.{ℕ, zero, suc, _+_, _-_, _<_, _≤_}
 use Prim.Native.Char.{code}
 use mathlib.Core.Path.{_≡_}
-use mathlib.Core.Bool.{Bool, true, false}
+use mathlib.Core.Bool.{true, false}
 use mathlib.Core.List.{List, [], _∷_}
 use mathlib.Core.Option.{Option, none, some}
 use lib.ListN.{length, getD}

@@ -83,7 +83,7 @@ pub fn match_capture(subject: &[u8], captures: Captures, digit: u8, place: usize
     Held::Differs
 }
 
-// The captures of a match are handed out once, at its end: starts at the even places, lengths at the odd ones.
+// The captures of a match are handed out once, at its end: starts at the even places, lengths at the odd ones. What stands behind them is not said.
 pub fn keep(captures: Captures, kept: &mut [usize; 64])
     requires { ⌜ captures .count ≤ 32 ⌝ }
     ensures { λ r. ⌜

@@ -14,7 +14,7 @@ use Rattle.luck_text.specs.Bytes.{if_then_else_}
 use Rattle.luck_text.proofs.Cases.{order}
 use Rattle.luck_pattern.specs.Items.{Single, once, optional, star, plus, minus}
 use Rattle.luck_subject.specs.Class.{matchClass}
-use Rattle.luck_match.specs.Match.{Capture, Outcome, matched, failed, stopped, Rest, due, newLevel, orElse, Reach, reached, spent, longestFirst, maxExpand, fitsAt, reach, minExpand, expand, match}
+use Rattle.luck_match.specs.Match.{Capture, Outcome, matched, failed, stopped, Rest, due, newLevel, orElse, Reach, reached, spent, longestFirst, maxExpand, fitsAt, reach, minExpand, expand}
 use Rattle.luck_match.specs.Inner.{heldAs, reachOf}
 use Rattle.luck_subject.specs.Inner.{foundOf}
 use Rattle.luck_matcher.specs.Inner.{outcomeBy, outcomeOf, AttemptIn}

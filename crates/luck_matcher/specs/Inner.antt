@@ -5,7 +5,7 @@ use mathlib.Core.Path.{_≡_}
 use mathlib.Core.Bool.{Bool, true, false}
 use mathlib.Core.List.{List}
 use lib.Dec.{eqb}
-use Rattle.luck_match.specs.Match.{Outcome, matched, failed, stopped, match}
+use Rattle.luck_match.specs.Match.{Outcome, matched, failed, stopped}
 use Rattle.luck_matcher.specs.declared.matcher.Attempt.{Attempt}
 use Rattle.luck_match.specs.Inner.{capturesIn, KeptIn}
 

@@ -1,6 +1,6 @@
 // The matching of an attempt: items, repeats and captures that call each other.
 ghost use mathlib.Core.Path.{_≡_};
-ghost use Prim.Native.Nat.{ℕ, _+_, _-_, _<_, _≤_};
+ghost use Prim.Native.Nat.{_+_, _-_, _<_, _≤_};
 ghost use lib.ListN.{length};
 ghost use Rattle.luck_pattern.specs.Items.{items, minus};
 ghost use Rattle.luck_subject.specs.Class.{matchClass};

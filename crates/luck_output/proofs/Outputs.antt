@@ -1,16 +1,14 @@
 -- Laws of bytes that are written to an output: where they fit, and one by one.
 -- Assumes nothing.
-use Prim.Native.Nat.{ℕ, zero, suc, _+_, _-_, _≤_, _<_}
+use Prim.Native.Nat.{ℕ, suc, _+_, _-_, _≤_, _<_}
 use native.Mathlib.Nat.{add-zero}
-use native.Mathlib.Numerals.{add-one}
 use native.Mathlib.Omega.{arith}
-use mathlib.Core.Path.{_≡_, refl, sym, ap, subst, _∙_}
+use mathlib.Core.Path.{_≡_, sym, ap, _∙_}
 use mathlib.Core.List.{List, [], _∷_, _++_}
-use lib.ListN.{length, take, drop, set, length-append, length-drop}
-use lib.Seq.{take-suc, getD-drop, length-take-le, take-at, sets}
-use lib.Dec.{leb}
+use lib.ListN.{length, take, drop, set, length-drop}
+use lib.Seq.{take-suc, getD-drop, length-take-le, sets}
 use borrow.Author.Tests.{le-leb, lt-leb}
-use Rattle.luck_text.specs.Bytes.{if_then_else_, byteAt, part}
+use Rattle.luck_text.specs.Bytes.{byteAt, part}
 use Rattle.luck_output.specs.Output.{stores}
 use Rattle.luck_text.proofs.Cases.{if-true, if-false}
 

@@ -1,4 +1,5 @@
--- How a format of string.pack is read (getoption of lstrlib.c), and which are accepted (validate_pack_format of luck). An option is read with its
+-- How a format of string.pack is read (getoption of lstrlib.c), and which are accepted (validate_pack_format of luck): document 01, "Checks that the trial does
+-- not need", and point 7 of document 03. An option is read with its
 -- letter and its number, and judged by its kind and size. Sizes that the build decides are luck's: `h` is 2, `d` and `n` are 8 and the
 -- others 4, so that `!5j` is accepted and `!5n` refused. `c` takes any number, where getnum of lstrlib.c stops at the largest int.
 -- Assumes nothing.
@@ -64,27 +65,6 @@ getoption text p =
     let b = byteAt text p in
     if leb (length text) p then fault (refused 15 p)
     else if among b bareLetters then option (packOption b none) 1 else numberedOption text p
-
--- an option and its place
-pub record Placed : Type 0 where
-  pub place : ℕ
-  pub read : PackOption
-
-abbrev pub placed : ℕ → PackOption → Placed
-placed place read = record { place = place; read = read }
-
--- the options from p on, at most this many; the first fault ends the list, as the end of the text does
-unfoldable pub optionsUpTo : ℕ → List ℕ → ℕ → List Placed
-optionsUpTo zero text p = []
-optionsUpTo (suc n) text p = elim (getoption text p) [ option o width ↦ placed p o ∷ optionsUpTo n text (p + width) | fault answer ↦ [] ]
-
--- all of them, from p on; the option that an `X` reads stands behind it. The count of an accepted format is that of the options
--- in this list that have a value and are not read by an `X` (`counts-values` of proofs/PackOptions.antt)
-unfoldable pub optionsFrom : List ℕ → ℕ → List Placed
-optionsFrom text p = optionsUpTo (length text - p) text p
-
-unfoldable pub options : List ℕ → List Placed
-options text = optionsFrom text 0
 
 -- ---- Kind and size
 
@@ -210,3 +190,26 @@ packWalk packsize text = walkFrom (packTurn luckSize packsize text) packEnd (len
 
 unfoldable pub checkPack : ℕ → Bool → List ℕ → Answer
 checkPack version packsize text = checkText version text (packWalk packsize text)
+
+-- ---- The options as a list. No contract rests on it: `counts-values` of proofs/PackOptions.antt says the count by it
+
+-- an option and its place
+pub record Placed : Type 0 where
+  pub place : ℕ
+  pub read : PackOption
+
+abbrev pub placed : ℕ → PackOption → Placed
+placed place read = record { place = place; read = read }
+
+-- the options from p on, at most this many; the first fault ends the list, as the end of the text does
+unfoldable pub optionsUpTo : ℕ → List ℕ → ℕ → List Placed
+optionsUpTo zero text p = []
+optionsUpTo (suc n) text p = elim (getoption text p) [ option o width ↦ placed p o ∷ optionsUpTo n text (p + width) | fault answer ↦ [] ]
+
+-- all of them, from p on; the option that an `X` reads stands behind it. The count of an accepted format is that of the options
+-- in this list that have a value and are not read by an `X` (`counts-values` of proofs/PackOptions.antt)
+unfoldable pub optionsFrom : List ℕ → ℕ → List Placed
+optionsFrom text p = optionsUpTo (length text - p) text p
+
+unfoldable pub options : List ℕ → List Placed
+options text = optionsFrom text 0

@@ -1,8 +1,7 @@
 // What is written for a match, into the output from `at` on.
-ghost use mathlib.Core.Path.{_≡_};
 ghost use mathlib.Core.List.{[], _∷_};
-ghost use Prim.Native.Nat.{ℕ, _+_, _<_, _≤_};
-ghost use lib.ListN.{length, take, drop};
+ghost use Prim.Native.Nat.{_+_, _<_, _≤_};
+ghost use lib.ListN.{length, take};
 ghost use Rattle.luck_pattern.specs.Replacement.{escaped, pieces};
 ghost use Rattle.luck_replace.specs.Replace.{append, decimal, addCapture, addDigit, addPiece, addPieces};
 ghost use Rattle.luck_match.specs.Inner.{captureOf, PairIn, capturesIn, KeptIn};

@@ -1,3 +1,3 @@
-// What the bytes of a subject are tested for, whatever the pattern: classes, equal parts, balanced pairs and the byte before a place, after lstrlib.c.
+// Tests of a subject's bytes that do not read the pattern's text, after lstrlib.c: classes by their letter, equal parts, balanced pairs and the byte before a place.
 pub mod class;
 pub mod subject;

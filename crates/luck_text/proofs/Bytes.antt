@@ -1,4 +1,4 @@
--- Laws of bytes: tests of a range, runs, and numbers that stay at the largest.
+-- Laws of bytes: tests of a range, sets, parts, runs, and numbers that stay at the largest.
 -- Assumes nothing.
 use Prim.Native.Nat.{ℕ, zero, suc, _+_, _*_, _-_, _≤_, _<_, min}
 use native.Mathlib.Nat.{mul-zero, mul-suc}
@@ -6,13 +6,13 @@ use native.Mathlib.Numerals.{add-one}
 use native.Mathlib.Omega.{arith}
 use mathlib.Core.Path.{_≡_, refl, sym, ap, subst, _∙_}
 use mathlib.Core.Logic.{_⊎_, inl, inr, ⊎-elim}
-use mathlib.Core.Bool.{Bool, true, false, not, _&&_, _||_, true≢false}
+use mathlib.Core.Bool.{Bool, true, false, _||_}
 use mathlib.Core.List.{List, [], _∷_}
 use lib.ListN.{length, drop, length-drop, drop-of-length-le}
 use lib.Seq.{drop-cons, take-nil, getD-take, getD-drop, length-take-le}
-use lib.Dec.{leb, eqb}
+use lib.Dec.{leb}
 use borrow.Author.Tests.{le-leb, lt-leb, leb-true, leb-false, eq-eqb, ne-eqb}
-use Rattle.luck_text.specs.Bytes.{if_then_else_, byteAt, part, between, among, isDigit, isXdigit, run, digitValue, numeralFrom, numeral}
+use Rattle.luck_text.specs.Bytes.{if_then_else_, byteAt, part, between, among, isDigit, isXdigit, run, digitValue, numeralFrom}
 use Rattle.luck_text.specs.Scan.{most, grown}
 use Rattle.luck_text.proofs.Cases.{by-test, order, and-right, second-false}
 

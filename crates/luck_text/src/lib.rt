@@ -1,3 +1,3 @@
-// Texts: runs of bytes and the numbers that digits spell, which luck writes with take_while and parse.
+// Texts: bytes at a place, runs and the numbers that digits spell, which luck writes with get, take_while and parse; long runs by blocks.
 pub mod blocks;
 pub mod scan;

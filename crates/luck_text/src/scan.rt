@@ -1,7 +1,7 @@
-// Runs of bytes of one class, and the number that digits spell.
+// Bytes of a class or a set, the byte at a place, runs, and the number that digits spell.
 ghost use mathlib.Core.Path.{_≡_};
 ghost use Prim.Native.Nat.{_≤_, min};
-ghost use lib.ListN.{length, drop};
+ghost use lib.ListN.{drop};
 ghost use Rattle.luck_text.specs.Bytes.{byteAt, part, among, run as runOf, digitValue, numeral as numeralOf};
 ghost use Rattle.luck_text.specs.Scan.{inClass, most, grown};
 

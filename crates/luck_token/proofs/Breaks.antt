@@ -2,7 +2,7 @@
 -- Assumes nothing.
 use Prim.Native.Nat.{ℕ, _+_, _≤_, _<_}
 use native.Mathlib.Omega.{arith}
-use mathlib.Core.Path.{_≡_, refl, sym, ap, _∙_}
+use mathlib.Core.Path.{_≡_}
 use mathlib.Core.Bool.{Bool, true, false, _&&_}
 use mathlib.Core.List.{List}
 use lib.ListN.{length}
@@ -10,7 +10,7 @@ use lib.Dec.{eqb}
 use borrow.Author.Tests.{eqb-true, ne-eqb}
 use Rattle.luck_text.specs.Bytes.{if_then_else_, byteAt}
 use Rattle.luck_token.specs.Whitespace.{lineBreak}
-use Rattle.luck_text.proofs.Cases.{by-test, and-left, and-right, present}
+use Rattle.luck_text.proofs.Cases.{by-test, and-right, present}
 
 module _ (lfcr : Bool) (text : List ℕ) (p : ℕ) where
   pub cr-lf : byteAt text p ≡ 13 → byteAt text (p + 1) ≡ 10 → 2 ≡ lineBreak lfcr text p

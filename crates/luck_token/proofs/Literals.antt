@@ -1,15 +1,15 @@
 -- Laws of string literals: a law for each way that the code reads a literal's text, an escape or a piece.
 -- Assumes nothing.
-use Prim.Native.Nat.{ℕ, suc, _+_, _*_, _-_, _%_, _≤_, _<_, min, max}
+use Prim.Native.Nat.{ℕ, suc, _+_, _*_, _-_, _%_, _≤_, _<_, min}
 use native.Mathlib.Omega.{arith}
-use mathlib.Core.Path.{_≡_, refl, sym, ap, ap₂, subst, _∙_}
-use mathlib.Core.Bool.{Bool, true, false, not, _&&_, _||_, true≢false}
+use mathlib.Core.Path.{_≡_, refl, sym, ap, ap₂, _∙_}
+use mathlib.Core.Bool.{Bool, true, false, _&&_, _||_, true≢false}
 use mathlib.Core.List.{List, [], _∷_}
 use lib.ListN.{length, take, drop, length-drop, List·getD-eq-default}
 use lib.Seq.{take-all}
-use lib.Dec.{eqb, leb, ltb}
-use borrow.Author.Tests.{lt-ltb, le-ltb, le-leb, lt-leb, eq-eqb, ne-eqb, leb-true, leb-false}
-use mathlib.Core.Logic.{inl, inr, ⊎-elim}
+use lib.Dec.{eqb, leb}
+use borrow.Author.Tests.{lt-ltb, le-ltb, le-leb, lt-leb, eq-eqb, ne-eqb, leb-true}
+use mathlib.Core.Logic.{inl, ⊎-elim}
 use Rattle.luck_text.specs.Bytes.{if_then_else_, byteAt, between, part, isDigit, isXdigit, run, digitValue, numeralFrom, numeral}
 use Rattle.luck_utf8.specs.Utf8.{isChar, utf8Bytes}
 use Rattle.luck_token.specs.Whitespace.{lineBreak, stripLineBreak}
@@ -41,7 +41,7 @@ use Rattle.luck_token.specs.declared.string.Piece.{Piece as Found}
 use Rattle.luck_token.specs.declared.string.Escape.{Escape}
 use Rattle.luck_token.specs.declared.string.Escape.the-variants.{Decimal}
 use Rattle.luck_text.proofs.Cases.{by-test, if-true, if-false, and-left, and-right, both-true, first-false, second-false, order}
-use Rattle.luck_text.proofs.Bytes.{within, below, above, run-more, run-first, digit-more, digit-end, hex-value}
+use Rattle.luck_text.proofs.Bytes.{within, above, run-more, run-first, digit-more, digit-end, hex-value}
 use Rattle.luck_token.proofs.Breaks.{no-break}
 use Rattle.luck_text.proofs.Neither.{neither-first, neither-second}
 

@@ -5,17 +5,16 @@ use native.Mathlib.Nat.{le-refl, add-zero}
 use native.Mathlib.Numerals.{add-one}
 use native.Mathlib.Omega.{arith}
 use mathlib.Core.Path.{_≡_, refl, sym, ap, ap₂, subst, _∙_}
-use mathlib.Core.Logic.{⊎-elim}
 use mathlib.Core.Bool.{Bool, true, false, _&&_}
 use mathlib.Core.List.{List, [], _∷_, _++_, append-assoc, append-nil}
 use mathlib.Core.Option.{Option, none, some}
-use lib.ListN.{length, take, drop, set, length-append, length-drop}
-use lib.Seq.{take-all, take-suc, drop-length, drop-cons, getD-drop, length-take-le, take-at, set-append-seam, sets, length-sets}
-use lib.Dec.{eqb, leb, ltb}
-use borrow.Author.Tests.{lt-ltb, le-ltb, le-leb, lt-leb, leb-true, ltb-true}
+use lib.ListN.{length, take, drop, set, length-append}
+use lib.Seq.{take-all, drop-length, drop-cons, take-at, set-append-seam, sets, length-sets}
+use lib.Dec.{eqb, leb}
+use borrow.Author.Tests.{lt-ltb, le-ltb, le-leb, lt-leb, leb-true}
 use Rattle.luck_text.specs.Bytes.{if_then_else_, byteAt, part}
 use Rattle.luck_text.specs.Walk.{Turn, walkFrom}
-use Rattle.luck_text.specs.Walk.Turn.{stop, goes}
+use Rattle.luck_text.specs.Walk.Turn.{stop}
 use Rattle.luck_token.specs.Version.{isVersion, rulesOf}
 use Rattle.luck_utf8.specs.Utf8.{utf8Bytes, illFormed}
 use Rattle.luck_token.specs.Whitespace.{lineBreak, stripLineBreak}
@@ -35,7 +34,7 @@ use Rattle.luck_token.specs.Literal.{
   valueOf,
   literalValue,
 }
-use Rattle.luck_token.specs.Decode.{Outcome, value, refused, withRoom, ofText, decodeString, answerOf, numbered, outputOf}
+use Rattle.luck_token.specs.Decode.{refused, withRoom, ofText, decodeString, answerOf, numbered, outputOf}
 use Rattle.luck_token.specs.Inner.{IsPiece, Lies, sizeOf, plain, Within, Written}
 use Rattle.luck_output.specs.Output.{stores}
 use Rattle.luck_token.specs.declared.version.Rules.{Rules}

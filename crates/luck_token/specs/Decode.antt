@@ -2,7 +2,6 @@
 -- at offset 0; refused, the output is untouched, else only the value's bytes are written, from the front.
 -- Assumes nothing.
 use Prim.Native.Nat.{ℕ}
-use mathlib.Core.Bool.{Bool, true, false}
 use mathlib.Core.List.{List, _++_}
 use mathlib.Core.Option.{Option, none, some}
 use lib.ListN.{length, drop}

@@ -1,4 +1,5 @@
--- String literals: section 3.1 of the manuals of 5.2 to 5.5 (2.1 of 5.1), Luau's grammar, and string.rs of luck where it differs.
+-- String literals: section 3.1 of the manuals of 5.2 to 5.5 (2.1 of 5.1), Luau's grammar, and string.rs of luck where it differs (points 4,
+-- 5 and 12 of document 03).
 -- A literal's text is taken apart into what stands between its quotes or brackets, and that into pieces; its value is the pieces' bytes.
 -- Assumes nothing.
 use Prim.Native.Nat.{ℕ, _+_, _-_, min, max}
@@ -68,7 +69,7 @@ longPiece lfcr body p =
     let width = lineBreak lfcr body p in
     if eqb width 0 then piece (byteAt body p ∷ []) 1 else piece (code "\n" ∷ []) width
 
--- an escape that the manuals do not define: 5.1 and Luau read the byte as itself
+-- an escape that the version does not define: 5.1 and Luau read the byte as itself
 unfoldable pub otherEscape : Rules → Escape
 otherEscape rules = if rules .«strict_escapes» then Undefined else Itself
 

@@ -1,4 +1,4 @@
--- Line breaks, as the lexers read them (whitespace.rs of luck).
+-- Line breaks, as the lexers read them (whitespace.rs of luck; point 5 of document 03).
 -- Assumes nothing.
 use Prim.Native.Nat.{ℕ, _+_}
 use Prim.Native.Char.{code}

@@ -1,13 +1,10 @@
 // String literals: the text between the quotes, and the value.
 ghost use mathlib.Core.Path.{_≡_};
 ghost use mathlib.Core.Bool.{true, false};
-ghost use mathlib.Core.List.{[], _∷_};
 ghost use mathlib.Core.Option.{some};
 ghost use Prim.Native.Nat.{ℕ, _+_, _-_, _<_, _≤_};
 ghost use lib.ListN.{length};
-ghost use lib.Seq.{sets};
 ghost use Rattle.luck_text.specs.Bytes.{byteAt, part};
-ghost use Rattle.luck_utf8.specs.Utf8.{utf8Bytes};
 ghost use Rattle.luck_token.specs.Whitespace.{stripLineBreak};
 ghost use Rattle.luck_token.specs.Literal.{isShort, shortStringBody, placesOf, bracketAt, bracketWidth, otherEscape, escapeOf, lineBreakEscape, hexEscape, decimalEscape, allowsDigits, allowsCodePoint, unicodeEscape, escapeAt, longPiece, pieceAt, valueOf, literalValue};
 ghost use Rattle.luck_token.specs.Decode.{withRoom, decodeString, answerOf, numbered, outputOf};
@@ -84,7 +81,7 @@ pub enum Piece {
     Malformed,
 }
 
-// An escape that is none of those that every version has.
+// An escape that the version does not define.
 fn other_escape(rules: Rules) -> Escape
     ensures { λ r. ⌜ r ≡ otherEscape rules ⌝ }
 {
@@ -159,6 +156,7 @@ fn hex_escape(body: &[u8], at: usize) -> Piece
     if scan::run(body, at + 2, Class::HexDigit) < 2 {
         return Piece::Malformed;
     }
+    // below 256, which the contract of `numeral` does not say
     let value = scan::numeral(body, at + 2, at + 4, 16);
     Piece::Byte {
         value: (value % 256) as u8,

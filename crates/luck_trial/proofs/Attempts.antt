@@ -9,7 +9,7 @@ use mathlib.Core.Option.{Option, none, some}
 use lib.ListN.{length}
 use borrow.Author.Tests.{ltb-true, ltb-false}
 use Rattle.luck_text.proofs.Cases.{by-test}
-use Rattle.luck_pattern.specs.Items.{Set, Single, Repeat, once, optional, star, plus, minus, Item, balance, frontier, single}
+use Rattle.luck_pattern.specs.Items.{Set, Single, Repeat, once, optional, star, plus, minus, balance, frontier, single}
 use Rattle.luck_match.specs.Match.{Capture, closed, Outcome, matched, failed, stopped, Rest, due, newLevel, orElse, matchCapture, goesOnAt, passedOver, Reach, reached, spent, longestFirst, maxExpand, reach, minExpand, expand, doItem}
 
 pub record Kept (budget : ℕ) (P : Outcome → Type 0) (U : ℕ → Type 0) : Type 0 where

@@ -4,7 +4,7 @@ use Prim.Native.Nat.{ℕ, zero, suc, _+_, _-_, _≤_, zero-le}
 use native.Mathlib.Omega.{arith}
 use mathlib.Core.Path.{_≡_, refl}
 use mathlib.Core.Bool.{Bool, true}
-use mathlib.Core.List.{List, [], _∷_, _++_}
+use mathlib.Core.List.{List, [], _∷_}
 use mathlib.Core.Option.{Option, none, some}
 use lib.ListN.{length, getD}
 use lib.Dec.{eqb, leb, ltb}
@@ -60,7 +60,7 @@ use Rattle.luck_pattern.specs.Items.{
 }
 use Rattle.luck_pattern.specs.Replacement.{pieces}
 use Rattle.luck_subject.specs.Class.{matchClass}
-use Rattle.luck_match.specs.Match.{Capture, opened, position, closed, captureToClose, Outcome, matched, failed, stopped, Rest, due, startCapture, endCapture, matchCapture, backReference, doItem, match}
+use Rattle.luck_match.specs.Match.{Capture, opened, position, closed, captureToClose, Outcome, matched, failed, stopped, Rest, startCapture, endCapture, matchCapture, backReference, doItem, match}
 use Rattle.luck_trial.specs.Gsub.{writerOf, gsub}
 use Rattle.luck_trial.proofs.Attempts.{Kept, due-kept, level-kept, single-kept, balance-kept, frontier-kept, closed-kept}
 use Rattle.luck_trial.proofs.Runs.{Fine, AttemptFine, pieces-end, gsub-fine}

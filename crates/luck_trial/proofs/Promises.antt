@@ -3,7 +3,7 @@
 use Prim.Native.Nat.{ℕ, _≤_}
 use native.Mathlib.Omega.{arith}
 use mathlib.Core.Path.{_≡_, refl, ap}
-use mathlib.Core.Bool.{Bool, true, false}
+use mathlib.Core.Bool.{true, false}
 use mathlib.Core.List.{List, [], _∷_}
 use mathlib.Core.Option.{some}
 use lib.ListN.{length}
@@ -17,7 +17,7 @@ use Rattle.luck_subject.specs.Class.{matchClass}
 use Rattle.luck_trial.specs.Gsub.{outputAfter, strGsub, gsub}
 use Rattle.luck_trial.proofs.Writings.{walk-accepted, strict-accepted, writers-alike}
 use Rattle.luck_trial.proofs.Quiet.{quiet}
-use Rattle.luck_trial.proofs.Endings.{Ending, endings}
+use Rattle.luck_trial.proofs.Endings.{endings}
 
 -- ---- A pattern accepted under some version v with its count n, and a replacement accepted for that count under a version w other than 5.1
 

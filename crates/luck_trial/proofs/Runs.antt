@@ -3,7 +3,7 @@
 -- Assumes nothing.
 use Prim.Native.Nat.{ℕ, zero, suc, _+_, _-_}
 use mathlib.Core.Path.{_≡_}
-use mathlib.Core.Bool.{Bool, true, false}
+use mathlib.Core.Bool.{Bool, true}
 use mathlib.Core.List.{List, [], _∷_, _++_}
 use mathlib.Core.Option.{Option, none, some}
 use lib.ListN.{length, drop, getD}
@@ -11,7 +11,7 @@ use lib.Dec.{eqb, leb}
 use Rattle.luck_text.specs.Bytes.{byteAt, part}
 use Rattle.luck_text.proofs.Cases.{by-test}
 use Rattle.luck_pattern.specs.Items.{Item, items}
-use Rattle.luck_pattern.specs.Replacement.{Piece, literal, digit, percent, other, lone, pieces}
+use Rattle.luck_pattern.specs.Replacement.{Piece, literal, digit, percent, other, lone}
 use Rattle.luck_subject.specs.Class.{matchClass}
 use Rattle.luck_match.specs.Match.{Capture, opened, position, closed, Outcome, matched, failed, stopped, match}
 use Rattle.luck_replace.specs.Replace.{Wrote, wrote, ended, andThen, append, decimal, addCapture, addDigit, addPiece, addPieces}

@@ -1,6 +1,6 @@
 -- From items that are well formed after the captures so far, no attempt raises, and a match has all its captures, closed.
 -- Assumes nothing.
-use Prim.Native.Nat.{ℕ, zero, suc, _+_, _-_, _≤_, _<_}
+use Prim.Native.Nat.{ℕ, zero, suc, _+_, _-_, _<_}
 use native.Mathlib.Omega.{arith}
 use mathlib.Core.Path.{_≡_, refl, sym, ap, subst, _∙_}
 use mathlib.Core.Bool.{Bool, true, false, _&&_, true≢false}
@@ -8,7 +8,7 @@ use mathlib.Core.List.{List, [], _∷_, _++_}
 use mathlib.Core.Option.{Option, none, some}
 use lib.ListN.{length, getD, set}
 use lib.Dec.{eqb, leb, ltb}
-use borrow.Author.Tests.{ltb-true, ltb-false, leb-false, le-leb}
+use borrow.Author.Tests.{ltb-true, ltb-false, le-leb}
 use Rattle.luck_text.proofs.Cases.{by-test, and-left, and-right, both-true}
 use Rattle.luck_pattern.specs.Captures.{closeHere, closeLatest, isClosed, allClosed}
 use Rattle.luck_pattern.specs.Items.{
@@ -23,7 +23,7 @@ use Rattle.luck_pattern.specs.Items.{
   single,
   raises,
 }
-use Rattle.luck_match.specs.Match.{Capture, opened, position, closed, startOf, toCloseBy, captureToClose, Outcome, matched, failed, stopped, Rest, due, newLevel, startCapture, endCapture, matchCapture, backReference, doItem, match}
+use Rattle.luck_match.specs.Match.{Capture, opened, position, closed, startOf, toCloseBy, captureToClose, Outcome, Rest, startCapture, endCapture, matchCapture, backReference, doItem, match}
 use Rattle.luck_trial.proofs.Attempts.{Kept, due-kept, level-kept, single-kept, balance-kept, frontier-kept, closed-kept}
 use Rattle.luck_trial.proofs.Runs.{AttemptFine}
 

@@ -4,14 +4,14 @@
 use Prim.Native.Nat.{ℕ, zero, suc, _+_, _-_, _≤_, _<_, max}
 use native.Mathlib.Omega.{arith}
 use mathlib.Core.Path.{_≡_, refl, sym, ap, subst, _∙_, fun-ext}
-use mathlib.Core.Bool.{Bool, true, false, _&&_, true≢false}
+use mathlib.Core.Bool.{Bool, true, false, true≢false}
 use mathlib.Core.List.{List, [], _∷_}
-use mathlib.Core.Option.{Option, none, some}
+use mathlib.Core.Option.{Option, some}
 use lib.ListN.{length, getD}
 use lib.Dec.{eqb, leb}
 use borrow.Author.Tests.{eqb-false, leb-true, leb-false}
 use Rattle.luck_text.specs.Bytes.{if_then_else_, part, among}
-use Rattle.luck_token.specs.Version.{isVersion, versions, has, rulesOf, strict-gsub-replacement}
+use Rattle.luck_token.specs.Version.{isVersion, versions, has, rulesOf}
 use Rattle.luck_text.proofs.Cases.{by-test, and-left, and-right}
 use Rattle.luck_answer.specs.Answer.{Answer, accepted, refused, afterVersion, checkText}
 use Rattle.luck_pattern.specs.Captures.{allClosed}
@@ -29,8 +29,8 @@ use Rattle.luck_pattern.specs.Replacement.{
   checkReplacement,
 }
 use Rattle.luck_match.specs.Match.{Capture, opened, position, closed}
-use Rattle.luck_replace.specs.Replace.{Wrote, wrote, ended, andThen, append, decimal, addCapture, addDigit, addPiece, addPieces}
-use Rattle.luck_trial.specs.Gsub.{Writer, writerOf}
+use Rattle.luck_replace.specs.Replace.{andThen, append, decimal, addCapture, addDigit, addPiece, addPieces}
+use Rattle.luck_trial.specs.Gsub.{writerOf}
 use Rattle.luck_trial.proofs.Runs.{WroteFine, append-fine, then-fine}
 use Rattle.luck_trial.proofs.Sound.{AllClosed, isShut, flagsOf, length-flags, flags-getD}
 use Rattle.luck_trial.proofs.Accepted.{refused-accepted, if-passed, text-accepted}

@@ -1,5 +1,5 @@
--- The starred cases of document 01, as a list, and one lemma for all of it, by computation; and beside it the other cases of its text. A case that document 01 gives without
--- a version is computed under all six.
+-- The starred cases of document 01, as a list, and one lemma for all of it, by computation; and beside it the other cases of its text. A starred case that document 01 gives
+-- without a version is computed under all six, the others under 5.4 (a replacement's `%x` and final `%` under 5.1).
 -- Assumes nothing.
 use Prim.Native.Nat.{ℕ, zero, suc}
 use Prim.Native.Char.{code}

@@ -2,7 +2,7 @@
 -- Assumes nothing.
 use Prim.Native.Nat.{ℕ, zero, suc, _+_, _-_}
 use Prim.Native.Char.{code}
-use mathlib.Core.Bool.{Bool, true, false}
+use mathlib.Core.Bool.{Bool, false}
 use mathlib.Core.List.{List, [], _∷_, _++_}
 use mathlib.Core.Option.{Option, none, some}
 use lib.ListN.{length, drop}
@@ -10,7 +10,7 @@ use lib.Dec.{eqb, ltb}
 use Rattle.luck_text.specs.Bytes.{if_then_else_, byteAt}
 use Rattle.luck_token.specs.Version.{isVersion}
 use Rattle.luck_pattern.specs.Items.{Item, items}
-use Rattle.luck_pattern.specs.Replacement.{Piece, pieces}
+use Rattle.luck_pattern.specs.Replacement.{pieces}
 use Rattle.luck_subject.specs.Class.{matchClass}
 use Rattle.luck_trial.specs.declared.gsub.Trial.{Trial}
 use Rattle.luck_match.specs.Match.{Capture, Outcome, matched, failed, stopped, match}

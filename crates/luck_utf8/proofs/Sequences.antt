@@ -6,17 +6,16 @@ use mathlib.Core.Logic.{⊎-elim}
 use mathlib.Core.Bool.{Bool, true, false, _&&_}
 use mathlib.Core.List.{List, [], _∷_}
 use mathlib.Core.Option.{Option, none, some}
-use Prim.Native.Nat.{ℕ, zero, suc, _+_, _*_, _-_, _/_, _%_, _<_, _≤_}
+use Prim.Native.Nat.{ℕ, zero, suc, _+_, _*_, _-_, _<_, _≤_}
 use native.Mathlib.Nat.{add-zero}
 use native.Mathlib.Omega.{arith}
-use native.Mathlib.Numerals.{add-one}
-use lib.ListN.{length, take, drop, set, length-drop}
-use lib.Seq.{sets, length-take-le, getD-take, getD-drop}
+use lib.ListN.{length, take, drop, length-drop}
+use lib.Seq.{length-take-le, getD-take, getD-drop}
 use lib.Dec.{leb, ltb}
 use borrow.Author.Tests.{lt-ltb, le-ltb, le-leb, lt-leb, ne-eqb, ltb-true, leb-true}
 use Rattle.luck_text.specs.Bytes.{if_then_else_, byteAt}
 use Rattle.luck_text.specs.Walk.{walkFrom}
-use Rattle.luck_utf8.specs.Utf8.{Range, Row, tail, rfc3629, inRange, tailsOf, follow, widthBy, sequence, sequenceAt, noneIllFormed, codePoint, charAt, utf8Bytes}
+use Rattle.luck_utf8.specs.Utf8.{Range, Row, tail, rfc3629, inRange, tailsOf, follow, widthBy, sequence, sequenceAt, noneIllFormed, codePoint, charAt}
 use Rattle.luck_text.proofs.Cases.{if-true, if-false, and-left, and-right, second-false, order, present}
 use Rattle.luck_text.proofs.Walk.{walk-stop, walk-goes}
 

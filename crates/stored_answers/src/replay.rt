@@ -28,7 +28,7 @@ pub fn run(name: &[u8], path: &[u8], format: Format) {
     run_in(name, path, format, &mut file);
 }
 
-// With a buffer that is larger than the file.
+// With a buffer that has to be larger than the file.
 fn run_in(name: &[u8], path: &[u8], format: Format, file: &mut [u8]) {
     let loaded = reader::load(path, file);
     match loaded {

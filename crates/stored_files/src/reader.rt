@@ -1,6 +1,6 @@
 // Reading a stored file into a lent buffer.
 ghost use lib.ListN.{length};
-ghost use Rattle.stored_files.specs.Places.{Loads};
+ghost use Rattle.stored_files.specs.Loads.{Loads};
 
 pub enum Loaded {
     Length(usize),

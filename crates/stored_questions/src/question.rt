@@ -1,6 +1,5 @@
-// The front of a record of a check: the kind letter and the version in one byte each, whether the count of captures is known in one and
+// Questions to the checks and what the library answers. The front of a record of a check: the kind letter and the version in one byte each, whether the count of captures is known in one and
 // the count in four, the text's length in two, and the text.
-ghost use mathlib.Core.Path.{_≡_};
 ghost use Prim.Native.Nat.{_+_, _<_, _≤_};
 ghost use lib.ListN.{length};
 ghost use Rattle.stored_questions.specs.Places.{Asks, AnswerLies};
@@ -72,7 +71,7 @@ pub fn is_kind(kind: u8) -> bool {
     }
 }
 
-// The library's answer, in a version that need not be the question's.
+// The library's answer, in a version that need not be the question's. A letter that names no check is asked as a date.
 pub fn ask(file: &[u8], question: Question, version: u32) -> Checked
     requires { ⌜ AnswerLies 0 (length (now file)) question ⌝ }
 {

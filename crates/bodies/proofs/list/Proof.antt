@@ -1,7 +1,6 @@
 -- `bodies::list` is safe and ends. Assumes nothing.
-use mathlib.Core.Path.{_≡_, refl}
+use mathlib.Core.Path.{_≡_}
 use lib.ListN.{length}
-use native.Mathlib.Omega.{arith}
 use Rattle.bodies.specs.Held.{Within}
 use borrow.Author.Needs.{needs}
 use Rattle.bodies.proofs.list.Statement.{statement}

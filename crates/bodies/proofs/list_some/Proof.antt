@@ -1,5 +1,4 @@
 -- `bodies::list_some` meets its contract. Assumes nothing.
-use mathlib.Core.Path.{_≡_, refl, sym, ap, subst, _∙_}
 use lib.ListN.{length}
 use Rattle.bodies.proofs.Buffers.{may-read, rows-on, read-after}
 use borrow.Author.Needs.{needs}

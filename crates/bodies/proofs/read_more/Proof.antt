@@ -1,5 +1,5 @@
 -- `bodies::read_more` meets its contract. Assumes nothing.
-use mathlib.Core.Path.{_≡_, refl, sym, ap, subst, _∙_}
+use mathlib.Core.Path.{_≡_, refl, sym, subst}
 use lib.ListN.{length}
 use Rattle.luck_text.specs.Bytes.{part}
 use Rattle.luck_lines.specs.Stream.{lineLength}

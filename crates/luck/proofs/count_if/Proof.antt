@@ -1,7 +1,6 @@
 -- `luck::count_if` meets its contract. Assumes nothing.
 use mathlib.Core.Path.{sym, ap}
 use Rattle.luck_structs.specs.Answers.{countIf}
-use borrow.Author.Needs.{needs}
 use Rattle.luck.proofs.count_if.Statement.{statement}
 use Rattle.luck.proofs.count_if.Tie as tie
 

@@ -1,5 +1,5 @@
 -- `luck_answer::format_pattern::read_text` meets its contract. Assumes nothing.
-use mathlib.Core.Path.{_≡_, refl, sym, ap, subst, _∙_}
+use mathlib.Core.Path.{sym, ap, _∙_}
 use Rattle.luck_utf8.specs.Utf8.{placeOf}
 use Rattle.luck_answer.proofs.Texts.{text-fine, text-ill-formed, text-unknown-version}
 use borrow.Author.Needs.{needs}

@@ -1,5 +1,5 @@
 -- `luck_format::date::scan_date` meets its contract. Assumes nothing.
-use mathlib.Core.Path.{_≡_, refl, sym, ap, subst, _∙_}
+use mathlib.Core.Path.{sym, _∙_}
 use Rattle.luck_format.proofs.Dates as laws
 use borrow.Author.Needs.{needs}
 use Rattle.luck_format.proofs.date.scan_date.Statement.{statement}

@@ -1,5 +1,5 @@
 -- `luck_format::date::validate_os_date` meets its contract. Assumes nothing.
-use mathlib.Core.Path.{_≡_, refl, sym, ap, subst, _∙_}
+use mathlib.Core.Path.{sym, ap, _∙_}
 use Rattle.luck_answer.specs.Answer.{textAnswer}
 use Rattle.luck_token.specs.Version.{rulesOf}
 use Rattle.luck_format.specs.Date.{dateWalk, checkDate}

@@ -1,5 +1,4 @@
 -- `luck_line::line::check_body` meets its contract. Assumes nothing.
-use mathlib.Core.Path.{_≡_, refl, sym, ap, _∙_}
 use Rattle.luck_line.proofs.Heads as heads
 use borrow.Author.Needs.{needs}
 use Rattle.luck_line.proofs.line.check_body.Statement.{statement}

@@ -1,6 +1,5 @@
 -- `luck_line::line::check_line` meets its contract. Assumes nothing.
-use mathlib.Core.Path.{_≡_, refl, sym, ap, _∙_}
-use native.Mathlib.Omega.{arith}
+use mathlib.Core.Path.{sym, _∙_}
 use Rattle.luck_line.proofs.Heads as heads
 use borrow.Author.Needs.{needs}
 use Rattle.luck_line.proofs.line.check_line.Statement.{statement}

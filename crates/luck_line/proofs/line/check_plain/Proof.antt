@@ -1,5 +1,5 @@
 -- `luck_line::line::check_plain` meets its contract. Assumes nothing.
-use mathlib.Core.Path.{_≡_, refl, sym, ap, _∙_}
+use mathlib.Core.Path.{_∙_}
 use borrow.Author.Tests.{ne-eqb}
 use Rattle.luck_text.specs.Bytes.{if_then_else_}
 use Rattle.luck_line.specs.Line.{bodyAnswer, plainCheck}

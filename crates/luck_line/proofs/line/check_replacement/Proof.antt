@@ -1,5 +1,5 @@
 -- `luck_line::line::check_replacement` meets its contract. Assumes nothing.
-use mathlib.Core.Path.{_≡_, refl, sym, ap, _∙_}
+use mathlib.Core.Path.{sym, ap, _∙_}
 use mathlib.Core.Option.{none, some}
 use Rattle.luck_linter.specs.Checks.{replacement}
 use Rattle.luck_line.specs.Line.{replacementWith}

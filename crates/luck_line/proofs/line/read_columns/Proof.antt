@@ -1,5 +1,5 @@
 -- `luck_line::line::read_columns` meets its contract. Assumes nothing.
-use mathlib.Core.Path.{_≡_, refl, sym, ap, _∙_}
+use mathlib.Core.Path.{sym, ap, _∙_}
 use mathlib.Core.Option.{some}
 use Rattle.luck_line.proofs.Heads as heads
 use borrow.Author.Needs.{needs}

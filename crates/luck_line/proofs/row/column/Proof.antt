@@ -1,5 +1,4 @@
 -- `luck_line::row::column` meets its contract. Assumes nothing.
-use mathlib.Core.Path.{_≡_, refl, sym, ap, _∙_}
 use borrow.Author.Tests.{lt-ltb, le-ltb}
 use Rattle.luck_text.specs.Bytes.{if_then_else_}
 use Rattle.luck_line.specs.Row.{column}

@@ -1,5 +1,5 @@
 -- `luck_line::row::of_body` meets its contract. Assumes nothing.
-use mathlib.Core.Path.{_≡_, refl, sym, ap, _∙_}
+use mathlib.Core.Path.{sym, ap, _∙_}
 use mathlib.Core.Path.{ap₂}
 use Rattle.luck_answer.specs.Answer.{answerOf}
 use Rattle.luck_line.specs.Row.{row, answerRow}

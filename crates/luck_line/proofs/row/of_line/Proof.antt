@@ -1,5 +1,5 @@
 -- `luck_line::row::of_line` meets its contract. Assumes nothing.
-use mathlib.Core.Path.{_≡_, refl, sym, ap, _∙_}
+use mathlib.Core.Path.{sym, ap, _∙_}
 use Rattle.luck_line.specs.Line.{lineAnswerOf}
 use Rattle.luck_line.specs.Row.{answerRow}
 use borrow.Author.Needs.{needs}

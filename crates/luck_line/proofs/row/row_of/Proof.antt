@@ -1,5 +1,4 @@
 -- `luck_line::row::row_of` meets its contract. Assumes nothing.
-use mathlib.Core.Path.{_≡_, refl, sym, ap, _∙_}
 use Rattle.luck_line.specs.Row.{justified, fourColumns, sevenColumns, row}
 use borrow.Author.Needs.{needs}
 use Rattle.luck_line.proofs.row.row_of.Statement.{statement}

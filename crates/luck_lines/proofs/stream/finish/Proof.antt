@@ -1,5 +1,5 @@
 -- `luck_lines::stream::finish` meets its contract. Assumes nothing.
-use mathlib.Core.Path.{_≡_, refl, sym, ap, _∙_}
+use mathlib.Core.Path.{sym, ap}
 use lib.ListN.{length}
 use native.Mathlib.Omega.{arith}
 use Rattle.luck_lines.specs.Stream.{inFront}

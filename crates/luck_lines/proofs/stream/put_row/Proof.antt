@@ -1,5 +1,4 @@
 -- `luck_lines::stream::put_row` meets its contract. Assumes nothing.
-use mathlib.Core.Path.{_≡_, refl, sym, ap, _∙_}
 use Rattle.luck_lines.proofs.Streams as streams
 use borrow.Author.Needs.{needs}
 use Rattle.luck_lines.proofs.stream.put_row.Statement.{statement}

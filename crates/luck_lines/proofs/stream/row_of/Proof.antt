@@ -1,5 +1,5 @@
 -- `luck_lines::stream::row_of` meets its contract. Assumes nothing.
-use mathlib.Core.Path.{_≡_, refl, sym, ap, _∙_}
+use mathlib.Core.Path.{ap, _∙_}
 use Rattle.luck_line.specs.Row.{answerRow}
 use Rattle.luck_lines.proofs.Streams as streams
 use borrow.Author.Needs.{needs}

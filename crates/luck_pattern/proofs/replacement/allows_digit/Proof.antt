@@ -1,8 +1,8 @@
 -- `luck_pattern::replacement::allows_digit` meets its contract. Assumes nothing.
-use mathlib.Core.Path.{_≡_, refl, sym, ap, subst, _∙_}
-use Prim.Native.Nat.{ℕ, zero, suc, _+_, _-_, _*_, _≤_, _<_, min, max}
+use mathlib.Core.Path.{_≡_, sym, ap, _∙_}
+use Prim.Native.Nat.{_-_, max}
 use native.Mathlib.Omega.{arith}
-use lib.Dec.{eqb, leb, ltb}
+use lib.Dec.{leb}
 use Rattle.luck_pattern.specs.Replacement.{countOf, allowsDigit}
 use borrow.Author.Needs.{needs}
 use Rattle.luck_pattern.proofs.replacement.allows_digit.Statement.{statement}

@@ -1,9 +1,9 @@
 -- `luck_pattern::replacement::scan_replacement` meets its contract. The invariant: the walk over the pieces from here is the whole answer. Assumes nothing.
-use mathlib.Core.Path.{_≡_, refl, sym, ap, subst, _∙_}
-use Prim.Native.Nat.{ℕ, zero, suc, _+_, _-_, _*_, _≤_, _<_, min, max}
+use mathlib.Core.Path.{_≡_, refl, sym, _∙_}
+use Prim.Native.Nat.{_+_, _-_, _≤_}
 use native.Mathlib.Omega.{arith}
 use mathlib.Core.Logic.{⊎-elim}
-use lib.ListN.{length, drop}
+use lib.ListN.{length}
 use borrow.Author.Tests.{not-true, not-false}
 use Rattle.luck_text.specs.Bytes.{byteAt, isDigit}
 use Rattle.luck_text.proofs.Bytes.{within, below, above}

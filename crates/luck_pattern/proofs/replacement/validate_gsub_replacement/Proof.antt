@@ -1,5 +1,5 @@
 -- `luck_pattern::replacement::validate_gsub_replacement` meets its contract. Assumes nothing.
-use mathlib.Core.Path.{_≡_, refl, sym, ap, subst, _∙_}
+use mathlib.Core.Path.{sym, ap, _∙_}
 use Rattle.luck_answer.specs.Answer.{textAnswer}
 use Rattle.luck_token.specs.Version.{rulesOf}
 use Rattle.luck_pattern.specs.Replacement.{countOf, pieces, piecesWalk, checkReplacement}

@@ -1,5 +1,5 @@
 -- `luck_text::scan::is_in` meets its contract. Assumes nothing.
-use mathlib.Core.Path.{_≡_, refl, sym, ap, subst, _∙_}
+use mathlib.Core.Path.{sym, ap, _∙_}
 use Rattle.luck_text.specs.Scan.{inClass}
 use borrow.Author.Needs.{needs}
 use Rattle.luck_text.proofs.scan.is_in.Statement.{statement}

@@ -1,8 +1,8 @@
 -- `luck_text::scan::is_lua_whitespace` meets its contract. Assumes nothing.
 use native.Mathlib.Omega.{arith}
-use borrow.Author.Tests.{ltb-true, ltb-false, leb-true, leb-false, eqb-true, eqb-false, not-true, not-false, lt-ltb, le-ltb, le-leb, lt-leb, eq-eqb, ne-eqb}
+use borrow.Author.Tests.{le-leb, ne-eqb}
 use Rattle.luck_text.specs.Bytes.{isLuaWhitespace}
-use Rattle.luck_text.proofs.Bytes.{within, below, above}
+use Rattle.luck_text.proofs.Bytes.{below}
 use Rattle.luck_text.proofs.scan.is_lua_whitespace.Statement.{statement}
 use Rattle.luck_text.proofs.scan.is_lua_whitespace.Tie as tie
 

@@ -1,8 +1,7 @@
 -- `luck_text::scan::numeral` meets its contract. The number so far stays at the largest; the invariant has the exact one beside it. Assumes nothing.
-use mathlib.Core.Path.{_≡_, refl, sym, ap, subst, _∙_}
-use Prim.Native.Nat.{ℕ, zero, suc, _+_, _-_, _*_, _≤_, _<_, min, max}
+use mathlib.Core.Path.{_≡_, refl, sym, ap, _∙_}
+use Prim.Native.Nat.{ℕ, _+_, _-_, _*_, min}
 use native.Mathlib.Omega.{arith}
-use lib.ListN.{length}
 use mathlib.Core.Logic.{inl, inr}
 use Rattle.luck_text.specs.Bytes.{byteAt, part, digitValue, numeralFrom, numeral}
 use Rattle.luck_text.specs.Scan.{most, grown}

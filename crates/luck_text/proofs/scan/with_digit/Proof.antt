@@ -1,7 +1,6 @@
 -- `luck_text::scan::with_digit` meets its contract. Assumes nothing.
 use native.Mathlib.Omega.{arith}
-use mathlib.Core.Path.{_≡_, refl, sym, ap, subst, _∙_}
-use Prim.Native.Nat.{ℕ, zero, suc, _+_, _-_, _*_, _≤_, _<_, min, max}
+use Prim.Native.Nat.{ℕ, _-_, _*_, _≤_, _<_}
 use Rattle.luck_text.specs.Scan.{most, grown}
 use Rattle.luck_text.proofs.Bytes.{digit-small}
 use native.Mathlib.Nat.{mul-le-mul}

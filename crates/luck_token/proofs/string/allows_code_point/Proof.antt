@@ -1,5 +1,5 @@
 -- `luck_token::string::allows_code_point` meets its contract. Assumes nothing.
-use mathlib.Core.Path.{_≡_, refl, sym, ap, subst, _∙_}
+use mathlib.Core.Path.{sym, _∙_}
 use Rattle.luck_token.proofs.Literals.{allowed, not-allowed}
 use borrow.Author.Needs.{needs}
 use Rattle.luck_token.proofs.string.allows_code_point.Statement.{statement}

@@ -1,6 +1,5 @@
 -- `luck_token::string::allows_digits` meets its contract. Assumes nothing.
-use native.Mathlib.Omega.{arith}
-use borrow.Author.Tests.{ltb-true, ltb-false, leb-true, leb-false, eqb-true, eqb-false, not-true, not-false, lt-ltb, le-ltb, le-leb, lt-leb, eq-eqb, ne-eqb}
+use borrow.Author.Tests.{le-leb, lt-leb}
 use Rattle.luck_token.specs.Literal.{allowsDigits}
 use Rattle.luck_token.proofs.string.allows_digits.Statement.{statement}
 use Rattle.luck_token.proofs.string.allows_digits.Tie as tie

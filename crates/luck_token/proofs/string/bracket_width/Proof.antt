@@ -1,8 +1,8 @@
 -- `luck_token::string::bracket_width` meets its contract. Assumes nothing.
-use mathlib.Core.Path.{_≡_, refl, sym, ap, subst, _∙_}
-use Prim.Native.Nat.{ℕ, zero, suc, _+_, _-_, _*_, _≤_, _<_, min, max}
+use mathlib.Core.Path.{sym, _∙_}
+use Prim.Native.Nat.{_-_}
 use native.Mathlib.Omega.{arith}
-use lib.Dec.{eqb, leb, ltb}
+use lib.Dec.{eqb}
 use Rattle.luck_token.specs.Literal.{equals}
 use Rattle.luck_text.proofs.Bytes.{run-short}
 use Rattle.luck_token.proofs.Literals.{no-room, no-opening, no-closing, brackets}

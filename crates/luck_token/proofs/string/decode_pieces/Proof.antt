@@ -1,5 +1,5 @@
 -- `luck_token::string::decode_pieces` meets its contract. Assumes nothing.
-use mathlib.Core.Path.{_≡_, sym, _∙_}
+use mathlib.Core.Path.{sym, _∙_}
 use native.Mathlib.Omega.{arith}
 use Rattle.luck_token.specs.Literal.{valueOf}
 use Rattle.luck_token.proofs.Values as values

@@ -1,5 +1,5 @@
 -- `luck_token::string::decode_string` meets its contract. Assumes nothing.
-use mathlib.Core.Path.{_≡_, refl, sym, ap, subst, _∙_}
+use mathlib.Core.Path.{sym, ap, _∙_}
 use lib.ListN.{length}
 use Rattle.luck_utf8.specs.Utf8.{placeOf}
 use Rattle.luck_token.specs.Literal.{literalValue}

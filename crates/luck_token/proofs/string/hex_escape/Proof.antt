@@ -1,6 +1,5 @@
 -- `luck_token::string::hex_escape` meets its contract. Assumes nothing.
-use mathlib.Core.Path.{_≡_}
-use Prim.Native.Nat.{_+_, _≤_, _<_}
+use Prim.Native.Nat.{_+_, _≤_}
 use native.Mathlib.Omega.{arith}
 use lib.ListN.{drop}
 use Rattle.luck_text.specs.Bytes.{isXdigit, run}

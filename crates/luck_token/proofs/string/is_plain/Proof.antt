@@ -1,5 +1,5 @@
 -- `luck_token::string::is_plain` meets its contract. Assumes nothing.
-use mathlib.Core.Path.{_≡_, sym, ap, _∙_}
+use mathlib.Core.Path.{sym, ap, _∙_}
 use mathlib.Core.Bool.{Bool}
 use Rattle.luck_token.specs.Inner.{plain}
 use borrow.Author.Needs.{needs}

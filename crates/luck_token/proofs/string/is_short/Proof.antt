@@ -1,6 +1,5 @@
 -- `luck_token::string::is_short` meets its contract. Assumes nothing.
-use native.Mathlib.Omega.{arith}
-use borrow.Author.Tests.{ltb-true, ltb-false, leb-true, leb-false, eqb-true, eqb-false, not-true, not-false, lt-ltb, le-ltb, le-leb, lt-leb, eq-eqb, ne-eqb}
+use borrow.Author.Tests.{le-leb, lt-leb, ne-eqb}
 use Rattle.luck_text.specs.Bytes.{byteAt}
 use Rattle.luck_token.specs.Literal.{isShort}
 use lib.ListN.{length}

@@ -1,6 +1,5 @@
 -- `luck_token::string::line_break_escape` meets its contract. Assumes nothing.
-use mathlib.Core.Path.{_≡_, refl, sym, ap, subst, _∙_}
-use Prim.Native.Nat.{ℕ, zero, suc, _+_, _-_, _*_, _≤_, _<_, min, max}
+use Prim.Native.Nat.{_+_, _-_}
 use native.Mathlib.Omega.{arith}
 use Rattle.luck_token.specs.Literal.{lineBreakEscape}
 use Rattle.luck_token.proofs.Breaks.{break-inside}

@@ -1,6 +1,6 @@
 -- `luck_token::string::long_piece` meets its contract. Assumes nothing.
-use mathlib.Core.Path.{_≡_, refl, sym, ap, subst, _∙_}
-use Prim.Native.Nat.{ℕ, zero, suc, _+_, _-_, _*_, _≤_, _<_, min, max}
+use mathlib.Core.Path.{sym, _∙_}
+use Prim.Native.Nat.{_-_}
 use native.Mathlib.Omega.{arith}
 use Rattle.luck_token.proofs.Breaks.{break-inside}
 use Rattle.luck_token.proofs.Literals.{long-byte, long-break}

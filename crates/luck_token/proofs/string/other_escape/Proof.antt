@@ -1,5 +1,4 @@
 -- `luck_token::string::other_escape` meets its contract. Assumes nothing.
-use mathlib.Core.Path.{_≡_, refl, sym, ap, subst, _∙_}
 use Rattle.luck_token.specs.Literal.{otherEscape}
 use Rattle.luck_text.specs.Bytes.{if_then_else_}
 use Rattle.luck_token.proofs.string.other_escape.Statement.{statement}

@@ -1,5 +1,5 @@
 -- `luck_token::string::piece_at` meets its contract. Assumes nothing.
-use mathlib.Core.Path.{_≡_, refl, sym, ap, subst, _∙_}
+use mathlib.Core.Path.{_∙_}
 use native.Mathlib.Omega.{arith}
 use Rattle.luck_token.proofs.Literals.{short-escape, short-byte, piece-long, piece-short, as-piece}
 use borrow.Author.Needs.{needs}

@@ -1,5 +1,5 @@
 -- `luck_token::string::short_string_body` meets its contract. Assumes nothing.
-use mathlib.Core.Path.{_≡_, refl, sym, ap, subst, _∙_}
+use mathlib.Core.Path.{sym, _∙_}
 use native.Mathlib.Omega.{arith}
 use Rattle.luck_token.specs.Literal.{shortStringBody}
 use Rattle.luck_text.proofs.Cases.{if-true, if-false}

@@ -1,7 +1,7 @@
 -- `luck_token::string::write` meets its contract. The invariant has the bytes so far, which the output holds if they fit. A turn that passes over blocks may leave `at` where
 -- it was, but sets `singles`; any other turn moves `at` on. Assumes nothing.
 use mathlib.Core.Path.{_≡_, refl, sym, subst, _∙_}
-use Prim.Native.Nat.{ℕ, _+_, _*_, _-_}
+use Prim.Native.Nat.{_+_, _*_, _-_}
 use native.Mathlib.Omega.{arith}
 use mathlib.Core.List.{[], _∷_}
 use lib.ListN.{length}

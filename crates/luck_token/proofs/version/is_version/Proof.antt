@@ -1,5 +1,5 @@
 -- `luck_token::version::is_version` meets its contract. Assumes nothing.
-use borrow.Author.Tests.{ltb-true, ltb-false, leb-true, leb-false, eqb-true, eqb-false, not-true, not-false, lt-ltb, le-ltb, le-leb, lt-leb, eq-eqb, ne-eqb}
+use borrow.Author.Tests.{le-leb, lt-leb}
 use Rattle.luck_token.specs.Version.{isVersion}
 use Rattle.luck_token.proofs.version.is_version.Statement.{statement}
 use Rattle.luck_token.proofs.version.is_version.Tie as tie

@@ -1,5 +1,5 @@
 -- `luck_token::whitespace::strip_line_break` meets its contract. Assumes nothing.
-use mathlib.Core.Path.{_≡_, refl, sym, ap, subst, _∙_}
+use mathlib.Core.Path.{ap, _∙_}
 use native.Mathlib.Omega.{arith}
 use Rattle.luck_token.specs.Whitespace.{stripLineBreak}
 use Rattle.luck_token.proofs.Breaks as breaks

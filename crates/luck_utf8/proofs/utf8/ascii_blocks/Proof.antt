@@ -1,5 +1,5 @@
 -- `luck_utf8::utf8::ascii_blocks` meets its contract. The loop's invariant: every byte passed is below 80. Assumes nothing.
-use Prim.Native.Nat.{ℕ, _+_, _≤_, _<_, _-_}
+use Prim.Native.Nat.{ℕ, _≤_, _<_, _-_}
 use native.Mathlib.Omega.{arith}
 use mathlib.Core.Logic.{⊎-elim}
 use borrow.Author.Needs.{needs}

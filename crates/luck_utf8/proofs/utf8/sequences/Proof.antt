@@ -1,6 +1,6 @@
 -- `luck_utf8::utf8::sequences` meets its contract. The loop's invariant: the walk from `at` is the walk from `from`. Assumes nothing.
 use mathlib.Core.Path.{_≡_, refl, sym, _∙_}
-use Prim.Native.Nat.{ℕ, _≤_, _-_}
+use Prim.Native.Nat.{_≤_, _-_}
 use native.Mathlib.Omega.{arith}
 use borrow.Author.Needs.{needs}
 use lib.ListN.{length}

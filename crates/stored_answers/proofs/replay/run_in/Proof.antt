@@ -2,7 +2,7 @@
 use native.Mathlib.Omega.{arith}
 use mathlib.Core.Path.{subst}
 use lib.ListN.{length}
-use Rattle.stored_files.specs.Places.{Loads}
+use Rattle.stored_files.specs.Loads.{Loads}
 use borrow.Author.Needs.{needs}
 use Rattle.stored_answers.proofs.replay.run_in.Statement.{statement}
 use Rattle.stored_answers.proofs.replay.run_in.Tie as tie

@@ -1,6 +1,5 @@
 -- `stored_questions::real_lua::agrees` is safe and ends. Assumes nothing.
-use Prim.Native.Nat.{_-_, _<_, _≤_}
-use native.Mathlib.Omega.{arith}
+use Prim.Native.Nat.{_-_, _<_}
 use borrow.Author.Needs.{needs}
 use Rattle.stored_questions.proofs.real_lua.agrees.Statement.{statement}
 use Rattle.stored_questions.proofs.real_lua.agrees.Tie as tie

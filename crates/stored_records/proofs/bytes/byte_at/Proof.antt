@@ -1,4 +1,4 @@
--- `stored_records::bytes::byte_at` is safe and ends. A byte is below 256. Assumes nothing.
+-- `stored_records::bytes::byte_at` meets its contract. A byte is below 256. Assumes nothing.
 use native.Mathlib.Omega.{arith}
 use borrow.Author.Needs.{needs}
 use Rattle.stored_records.proofs.bytes.byte_at.Statement.{statement}

@@ -1,6 +1,6 @@
 -- `luck_linter::rules::format_string::check_body` meets its contract. Assumes nothing.
-use mathlib.Core.Path.{_≡_, refl, sym, ap, subst, _∙_}
-use Rattle.luck_answer.specs.Answer.{refusal, walkedOf}
+use mathlib.Core.Path.{sym, ap, _∙_}
+use Rattle.luck_answer.specs.Answer.{walkedOf}
 use Rattle.luck_linter.specs.StringLiteral.{spanAt}
 use Rattle.luck_linter.proofs.StringLiterals as laws
 use Rattle.luck_pattern.specs.Replacement.{countOf}

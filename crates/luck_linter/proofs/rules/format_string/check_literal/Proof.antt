@@ -1,5 +1,5 @@
 -- `luck_linter::rules::format_string::check_literal` meets its contract. Assumes nothing.
-use mathlib.Core.Path.{_≡_, refl, sym, ap, subst, _∙_}
+use mathlib.Core.Path.{sym, ap, _∙_}
 use Rattle.luck_utf8.specs.Utf8.{placeOf}
 use Rattle.luck_token.specs.declared.version.Rules.{Rules}
 use Rattle.luck_linter.specs.StringLiteral.{isKind, checkShort}

@@ -1,8 +1,7 @@
 -- `luck_linter::rules::format_string::check_short` meets its contract. Assumes nothing.
-use mathlib.Core.Path.{_≡_, refl, sym, ap, ap₂, _∙_}
-use Prim.Native.Nat.{ℕ, zero, suc, _+_, _-_, _*_, _≤_, _<_, min, max}
+use mathlib.Core.Path.{sym, ap, ap₂, _∙_}
+use Prim.Native.Nat.{ℕ, _-_}
 use native.Mathlib.Omega.{arith}
-use lib.ListN.{length}
 use Rattle.luck_text.specs.Bytes.{part}
 use Rattle.luck_token.specs.Literal.{placesOf}
 use Rattle.luck_token.proofs.Literals.{both-quotes}

@@ -1,8 +1,8 @@
 -- `luck_linter::rules::format_string::has_numeric_escape` meets its contract. The invariant: the answer from here on is the whole answer. Assumes nothing.
-use mathlib.Core.Path.{_≡_, refl, sym, ap, subst, _∙_}
-use Prim.Native.Nat.{ℕ, zero, suc, _+_, _-_, _*_, _≤_, _<_, min, max}
+use mathlib.Core.Path.{_≡_, refl, sym, _∙_}
+use Prim.Native.Nat.{_-_, _≤_}
 use native.Mathlib.Omega.{arith}
-use lib.ListN.{length, drop}
+use lib.ListN.{length}
 use Rattle.luck_linter.specs.StringLiteral.{hasNumericEscape}
 use Rattle.luck_linter.proofs.StringLiterals as laws
 use borrow.Author.Needs.{needs}

@@ -1,7 +1,6 @@
 -- `luck_linter::rules::format_string::is_numeric_escape` meets its contract. Assumes nothing.
-use mathlib.Core.Path.{_≡_, refl, sym, ap, subst, _∙_}
-use borrow.Author.Tests.{ltb-true, ltb-false, leb-true, leb-false, eqb-true, eqb-false, not-true, not-false, lt-ltb, le-ltb, le-leb, lt-leb, eq-eqb, ne-eqb}
-use Rattle.luck_text.specs.Bytes.{isDigit}
+use mathlib.Core.Path.{sym, _∙_}
+use borrow.Author.Tests.{eq-eqb, ne-eqb}
 use Rattle.luck_linter.specs.StringLiteral.{isNumericEscape}
 use borrow.Author.Needs.{needs}
 use Rattle.luck_linter.proofs.rules.format_string.is_numeric_escape.Statement.{statement}

@@ -1,6 +1,6 @@
 -- `luck_linter::rules::format_string::scan_body` meets its contract. Assumes nothing.
-use mathlib.Core.Path.{_≡_, refl, sym, ap, subst, _∙_}
-use borrow.Author.Tests.{ltb-true, ltb-false, leb-true, leb-false, eqb-true, eqb-false, not-true, not-false, lt-ltb, le-ltb, le-leb, lt-leb, eq-eqb, ne-eqb}
+use mathlib.Core.Path.{_∙_}
+use borrow.Author.Tests.{ne-eqb}
 use Rattle.luck_text.specs.Bytes.{if_then_else_}
 use Rattle.luck_linter.specs.StringLiteral.{bodyWalk}
 use borrow.Author.Needs.{needs}

@@ -1,6 +1,6 @@
 -- `luck_linter::rules::format_string::span_at` meets its contract. Assumes nothing.
-use mathlib.Core.Path.{_≡_, refl, sym, ap, subst, _∙_}
-use Prim.Native.Nat.{ℕ, zero, suc, _+_, _-_, _*_, _≤_, _<_, min, max}
+use mathlib.Core.Path.{ap, _∙_}
+use Prim.Native.Nat.{_+_, _-_}
 use Rattle.luck_token.specs.Span.{spanOf, shiftedBy}
 use Rattle.luck_utf8.specs.Utf8.{charAt}
 use Rattle.luck_token.specs.declared.span.Span.{Span}

@@ -1,21 +1,21 @@
 -- `luck_matcher::matcher::do_match` meets its contract. The loop's invariant: what is left of the pattern gives the same outcome. Assumes nothing.
-use Prim.Native.Nat.{ℕ, _+_, _-_, _≤_, _<_}
+use Prim.Native.Nat.{ℕ, _+_, _-_, _≤_}
 use mathlib.Core.Path.{_≡_, refl, sym, ap, subst, _∙_}
 use native.Mathlib.Omega.{arith}
 use borrow.Author.Needs.{needs}
 use borrow.Author.Tests.{not-true, not-false}
 use lib.ListN.{length}
-use Rattle.luck_match.specs.Match.{newLevel, matched, longestFirst, match}
+use Rattle.luck_match.specs.Match.{newLevel, matched, match}
 use Rattle.luck_subject.specs.Class.{matchClass}
-use Rattle.luck_match.specs.Inner.{capturesOf, capturesIn, captureOf, Sound, ItemAt, HeldIn, heldAs, singleOf, reachOf}
-use Rattle.luck_subject.specs.Inner.{FoundIn, foundOf}
-use Rattle.luck_matcher.specs.Inner.{outcomeBy, outcomeOf, AttemptIn}
+use Rattle.luck_match.specs.Inner.{capturesOf, ItemAt, HeldIn}
+use Rattle.luck_subject.specs.Inner.{FoundIn}
+use Rattle.luck_matcher.specs.Inner.{outcomeBy, outcomeOf}
 use Rattle.luck_match.proofs.Turns as turns
 use Rattle.luck_matcher.proofs.Repeats as repeats
-use Rattle.luck_match.proofs.Captures.{all-pairs, sound-later, kept-later, sound-started, sound-finished, starts-capture, ends-capture, all-taken, none-to-close, close-seen, is-open, is-position}
+use Rattle.luck_match.proofs.Captures.{sound-later, kept-later, is-open, is-position}
 use Rattle.luck_match.proofs.Singles.{fits-inside}
 use Rattle.luck_pattern.specs.Items.{items}
-use Rattle.luck_match.specs.Match.{startCapture, passedOver}
+use Rattle.luck_match.specs.Match.{passedOver}
 use Rattle.luck_match.specs.declared.capture.Held.the-variants as held
 use Rattle.luck_subject.specs.declared.subject.Found.the-variants as found
 use Rattle.luck_match.proofs.item.read.Reads as read-reads

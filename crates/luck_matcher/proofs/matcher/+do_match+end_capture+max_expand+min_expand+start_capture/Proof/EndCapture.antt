@@ -1,18 +1,11 @@
 -- `luck_matcher::matcher::end_capture` meets its contract. Assumes nothing.
-use Prim.Native.Nat.{ℕ, _+_, _-_, _≤_, _<_}
-use mathlib.Core.Path.{_≡_, refl, sym, ap, subst, _∙_}
+use Prim.Native.Nat.{ℕ, _+_, _-_}
+use mathlib.Core.Path.{refl, _∙_}
 use native.Mathlib.Omega.{arith}
 use borrow.Author.Needs.{needs}
-use borrow.Author.Tests.{not-true, not-false}
-use lib.ListN.{length}
-use Rattle.luck_match.specs.Match.{newLevel, matched, longestFirst, match}
-use Rattle.luck_subject.specs.Class.{matchClass}
-use Rattle.luck_match.specs.Inner.{capturesOf, capturesIn, captureOf, Sound, ItemAt, HeldIn, heldAs, singleOf, reachOf}
-use Rattle.luck_subject.specs.Inner.{FoundIn, foundOf}
-use Rattle.luck_matcher.specs.Inner.{outcomeBy, outcomeOf, AttemptIn}
+use Rattle.luck_matcher.specs.Inner.{outcomeBy, outcomeOf}
 use Rattle.luck_matcher.proofs.Repeats as repeats
-use Rattle.luck_match.proofs.Captures.{all-pairs, sound-later, kept-later, sound-started, sound-finished, starts-capture, ends-capture, all-taken, none-to-close, close-seen, is-open, is-position}
-use Rattle.luck_match.proofs.Singles.{fits-inside}
+use Rattle.luck_match.proofs.Captures.{all-pairs, sound-finished, ends-capture, none-to-close, close-seen}
 use Rattle.luck_match.specs.declared.capture.Close.the-variants as close
 use Rattle.luck_match.proofs.capture.capture_to_close.Reads as capture-to-close-reads
 use Rattle.luck_matcher.proofs.matcher.do_match.Reads as do-match

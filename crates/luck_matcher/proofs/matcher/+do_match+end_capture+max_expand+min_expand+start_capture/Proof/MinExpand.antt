@@ -15,8 +15,7 @@ use Rattle.luck_matcher.specs.Inner.{outcomeBy, outcomeOf}
 use Rattle.luck_matcher.proofs.Repeats as repeats
 use Rattle.luck_match.proofs.Captures.{sound-later, is-open}
 use Rattle.luck_match.proofs.Singles.{fits-inside}
-use Rattle.luck_pattern.specs.Items.{minus, items}
-use Rattle.luck_match.specs.Match.{expand}
+use Rattle.luck_pattern.specs.Items.{items}
 use Rattle.luck_matcher.proofs.Passed as tests
 use Rattle.luck_ahead.proofs.ahead.first_test.Reads as first-test
 use Rattle.luck_ahead.proofs.ahead.fails_at.Reads as fails-at

@@ -1,5 +1,4 @@
 -- `luck_token::span::Span::from_indices` meets its contract. Assumes nothing.
-use mathlib.Core.Path.{_≡_, refl, sym, ap, subst, _∙_}
 use Rattle.luck_token.specs.Span.{spanOf}
 use borrow.Author.Needs.{needs}
 use Rattle.luck_token.proofs.span.Span.from_indices.Statement.{statement}

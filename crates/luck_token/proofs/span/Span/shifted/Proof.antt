@@ -1,6 +1,5 @@
 -- `luck_token::span::Span::shifted` meets its contract. Assumes nothing.
-use mathlib.Core.Path.{_≡_, refl, sym, ap, subst, _∙_}
-use Rattle.luck_token.specs.Span.{spanOf, shiftedBy}
+use Rattle.luck_token.specs.Span.{shiftedBy}
 use borrow.Author.Needs.{needs}
 use Rattle.luck_token.proofs.span.Span.shifted.Statement.{statement}
 use Rattle.luck_token.proofs.span.Span.shifted.Tie as tie
