@@ -8,6 +8,7 @@ fn main() {
     document_answers();
     real_lua_answers();
     wrong_answers();
+    no_answers();
 }
 
 // Answers of luck.
@@ -64,4 +65,12 @@ fn wrong_answers() {
     );
     replay::run(b"wrong real", b"wrong_real.bin", Format::RealLua);
     replay::run(b"wrong trials", b"wrong_trials.bin", Format::Trials);
+}
+
+// What can't be replayed: the lines say why.
+fn no_answers() {
+    replay::run(b"cut off", b"cut_off.bin", Format::Checks);
+    replay::run(b"missing", b"missing.bin", Format::Checks);
+    replay::run(b"a folder", b".", Format::Checks);
+    replay::run(b"without end", b"/dev/zero", Format::Checks);
 }

@@ -20,6 +20,7 @@ const LITERALS: usize = 2000;
 pub const WRONG_FILE: &str = "wrong_checks.bin";
 const LITERALS_FILE: &str = "checked_literals.bin";
 const WRONG_LITERALS_FILE: &str = "wrong_checked_literals.bin";
+const CUT_OFF_FILE: &str = "cut_off.bin";
 
 /// Numbers that are no version and fit a record.
 const NO_VERSIONS: [u8; 3] = [0, 7, 255];
@@ -96,6 +97,7 @@ pub fn write(folder: &Path) -> io::Result<(usize, usize)> {
     write_file(LITERALS_FILE, &literal_records())?;
     write_file(WRONG_FILE, &wrong_records())?;
     write_file(WRONG_LITERALS_FILE, &wrong_literal_records())?;
+    write_file(CUT_OFF_FILE, &cut_off())?;
     Ok(all)
 }
 
@@ -200,6 +202,13 @@ fn wrong_records() -> Records {
     records.push(&DATE, &SPECIFIER);
     records.push(&Question { version: 1, ..DATE }, &SPECIFIER);
     records.push(&Question { kind: b'Q', ..DATE }, &SPECIFIER);
+    records
+}
+
+/// Records of which the last lacks a byte.
+fn cut_off() -> Records {
+    let mut records = wrong_records();
+    records.bytes.pop();
     records
 }
 
