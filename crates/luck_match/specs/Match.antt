@@ -122,6 +122,7 @@ backReference sub d rest s l cs u =
     let on = matchCapture sub (getD cs (d - 1) (opened 0)) rest s l cs u in
     if ltb 0 d && leb d (length cs) then on else raised 7 u
 
+-- `%b`: the items that follow go on after the balanced part
 unfoldable pub goesOnAt : Option ℕ → Rest → ℕ → List Capture → ℕ → Outcome
 goesOnAt none rest l cs u = failed u
 goesOnAt (some e) rest l cs u = rest e l cs u
