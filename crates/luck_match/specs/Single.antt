@@ -8,16 +8,18 @@ use Rattle.luck_text.specs.Bytes.{if_then_else_, between}
 use Rattle.luck_pattern.specs.Items.{Element, escape, range, plain, Set, Single, any, class, among-set, byte}
 
 module _ (inClass : ℕ → ℕ → Bool) where
+  -- one element of a set: a class, a range or a byte
   unfoldable pub isElement : Element → ℕ → Bool
   isElement (escape cl) c = inClass cl c
   isElement (range low high) c = between low high c
   isElement (plain b) c = eqb b c
 
+  -- and one of several
   unfoldable pub isAnyOf : List Element → ℕ → Bool
   isAnyOf [] c = false
   isAnyOf (element ∷ more) c = isElement element c || isAnyOf more c
 
-  -- matchbracketclass
+  -- matchbracketclass: a set with `^` takes what its elements do not
   unfoldable pub inSet : Set → ℕ → Bool
   inSet set c = if set .complement then not (isAnyOf (set .elements) c) else isAnyOf (set .elements) c
 

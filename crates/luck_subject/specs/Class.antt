@@ -1,4 +1,4 @@
--- The classes of a pattern: match_class of lstrlib.c, its tests in ASCII as document 01 lists them.
+-- The classes of a pattern: match_class of lstrlib.c 5.4 (document 01, "The trial"), its tests in ASCII.
 -- Assumes nothing.
 use Prim.Native.Nat.{ℕ, _+_, _-_}
 use Prim.Native.Char.{code}

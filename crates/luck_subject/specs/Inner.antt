@@ -15,43 +15,72 @@ use Rattle.luck_subject.specs.declared.subject.Found.the-variants as fou
 
 -- ---- Classes
 
--- the mask of a byte: a bit for each class from which the others are made
+-- a bit for each class from which the others are made
+abbrev pub cntrl : ℕ
+cntrl = 1
+
+abbrev pub digit : ℕ
+digit = 2
+
+abbrev pub lower : ℕ
+lower = 4
+
+abbrev pub punct : ℕ
+punct = 8
+
+abbrev pub space : ℕ
+space = 16
+
+abbrev pub upper : ℕ
+upper = 32
+
+abbrev pub xdigit : ℕ
+xdigit = 64
+
+abbrev pub zeroByte : ℕ
+zeroByte = 128
+
 unfoldable pub bit : ℕ → Bool → ℕ
 bit n true = n
 bit n false = 0
 
+-- the mask of a byte
 unfoldable pub maskOf : ℕ → ℕ
 maskOf c =
-    bit 1 (isCntrl c) + bit 2 (isDigit c) + bit 4 (isLower c) + bit 8 (isPunct c) + bit 16 (isLuaWhitespace c) + bit 32 (isUpper c) + bit 64 (isXdigit c)
-    + bit 128 (eqb c 0)
+    bit cntrl (isCntrl c) + bit digit (isDigit c) + bit lower (isLower c) + bit punct (isPunct c) + bit space (isLuaWhitespace c) + bit upper (isUpper c)
+    + bit xdigit (isXdigit c) + bit zeroByte (eqb c 0)
 
+-- the table has the mask of each byte
 unfoldable pub AreMasks : List ℕ → Type 0
 AreMasks masks = (c : ℕ) → c < 256 → getD masks c 0 ≡ maskOf c
 
 -- the bits of the class that a small letter names, 0 where it names none
 unfoldable pub classBits : ℕ → ℕ
 classBits letter =
-    if eqb letter (code "a") then 36
-    else if eqb letter (code "c") then 1
-    else if eqb letter (code "d") then 2
-    else if eqb letter (code "g") then 46
-    else if eqb letter (code "l") then 4
-    else if eqb letter (code "p") then 8
-    else if eqb letter (code "s") then 16
-    else if eqb letter (code "u") then 32
-    else if eqb letter (code "w") then 38
-    else if eqb letter (code "x") then 64
-    else if eqb letter (code "z") then 128 else 0
+    if eqb letter (code "a") then lower + upper
+    else if eqb letter (code "c") then cntrl
+    else if eqb letter (code "d") then digit
+    else if eqb letter (code "g") then digit + lower + punct + upper
+    else if eqb letter (code "l") then lower
+    else if eqb letter (code "p") then punct
+    else if eqb letter (code "s") then space
+    else if eqb letter (code "u") then upper
+    else if eqb letter (code "w") then digit + lower + upper
+    else if eqb letter (code "x") then xdigit
+    else if eqb letter (code "z") then zeroByte else 0
 
+-- and those of a letter, small or capital
 unfoldable pub bitsOf : ℕ → ℕ
 bitsOf cl = classBits (toLower cl)
 
 -- ---- The subject
 
+-- the code's place, or none
 abbrev pub foundOf : Found → Option ℕ
 foundOf (found.At e) = some e
 foundOf found.Nothing = none
 
+-- it lies behind place s, in a text of this length
 abbrev pub FoundIn : Found → ℕ → ℕ → Type 0
 FoundIn (found.At e) s len = (s < e) × (e ≤ len)
 FoundIn found.Nothing s len = Unit {0}

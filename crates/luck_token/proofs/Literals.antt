@@ -146,13 +146,17 @@ module _ (body : List ℕ) (p : ℕ) where
   digit : ℕ → Bool
   digit q = isXdigit (byteAt body q)
 
-  -- the digits at a place and behind it: both, where their run has two, else one of them is none
+  -- a run that begins with a digit goes on behind it
+  one-more : p + 2 < length body → digit (p + 2) ≡ true → run isXdigit (drop (p + 2) body) ≡ suc (run isXdigit (drop (p + 3) body))
+  unfolding digit
+  one-more h e = let next : p + 2 + 1 ≡ p + 3 = omega arith in run-more isXdigit body (p + 2) h e ∙ ap (λ (q : ℕ). suc (run isXdigit (drop q body))) next
+
+  -- the two digits of an escape: both are there where their run has two, else one of them is none
   two : 2 ≤ run isXdigit (drop (p + 2) body) → (p + 4 ≤ length body) × ((digit (p + 2) ≡ true) × (digit (p + 3) ≡ true))
   unfolding digit
   two h =
       let first = run-first isXdigit body (p + 2) (omega arith) in
-      let next : p + 2 + 1 ≡ p + 3 = omega arith in
-      let more = run-more isXdigit body (p + 2) (first .0) (first .1) ∙ ap (λ (q : ℕ). suc (run isXdigit (drop q body))) next in
+      let more = one-more (first .0) (first .1) in
       let second = run-first isXdigit body (p + 3) (omega arith) in
       (omega (arith, second .0), (first .1, second .1))
 
@@ -171,8 +175,7 @@ module _ (body : List ℕ) (p : ℕ) where
       go true e =
           let a = and-left (digit (p + 2)) (digit (p + 3)) e in
           let b = and-right (digit (p + 2)) (digit (p + 3)) e in
-          let next : p + 2 + 1 ≡ p + 3 = omega arith in
-          let first = run-more isXdigit body (p + 2) (there (p + 2) a) a ∙ ap (λ (q : ℕ). suc (run isXdigit (drop q body))) next in
+          let first = one-more (there (p + 2) a) a in
           let second = run-more isXdigit body (p + 3) (there (p + 3) b) b in
           absurd (omega arith)
 

@@ -1,5 +1,5 @@
-// Questions to the checks and what the library answers. The front of a record of a check: the kind letter and the version in one byte each, whether the count of captures is known in one and
-// the count in four, the text's length in two, and the text.
+// Questions to the checks and what the library answers. A record begins with its question: the kind letter and the version in one byte each, whether the
+// count of captures is known in one and the count in four, the text's length in two, and the text.
 ghost use Prim.Native.Nat.{_+_, _<_, _≤_};
 ghost use lib.ListN.{length};
 ghost use Rattle.stored_questions.specs.Places.{Asks, AnswerLies};
