@@ -9,7 +9,7 @@ use mathlib.Core.Option.{Option, none, some}
 use lib.Dec.{eqb, ltb}
 use lib.ListN.{length, length-append}
 use borrow.Author.Tests.{eqb-true}
-use Rattle.luck_text.specs.Bytes.{byteAt, among}
+use Rattle.luck_text.specs.Bytes.{if_then_else_, byteAt, among}
 use Rattle.luck_text.specs.Walk.{Turn}
 use Rattle.luck_text.proofs.Cases.{by-test, present}
 use Rattle.luck_answer.specs.Answer.{Answer}
@@ -51,6 +51,8 @@ use Rattle.luck_pattern.specs.Pattern.{
   Read,
   past,
   fault,
+  closedAs,
+  reversedOf,
   setAs,
   setRead,
   escapeAs,
@@ -61,6 +63,7 @@ use Rattle.luck_pattern.specs.Pattern.{
   patternTurn,
   patternEnd,
   patternWalk,
+  checkPatternAs,
   checkPattern,
 }
 
@@ -111,18 +114,18 @@ module _ (text : List ℕ) where
   unfolding setEnd
   end-in p = walk-every (memberTurn text) membersEnd (length text) (EndIn (length text)) members-in no-member-in (firstMember text p) _
 
-  set-as-in : (p : ℕ) (end : SetEnd) → p < length text → EndIn (length text) end → ReadIn (length text) (setAs text p end)
-  unfolding setAs among
+  set-as-in : (p : ℕ) (end : SetEnd) → p < length text → EndIn (length text) end → ReadIn (length text) (setAs false text p end)
+  unfolding setAs closedAs reversedOf if_then_else_ among
   set-as-in p (closes-at e) h i = tt
   set-as-in p (cut-at e) h i = (omega arith, refl, omega arith)
   set-as-in p unclosed h i = (omega arith, by-test (λ (n : ℕ). among n (numbers pattern) ≡ true) (isEmptySet text p) 9 8 (λ _. refl) (λ _. refl), omega arith)
 
-  set-in : (p : ℕ) → p < length text → ReadIn (length text) (setRead text p)
+  set-in : (p : ℕ) → p < length text → ReadIn (length text) (setRead false text p)
   unfolding setRead
   set-in p h = set-as-in p (setEnd text p) h (end-in p)
 
   module _ (p : ℕ) (captures : List Bool) (inside : p < length text) where
-    escape-as-in : (e : Escape) → ReadIn (length text) (escapeAs text p captures e)
+    escape-as-in : (e : Escape) → ReadIn (length text) (escapeAs false text p captures e)
     unfolding escapeAs among
     escape-as-in (esc-digit d) = by-test (ReadIn (length text)) (isClosed captures d) _ _ (λ _. tt) (λ _. (omega arith, refl, omega arith))
     escape-as-in esc-balance = by-test (ReadIn (length text)) (ltb (p + 3) (length text)) _ _ (λ _. tt) (λ _. (omega arith, refl, omega arith))
@@ -132,7 +135,7 @@ module _ (text : List ℕ) where
     escape-as-in esc-other = tt
     escape-as-in esc-end = (omega arith, refl, omega arith)
 
-    escape-in : ReadIn (length text) (escapeRead text p captures)
+    escape-in : ReadIn (length text) (escapeRead false text p captures)
     unfolding escapeRead
     escape-in = escape-as-in (escapeAt text (p + 1))
 
@@ -149,15 +152,15 @@ module _ (text : List ℕ) where
     close-in none h = (omega arith, refl, omega arith)
     close-in (some after) h = omega arith
 
-    head-in : (h : Head) → TurnIn (headTurn text p captures h)
+    head-in : (h : Head) → TurnIn (headTurn false text p captures h)
     unfolding headTurn among
     head-in at-open = by-test TurnIn (ltb (length captures) 32) _ _ (λ _. omega (arith, length-append captures (false ∷ []))) (λ _. (omega arith, refl, omega arith))
     head-in at-close = close-in (closeLatest captures) (close-length captures)
-    head-in at-percent = onward-in (escapeRead text p captures) escape-in
-    head-in at-set = onward-in (setRead text p) (set-in p inside)
+    head-in at-percent = onward-in (escapeRead false text p captures) escape-in
+    head-in at-set = onward-in (setRead false text p) (set-in p inside)
     head-in at-other = omega arith
 
-    turn-in : TurnIn (patternTurn text p captures)
+    turn-in : TurnIn (patternTurn false text p captures)
     unfolding patternTurn
     turn-in = head-in (headOf (byteAt text p))
 
@@ -165,10 +168,10 @@ module _ (text : List ℕ) where
   unfolding patternEnd among
   last-in p captures h = by-test (AnswerIn (length text)) (allClosed captures) _ _ (λ _. (omega arith, refl, h)) (λ _. (omega arith, refl, omega arith))
 
-  pub pattern-bounded : Bounded (length text) (numbers pattern) (patternWalk text)
+  pub pattern-bounded : Bounded (length text) (numbers pattern) (patternWalk false text)
   unfolding patternWalk
-  pattern-bounded = walk-counts (patternTurn text) (patternEnd text) (length text) length (AnswerIn (length text)) (λ p captures h. turn-in p captures h) last-in [] refl
+  pattern-bounded = walk-counts (patternTurn false text) (patternEnd text) (length text) length (AnswerIn (length text)) (λ p captures h. turn-in p captures h) last-in [] refl
 
   pub check-pattern : (version : ℕ) → Bounded (length text) (numbers pattern) (answer pattern version text)
-  unfolding checkPattern among
-  check-pattern version = check-bounded text (numbers pattern) refl refl version (patternWalk text) pattern-bounded
+  unfolding checkPattern checkPatternAs among
+  check-pattern version = check-bounded text (numbers pattern) refl refl version (patternWalk false text) pattern-bounded

@@ -32,7 +32,7 @@ isKind kind = among kind (ascii "FPKSGD")
 unfoldable pub bodyWalk : ℕ → Rules → Option ℕ → List ℕ → Answer
 bodyWalk kind rules captures body =
     if eqb kind (code "F") then formatWalk rules body
-    else if eqb kind (code "P") then patternWalk body
+    else if eqb kind (code "P") then patternWalk false body
     else if eqb kind (code "K") then packWalk false body
     else if eqb kind (code "S") then packWalk true body
     else if eqb kind (code "G") then piecesWalk (isStrict rules) captures (pieces body) 0

@@ -64,7 +64,7 @@ use Rattle.luck_pattern.specs.Items.{
   itemsFrom,
   items,
 }
-use Rattle.luck_match.proofs.Places.{ClosesFrom, first-behind, set-closes}
+use Rattle.luck_pattern.proofs.Places.{ClosesFrom, first-behind, set-closes}
 
 -- ---- An item ends behind its place
 

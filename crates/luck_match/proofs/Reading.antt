@@ -41,6 +41,8 @@ use Rattle.luck_pattern.specs.Pattern.{
   Read as Scanned,
   past,
   fault,
+  closedAs,
+  reversedOf,
   setAs,
   setRead,
 }
@@ -112,13 +114,13 @@ closedBy (past q) = some (q - 1)
 closedBy (fault a) = none
 
 module _ (pat : List ℕ) (p : ℕ) where
-  closed-as : (s : SetEnd) → closedBy (setAs pat p s) ≡ closingOf s
-  unfolding setAs
+  closed-as : (s : SetEnd) → closedBy (setAs false pat p s) ≡ closingOf s
+  unfolding setAs closedAs reversedOf if_then_else_
   closed-as (closes-at e) = let k : e + 1 - 1 ≡ e = omega arith in ap some k
   closed-as (cut-at e) = refl
   closed-as unclosed = refl
 
-  closed-read : (r : Scanned) → r ≡ setRead pat p → closedBy r ≡ closingOf (setEnd pat p)
+  closed-read : (r : Scanned) → r ≡ setRead false pat p → closedBy r ≡ closingOf (setEnd pat p)
   unfolding setRead
   closed-read r e = ap closedBy e ∙ closed-as (setEnd pat p)
 
@@ -129,10 +131,10 @@ module _ (pat : List ℕ) (p : ℕ) where
     closes-nowhere h = ap closingOf (sym (walk-end (memberTurn pat) membersEnd (length pat) at (eqb at m) h) ∙ whole)
 
     pub closes-here : at < length pat → byteAt pat at ≡ 93 → m < at → some at ≡ closingOf (setEnd pat p)
-    closes-here h b f = let k : at ≡ at + 1 - 1 = omega arith in ap some k ∙ closed-read (past (at + 1)) (patterns.set-closes pat p m at whole h b f)
+    closes-here h b f = let k : at ≡ at + 1 - 1 = omega arith in ap some k ∙ closed-read (past (at + 1)) (patterns.set-closes pat p m at whole h false b f (patterns.untested pat p at))
 
     pub closes-cut : at < length pat → byteAt pat at ≡ 37 → length pat - at ≡ 1 → none ≡ closingOf (setEnd pat p)
-    closes-cut h b f = closed-read _ (patterns.set-cut pat p m at whole h b f)
+    closes-cut h b f = closed-read _ (patterns.set-cut pat p m at whole h false b f)
 
 -- ---- A repeat
 

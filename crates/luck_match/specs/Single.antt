@@ -5,7 +5,8 @@ use mathlib.Core.Bool.{Bool, true, false, not, _||_}
 use mathlib.Core.List.{List, [], _∷_}
 use lib.Dec.{eqb}
 use Rattle.luck_text.specs.Bytes.{if_then_else_, between}
-use Rattle.luck_pattern.specs.Items.{Element, escape, range, plain, Set, Single, any, class, among-set, byte}
+use Rattle.luck_pattern.specs.Elements.{Element, escape, range, plain}
+use Rattle.luck_pattern.specs.Items.{Set, Single, any, class, among-set, byte}
 
 module _ (inClass : ℕ → ℕ → Bool) where
   -- one element of a set: a class, a range or a byte

@@ -2,7 +2,8 @@
 ghost use mathlib.Core.Path.{_≡_};
 ghost use Prim.Native.Nat.{_-_, _<_, _≤_};
 ghost use lib.ListN.{length};
-ghost use Rattle.luck_pattern.specs.Items.{setOf, elementsOf};
+ghost use Rattle.luck_pattern.specs.Elements.{elementsOf};
+ghost use Rattle.luck_pattern.specs.Items.{setOf};
 ghost use Rattle.luck_subject.specs.Class.{matchClass};
 ghost use Rattle.luck_match.specs.Single.{isAnyOf, inSet};
 ghost use Rattle.luck_match.specs.Match.{isFrontier, fitsAt, reach};

@@ -1,3 +1,9 @@
 pub mod Flags
+pub mod Places
+pub mod Elements
+pub mod Ranges
+pub mod Exactly
 pub mod Patterns
 pub mod Replacements
+pub mod Counts
+pub mod Unread

@@ -5,7 +5,7 @@ use native.Mathlib.Omega.{arith}
 use mathlib.Core.Path.{_≡_, refl, sym, ap, ap₂, subst, _∙_}
 use mathlib.Core.Bool.{Bool, true, false}
 use mathlib.Core.List.{List, [], _∷_, _++_}
-use mathlib.Core.Option.{none, some}
+use mathlib.Core.Option.{Option, none, some}
 use lib.ListN.{length, List·getD-eq-default}
 use lib.Dec.{eqb}
 use borrow.Author.Tests.{lt-ltb, le-ltb, eq-eqb, ne-eqb}
@@ -15,6 +15,7 @@ use Rattle.luck_text.proofs.Cases.{if-true, if-false, first-false, second-false
 use Rattle.luck_text.proofs.Bytes.{within, below, above}
 use Rattle.luck_text.proofs.Walk.{walk-end, walk-stop, walk-goes}
 use Rattle.luck_answer.specs.Answer.{Answer, accepted, refused, refusedWith, refusal}
+use Rattle.luck_pattern.specs.Elements.{firstReversed}
 use Rattle.luck_pattern.specs.Captures.{closeLatest, isClosed, allClosed}
 use Rattle.luck_pattern.specs.Pattern.{
   Head,
@@ -46,6 +47,8 @@ use Rattle.luck_pattern.specs.Pattern.{
   Read,
   past,
   fault,
+  closedAs,
+  reversedOf,
   setAs,
   setRead,
   escapeAs,
@@ -91,14 +94,14 @@ module _ (text : List ℕ) (at : ℕ) (first : Bool) where
 abbrev pub members : List ℕ → ℕ → Bool → SetEnd
 members text at first = walkFrom (memberTurn text) membersEnd (length text) at first
 
-set-as : (text : List ℕ) (start : ℕ) (end : SetEnd) → end ≡ setEnd text start → setAs text start end ≡ setRead text start
+set-as : (ranges : Bool) (text : List ℕ) (start : ℕ) (end : SetEnd) → end ≡ setEnd text start → setAs ranges text start end ≡ setRead ranges text start
 unfolding setRead
-set-as text start end e = ap (setAs text start) e
+set-as ranges text start end e = ap (setAs ranges text start) e
 
-set-open : (text : List ℕ) (start : ℕ) (empty : Bool) → isEmptySet text start ≡ empty → unclosed ≡ setEnd text start
-    → fault (refused (if empty then 9 else 8) start) ≡ setRead text start
+set-open : (ranges : Bool) (text : List ℕ) (start : ℕ) (empty : Bool) → isEmptySet text start ≡ empty → unclosed ≡ setEnd text start
+    → fault (refused (if empty then 9 else 8) start) ≡ setRead ranges text start
 unfolding setAs
-set-open text start empty e f = ap (λ (b : Bool). fault (refused (if b then 9 else 8) start)) (sym e) ∙ set-as text start unclosed f
+set-open ranges text start empty e f = ap (λ (b : Bool). fault (refused (if b then 9 else 8) start)) (sym e) ∙ set-as ranges text start unclosed f
 
 module _ (text : List ℕ) (start m : ℕ) (is : m ≡ firstMember text start) where
   pub set-begins : members text m (eqb m m) ≡ setEnd text start
@@ -113,14 +116,23 @@ module _ (text : List ℕ) (start m : ℕ) (is : m ≡ firstMember text start) w
   unfolding isEmptySet
   no-end l h = rw (← is) (second-false (eqb (byteAt text m) 93) (eqb (m + 1) (length text)) (ne-eqb (m + 1) (length text) (λ e. h (omega arith))))
 
-  pub set-empty : length text - m ≡ 1 → byteAt text m ≡ 93 → fault (refused 9 start) ≡ setRead text start
+  pub set-empty : (ranges : Bool) → length text - m ≡ 1 → byteAt text m ≡ 93 → fault (refused 9 start) ≡ setRead ranges text start
   unfolding isEmptySet membersEnd if_then_else_
-  set-empty h b =
+  set-empty ranges h b =
       let last : m + 1 ≡ length text = omega arith in
       let empty : isEmptySet text start ≡ true = rw (← is, b, eq-eqb (m + 1) (length text) last) in
       let one = walk-goes (memberTurn text) membersEnd (length text) m (eqb m m) 1 false (omega arith) (omega arith) (first-bracket text m (eqb m m) b (eq-eqb m m refl)) in
       let none-left = walk-end (memberTurn text) membersEnd (length text) (m + 1) false (omega arith) in
-      set-open text start true empty (sym none-left ∙ sym one ∙ set-begins)
+      set-open ranges text start true empty (sym none-left ∙ sym one ∙ set-begins)
+
+-- without the test none is looked for
+pub untested : (text : List ℕ) (start at : ℕ) → reversedOf false text start at ≡ none
+unfolding reversedOf if_then_else_
+untested text start at = refl
+
+pub tests : (text : List ℕ) (start at : ℕ) → reversedOf true text start at ≡ firstReversed text at (firstMember text start)
+unfolding reversedOf if_then_else_
+tests text start at = refl
 
 -- a turn of the loop over the members, the first at m
 module _ (text : List ℕ) (start m at : ℕ) (whole : members text at (eqb at m) ≡ setEnd text start) where
@@ -130,21 +142,30 @@ module _ (text : List ℕ) (start m at : ℕ) (whole : members text at (eqb at m
       ap (members text (at + w)) (ne-eqb (at + w) m (λ q. omega arith))
       ∙ sym (walk-goes (memberTurn text) membersEnd (length text) at (eqb at m) w false g h e) ∙ whole
 
-  ends : (end : SetEnd) → at < length text → memberTurn text at (eqb at m) ≡ stop end → setAs text start end ≡ setRead text start
-  ends end h e = set-as text start end (sym (walk-stop (memberTurn text) membersEnd (length text) at (eqb at m) end h e) ∙ whole)
+  ends : (ranges : Bool) → (end : SetEnd) → at < length text → memberTurn text at (eqb at m) ≡ stop end → setAs ranges text start end ≡ setRead ranges text start
+  ends ranges end h e = set-as ranges text start end (sym (walk-stop (memberTurn text) membersEnd (length text) at (eqb at m) end h e) ∙ whole)
 
-  pub set-unclosed : isEmptySet text start ≡ false → length text ≤ at → fault (refused 8 start) ≡ setRead text start
+  pub set-unclosed : (ranges : Bool) → isEmptySet text start ≡ false → length text ≤ at → fault (refused 8 start) ≡ setRead ranges text start
   unfolding membersEnd if_then_else_
-  set-unclosed e h = set-open text start false e (sym (walk-end (memberTurn text) membersEnd (length text) at (eqb at m) h) ∙ whole)
+  set-unclosed ranges e h = set-open ranges text start false e (sym (walk-end (memberTurn text) membersEnd (length text) at (eqb at m) h) ∙ whole)
 
   module _ (inside : at < length text) where
-    pub set-closes : byteAt text at ≡ 93 → m < at → past (at + 1) ≡ setRead text start
+    closes : (ranges : Bool) → byteAt text at ≡ 93 → m < at → (o : Option ℕ) → reversedOf ranges text start at ≡ o → closedAs at o ≡ setRead ranges text start
     unfolding setAs
-    set-closes b h = ends (closes-at at) inside (closing text at (eqb at m) b (ne-eqb at m (λ q. omega arith)))
+    closes ranges b h o e = ap (closedAs at) (sym e) ∙ ends ranges (closes-at at) inside (closing text at (eqb at m) b (ne-eqb at m (λ q. omega arith)))
 
-    pub set-cut : byteAt text at ≡ 37 → length text - at ≡ 1 → fault (refused 1 at) ≡ setRead text start
+    -- the set closes, and has no reversed range or is not tested; or it has one
+    pub set-closes : (ranges : Bool) → byteAt text at ≡ 93 → m < at → reversedOf ranges text start at ≡ none → past (at + 1) ≡ setRead ranges text start
+    unfolding closedAs
+    set-closes ranges b h e = closes ranges b h none e
+
+    pub set-reversed : (ranges : Bool) → byteAt text at ≡ 93 → m < at → (left : ℕ) → reversedOf ranges text start at ≡ some left → fault (refused 39 left) ≡ setRead ranges text start
+    unfolding closedAs
+    set-reversed ranges b h left e = closes ranges b h (some left) e
+
+    pub set-cut : (ranges : Bool) → byteAt text at ≡ 37 → length text - at ≡ 1 → fault (refused 1 at) ≡ setRead ranges text start
     unfolding setAs
-    set-cut b h = ends (cut-at at) inside (cut text at (eqb at m) b (omega arith))
+    set-cut ranges b h = ends ranges (cut-at at) inside (cut text at (eqb at m) b (omega arith))
 
     module _ (behind : m ≤ at) where
       pub set-first : byteAt text at ≡ 93 → at ≤ m → members text (at + 1) (eqb (at + 1) m) ≡ setEnd text start
@@ -175,57 +196,57 @@ module _ (b : ℕ) where
   unfolding escapeOf
   of-other d p q = if-false _ _ _ d ∙ if-false _ _ _ (ne-eqb b 98 p) ∙ if-false _ _ _ (ne-eqb b 102 q)
 
-module _ (text : List ℕ) (p : ℕ) (captures : List Bool) where
-  escape-as : (e : Escape) → escapeAt text (p + 1) ≡ e → escapeAs text p captures e ≡ escapeRead text p captures
+module _ (ranges : Bool) (text : List ℕ) (p : ℕ) (captures : List Bool) where
+  escape-as : (e : Escape) → escapeAt text (p + 1) ≡ e → escapeAs ranges text p captures e ≡ escapeRead ranges text p captures
   unfolding escapeRead
-  escape-as e h = ap (escapeAs text p captures) (sym h)
+  escape-as e h = ap (escapeAs ranges text p captures) (sym h)
 
-  pub escape-end : length text - p ≡ 1 → fault (refused 1 p) ≡ escapeRead text p captures
+  pub escape-end : length text - p ≡ 1 → fault (refused 1 p) ≡ escapeRead ranges text p captures
   unfolding escapeAt escapeAs
   escape-end h = escape-as esc-end (if-false _ _ _ (le-ltb (p + 1) (length text) (omega arith)))
 
   module _ (inside : p < length text) (more : length text - p ≡ 1 → ⊥) where
-    by-byte : (e : Escape) → escapeOf (byteAt text (p + 1)) ≡ e → escapeAs text p captures e ≡ escapeRead text p captures
+    by-byte : (e : Escape) → escapeOf (byteAt text (p + 1)) ≡ e → escapeAs ranges text p captures e ≡ escapeRead ranges text p captures
     unfolding escapeAt
     by-byte e h = let there : p + 1 < length text = omega arith in escape-as e (if-true _ _ _ (lt-ltb (p + 1) (length text) there) ∙ h)
 
     pub escape-closed : 48 ≤ byteAt text (p + 1) → byteAt text (p + 1) < 58 → isClosed captures (byteAt text (p + 1) - 48) ≡ true
-        → past (p + 2) ≡ escapeRead text p captures
+        → past (p + 2) ≡ escapeRead ranges text p captures
     unfolding escapeAs
     escape-closed l h e = sym (if-true _ _ _ e) ∙ by-byte (esc-digit (byteAt text (p + 1) - 48)) (of-digit (byteAt text (p + 1)) l h)
 
     pub escape-open : 48 ≤ byteAt text (p + 1) → byteAt text (p + 1) < 58 → isClosed captures (byteAt text (p + 1) - 48) ≡ false
-        → fault (refused 13 (p + 1)) ≡ escapeRead text p captures
+        → fault (refused 13 (p + 1)) ≡ escapeRead ranges text p captures
     unfolding escapeAs
     escape-open l h e = sym (if-false _ _ _ e) ∙ by-byte (esc-digit (byteAt text (p + 1) - 48)) (of-digit (byteAt text (p + 1)) l h)
 
-    pub escape-balance : byteAt text (p + 1) ≡ 98 → p + 3 < length text → past (p + 2 + 2) ≡ escapeRead text p captures
+    pub escape-balance : byteAt text (p + 1) ≡ 98 → p + 3 < length text → past (p + 2 + 2) ≡ escapeRead ranges text p captures
     unfolding escapeAs
     escape-balance e h =
         let four : p + 2 + 2 ≡ p + 4 = omega arith in
         ap past four ∙ sym (if-true _ _ _ (lt-ltb (p + 3) (length text) h)) ∙ by-byte esc-balance (of-balance (byteAt text (p + 1)) e)
 
-    pub escape-balance-cut : byteAt text (p + 1) ≡ 98 → length text ≤ p + 3 → fault (refused 1 p) ≡ escapeRead text p captures
+    pub escape-balance-cut : byteAt text (p + 1) ≡ 98 → length text ≤ p + 3 → fault (refused 1 p) ≡ escapeRead ranges text p captures
     unfolding escapeAs
     escape-balance-cut e h = sym (if-false _ _ _ (le-ltb (p + 3) (length text) h)) ∙ by-byte esc-balance (of-balance (byteAt text (p + 1)) e)
 
-    pub escape-frontier : byteAt text (p + 1) ≡ 102 → byteAt text (p + 2) ≡ 91 → setRead text (p + 2) ≡ escapeRead text p captures
+    pub escape-frontier : byteAt text (p + 1) ≡ 102 → byteAt text (p + 2) ≡ 91 → setRead ranges text (p + 2) ≡ escapeRead ranges text p captures
     unfolding escapeAs
     escape-frontier e h = sym (if-true _ _ _ (eq-eqb (byteAt text (p + 2)) 91 h)) ∙ by-byte esc-frontier (of-frontier (byteAt text (p + 1)) e)
 
-    pub escape-no-set : byteAt text (p + 1) ≡ 102 → (byteAt text (p + 2) ≡ 91 → ⊥) → fault (refusedWith 10 p 102) ≡ escapeRead text p captures
+    pub escape-no-set : byteAt text (p + 1) ≡ 102 → (byteAt text (p + 2) ≡ 91 → ⊥) → fault (refusedWith 10 p 102) ≡ escapeRead ranges text p captures
     unfolding escapeAs
     escape-no-set e h = sym (if-false _ _ _ (ne-eqb (byteAt text (p + 2)) 91 h)) ∙ by-byte esc-frontier (of-frontier (byteAt text (p + 1)) e)
 
-    pub escape-no-byte : byteAt text (p + 1) ≡ 102 → length text ≤ p + 2 → fault (refusedWith 10 p 102) ≡ escapeRead text p captures
+    pub escape-no-byte : byteAt text (p + 1) ≡ 102 → length text ≤ p + 2 → fault (refusedWith 10 p 102) ≡ escapeRead ranges text p captures
     escape-no-byte e h = escape-no-set e (λ b. let z : byteAt text (p + 2) ≡ 0 = List·getD-eq-default text 0 h in omega arith)
 
     -- a byte below or above the digits
-    pub escape-below : byteAt text (p + 1) < 48 → (byteAt text (p + 1) ≡ 98 → ⊥) → (byteAt text (p + 1) ≡ 102 → ⊥) → past (p + 2) ≡ escapeRead text p captures
+    pub escape-below : byteAt text (p + 1) < 48 → (byteAt text (p + 1) ≡ 98 → ⊥) → (byteAt text (p + 1) ≡ 102 → ⊥) → past (p + 2) ≡ escapeRead ranges text p captures
     unfolding escapeAs isDigit
     escape-below d f g = by-byte esc-other (of-other (byteAt text (p + 1)) (below 48 57 (byteAt text (p + 1)) d) f g)
 
-    pub escape-above : 58 ≤ byteAt text (p + 1) → (byteAt text (p + 1) ≡ 98 → ⊥) → (byteAt text (p + 1) ≡ 102 → ⊥) → past (p + 2) ≡ escapeRead text p captures
+    pub escape-above : 58 ≤ byteAt text (p + 1) → (byteAt text (p + 1) ≡ 98 → ⊥) → (byteAt text (p + 1) ≡ 102 → ⊥) → past (p + 2) ≡ escapeRead ranges text p captures
     unfolding escapeAs isDigit
     escape-above d f g = by-byte esc-other (of-other (byteAt text (p + 1)) (above 48 57 (byteAt text (p + 1)) d) f g)
 
@@ -258,70 +279,70 @@ module _ (b : ℕ) where
   of-plain p q r s = if-false _ _ _ (ne-eqb b 40 r) ∙ if-false _ _ _ (ne-eqb b 41 s) ∙ if-false _ _ _ (ne-eqb b 37 p) ∙ if-false _ _ _ (ne-eqb b 91 q)
 
 -- the walk from a place on, after these captures
-abbrev pub items : List ℕ → ℕ → List Bool → Answer
-items text p captures = walkFrom (patternTurn text) (patternEnd text) (length text) p captures
+abbrev pub items : Bool → List ℕ → ℕ → List Bool → Answer
+items ranges text p captures = walkFrom (patternTurn ranges text) (patternEnd text) (length text) p captures
 
-module _ (text : List ℕ) (p : ℕ) (captures : List Bool) where
-  item-as : (h : Head) → headOf (byteAt text p) ≡ h → patternTurn text p captures ≡ headTurn text p captures h
+module _ (ranges : Bool) (text : List ℕ) (p : ℕ) (captures : List Bool) where
+  item-as : (h : Head) → headOf (byteAt text p) ≡ h → patternTurn ranges text p captures ≡ headTurn ranges text p captures h
   unfolding patternTurn
-  item-as h e = ap (headTurn text p captures) e
+  item-as h e = ap (headTurn ranges text p captures) e
 
-  pub item-escape : byteAt text p ≡ 37 → patternTurn text p captures ≡ onward p captures (escapeRead text p captures)
+  pub item-escape : byteAt text p ≡ 37 → patternTurn ranges text p captures ≡ onward p captures (escapeRead ranges text p captures)
   unfolding headTurn
   item-escape e = item-as at-percent (of-percent (byteAt text p) e)
 
-  pub item-set : byteAt text p ≡ 91 → patternTurn text p captures ≡ onward p captures (setRead text p)
+  pub item-set : byteAt text p ≡ 91 → patternTurn ranges text p captures ≡ onward p captures (setRead ranges text p)
   unfolding headTurn
   item-set e = item-as at-set (of-set (byteAt text p) e)
 
   -- a turn of the walk
-  module _ (inside : p < length text) (whole : items text p captures ≡ patternWalk text) where
-    next : (after : List Bool) → patternTurn text p captures ≡ goes 1 after → items text (p + 1) after ≡ patternWalk text
-    next after e = sym (walk-goes (patternTurn text) (patternEnd text) (length text) p captures 1 after (omega arith) (omega arith) e) ∙ whole
+  module _ (inside : p < length text) (whole : items ranges text p captures ≡ patternWalk ranges text) where
+    next : (after : List Bool) → patternTurn ranges text p captures ≡ goes 1 after → items ranges text (p + 1) after ≡ patternWalk ranges text
+    next after e = sym (walk-goes (patternTurn ranges text) (patternEnd text) (length text) p captures 1 after (omega arith) (omega arith) e) ∙ whole
 
-    stops : (answer : Answer) → patternTurn text p captures ≡ stop answer → answer ≡ patternWalk text
-    stops answer e = sym (walk-stop (patternTurn text) (patternEnd text) (length text) p captures answer inside e) ∙ whole
+    stops : (answer : Answer) → patternTurn ranges text p captures ≡ stop answer → answer ≡ patternWalk ranges text
+    stops answer e = sym (walk-stop (patternTurn ranges text) (patternEnd text) (length text) p captures answer inside e) ∙ whole
 
     pub turn-plain : (byteAt text p ≡ 37 → ⊥) → (byteAt text p ≡ 91 → ⊥) → (byteAt text p ≡ 40 → ⊥) → (byteAt text p ≡ 41 → ⊥)
-        → items text (p + 1) captures ≡ patternWalk text
+        → items ranges text (p + 1) captures ≡ patternWalk ranges text
     unfolding headTurn
     turn-plain e f g h = next captures (item-as at-other (of-plain (byteAt text p) e f g h))
 
-    pub turn-open : byteAt text p ≡ 40 → length captures < 32 → items text (p + 1) (captures ++ (false ∷ [])) ≡ patternWalk text
+    pub turn-open : byteAt text p ≡ 40 → length captures < 32 → items ranges text (p + 1) (captures ++ (false ∷ [])) ≡ patternWalk ranges text
     unfolding headTurn
     turn-open e h = next (captures ++ (false ∷ [])) (item-as at-open (of-open (byteAt text p) e) ∙ if-true _ _ _ (lt-ltb (length captures) 32 h))
 
-    pub turn-full : byteAt text p ≡ 40 → 32 ≤ length captures → refused 12 p ≡ patternWalk text
+    pub turn-full : byteAt text p ≡ 40 → 32 ≤ length captures → refused 12 p ≡ patternWalk ranges text
     unfolding headTurn
     turn-full e h = stops (refused 12 p) (item-as at-open (of-open (byteAt text p) e) ∙ if-false _ _ _ (le-ltb (length captures) 32 h))
 
-    pub turn-close : byteAt text p ≡ 41 → (after : List Bool) → some after ≡ closeLatest captures → items text (p + 1) after ≡ patternWalk text
+    pub turn-close : byteAt text p ≡ 41 → (after : List Bool) → some after ≡ closeLatest captures → items ranges text (p + 1) after ≡ patternWalk ranges text
     unfolding headTurn afterClose
     turn-close e after h = next after (item-as at-close (of-close (byteAt text p) e) ∙ ap (afterClose p) (sym h))
 
-    pub turn-unmatched : byteAt text p ≡ 41 → none ≡ closeLatest captures → refused 11 p ≡ patternWalk text
+    pub turn-unmatched : byteAt text p ≡ 41 → none ≡ closeLatest captures → refused 11 p ≡ patternWalk ranges text
     unfolding headTurn afterClose
     turn-unmatched e h = stops (refused 11 p) (item-as at-close (of-close (byteAt text p) e) ∙ ap (afterClose p) (sym h))
 
     -- what a scan found takes the walk on to the place after it, or ends it
-    module _ (r : Scan) (read : Read) (told : readOf r ≡ read) (here : patternTurn text p captures ≡ onward p captures read) where
-      pub turn-past : (q : ℕ) → r ≡ Past q → Within r p (length text) → items text q captures ≡ patternWalk text
+    module _ (r : Scan) (read : Read) (told : readOf r ≡ read) (here : patternTurn ranges text p captures ≡ onward p captures read) where
+      pub turn-past : (q : ℕ) → r ≡ Past q → Within r p (length text) → items ranges text q captures ≡ patternWalk ranges text
       unfolding onward
       turn-past q e w =
           let b : (p < q) × (q ≤ length text) = subst (λ (x : Scan). Within x p (length text)) e w in
           let k : p + (q - p) ≡ q = omega arith in
-          let g : patternTurn text p captures ≡ goes (q - p) captures = here ∙ ap (onward p captures) (sym told ∙ ap readOf e) in
-          ap (λ (x : ℕ). items text x captures) (sym k)
-          ∙ sym (walk-goes (patternTurn text) (patternEnd text) (length text) p captures (q - p) captures (omega arith) (omega arith) g) ∙ whole
+          let g : patternTurn ranges text p captures ≡ goes (q - p) captures = here ∙ ap (onward p captures) (sym told ∙ ap readOf e) in
+          ap (λ (x : ℕ). items ranges text x captures) (sym k)
+          ∙ sym (walk-goes (patternTurn ranges text) (patternEnd text) (length text) p captures (q - p) captures (omega arith) (omega arith) g) ∙ whole
 
-      pub turn-fault : (e : PatternError) → r ≡ Fault e → refusal e ≡ patternWalk text
+      pub turn-fault : (e : PatternError) → r ≡ Fault e → refusal e ≡ patternWalk ranges text
       unfolding onward
       turn-fault e h = stops (refusal e) (here ∙ ap (onward p captures) (sym told ∙ ap readOf h))
 
 -- at the end: b says whether all captures are closed, and n is their number
-pub turn-end : (text : List ℕ) (p : ℕ) (captures : List Bool) (b : Bool) (n : ℕ) → b ≡ allClosed captures → length captures ≡ n → length text ≤ p
-    → items text p captures ≡ patternWalk text → (if b then accepted n else refused 11 (length text)) ≡ patternWalk text
+pub turn-end : (ranges : Bool) (text : List ℕ) (p : ℕ) (captures : List Bool) (b : Bool) (n : ℕ) → b ≡ allClosed captures → length captures ≡ n → length text ≤ p
+    → items ranges text p captures ≡ patternWalk ranges text → (if b then accepted n else refused 11 (length text)) ≡ patternWalk ranges text
 unfolding patternEnd
-turn-end text p captures b n e f h whole =
+turn-end ranges text p captures b n e f h whole =
     ap₂ (λ (x : Bool) (y : ℕ). if x then accepted y else refused 11 (length text)) e (sym f)
-    ∙ sym (walk-end (patternTurn text) (patternEnd text) (length text) p captures h) ∙ whole
+    ∙ sym (walk-end (patternTurn ranges text) (patternEnd text) (length text) p captures h) ∙ whole

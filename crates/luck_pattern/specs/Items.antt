@@ -8,6 +8,7 @@ use mathlib.Core.List.{List, [], _∷_}
 use lib.ListN.{length}
 use lib.Dec.{eqb, leb, ltb}
 use Rattle.luck_text.specs.Bytes.{if_then_else_, byteAt}
+use Rattle.luck_pattern.specs.Elements.{Element, elementsOf}
 use Rattle.luck_pattern.specs.Pattern.{
   Head,
   at-open,
@@ -33,29 +34,9 @@ use Rattle.luck_pattern.specs.Pattern.{
 
 -- ---- Sets
 
--- what matchbracketclass tests a byte for
-pub data Element : Type 0 where
-  escape : ℕ → Element  -- `%` and a byte
-  range : ℕ → ℕ → Element
-  plain : ℕ → Element
-
 pub record Set : Type 0 where
   pub complement : Bool  -- `[^`
   pub elements : List Element
-
--- the elements from place q up to the closing `]` at place e. A `%` just before it takes it as its byte. n is at least the bytes between (`elements-at` of luck_match takes it away)
-unfoldable pub elementsFrom : List ℕ → ℕ → ℕ → ℕ → List Element
-elementsFrom pat e zero q = []
-elementsFrom pat e (suc n) q =
-    let escaped = escape (byteAt pat (q + 1)) ∷ elementsFrom pat e n (q + 2) in
-    let ranged = range (byteAt pat q) (byteAt pat (q + 2)) ∷ elementsFrom pat e n (q + 3) in
-    let one = plain (byteAt pat q) ∷ elementsFrom pat e n (q + 1) in
-    if leb e q then []
-    else if eqb (byteAt pat q) (code "%") then escaped
-    else if eqb (byteAt pat (q + 1)) (code "-") && ltb (q + 2) e then ranged else one
-
-unfoldable pub elementsOf : List ℕ → ℕ → ℕ → List Element
-elementsOf pat e q = elementsFrom pat e (e - q) q
 
 -- the set from its `[` at place p to its closing `]` at place e
 unfoldable pub setOf : List ℕ → ℕ → ℕ → Set

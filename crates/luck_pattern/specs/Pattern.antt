@@ -12,6 +12,7 @@ use lib.Dec.{eqb, ltb}
 use Rattle.luck_text.specs.Bytes.{if_then_else_, byteAt, isDigit}
 use Rattle.luck_text.specs.Walk.{Turn, stop, goes, walkFrom}
 use Rattle.luck_answer.specs.Answer.{Answer, accepted, refused, refusedWith, checkText}
+use Rattle.luck_pattern.specs.Elements.{firstReversed}
 use Rattle.luck_pattern.specs.Captures.{maxCaptures, closeLatest, isClosed, allClosed}
 
 -- ---- Reading
@@ -86,28 +87,6 @@ pub data Read : Type 0 where
   past : ℕ → Read
   fault : Answer → Read
 
-unfoldable pub setAs : List ℕ → ℕ → SetEnd → Read
-setAs pat p (closes-at e) = past (e + 1)
-setAs pat p (cut-at e) = fault (refused 1 e)
-setAs pat p unclosed = fault (refused (if isEmptySet pat p then 9 else 8) p)
-
--- the set whose `[` stands at p
-unfoldable pub setRead : List ℕ → ℕ → Read
-setRead pat p = setAs pat p (setEnd pat p)
-
--- the escape whose `%` stands at p, after these captures
-unfoldable pub escapeAs : List ℕ → ℕ → List Bool → Escape → Read
-escapeAs pat p captures esc-end = fault (refused 1 p)
-escapeAs pat p captures (esc-digit d) = if isClosed captures d then past (p + 2) else fault (refused 13 (p + 1))
-escapeAs pat p captures esc-balance = if ltb (p + 3) (length pat) then past (p + 4) else fault (refused 1 p)
-escapeAs pat p captures esc-frontier =
-    let set = setRead pat (p + 2) in
-    if eqb (byteAt pat (p + 2)) (code "[") then set else fault (refusedWith 10 p (code "f"))
-escapeAs pat p captures esc-other = past (p + 2)
-
-unfoldable pub escapeRead : List ℕ → ℕ → List Bool → Read
-escapeRead pat p captures = escapeAs pat p captures (escapeAt pat (p + 1))
-
 unfoldable pub onward : ℕ → List Bool → Read → Turn (List Bool) Answer
 onward p captures (past q) = goes (q - p) captures
 onward p captures (fault answer) = stop answer
@@ -116,22 +95,98 @@ unfoldable pub afterClose : ℕ → Option (List Bool) → Turn (List Bool) Answ
 afterClose p none = stop (refused 11 p)
 afterClose p (some captures) = goes 1 captures
 
--- the item at place p, after these captures
-unfoldable pub headTurn : List ℕ → ℕ → List Bool → Head → Turn (List Bool) Answer
-headTurn pat p captures at-open = if ltb (length captures) maxCaptures then goes 1 (captures ++ (false ∷ [])) else stop (refused 12 p)
-headTurn pat p captures at-close = afterClose p (closeLatest captures)
-headTurn pat p captures at-percent = onward p captures (escapeRead pat p captures)
-headTurn pat p captures at-set = onward p captures (setRead pat p)
-headTurn pat p captures at-other = goes 1 captures
-
-unfoldable pub patternTurn : List ℕ → ℕ → List Bool → Turn (List Bool) Answer
-patternTurn pat p captures = headTurn pat p captures (headOf (byteAt pat p))
-
 unfoldable pub patternEnd : List ℕ → ℕ → List Bool → Answer
 patternEnd pat p captures = if allClosed captures then accepted (length captures) else refused 11 (length pat)
 
-unfoldable pub patternWalk : List ℕ → Answer
-patternWalk pat = walkFrom (patternTurn pat) (patternEnd pat) (length pat) 0 []
+-- a set that closes at place e is passed over, unless it has a reversed range
+unfoldable pub closedAs : ℕ → Option ℕ → Read
+closedAs e none = past (e + 1)
+closedAs e (some left) = fault (refused 39 left)
 
+module _ (ranges : Bool) (pat : List ℕ) where
+  -- the reversed range that the check looks for, in the set from its `[` at place p to its closing `]` at place e
+  unfoldable pub reversedOf : ℕ → ℕ → Option ℕ
+  reversedOf p e = if ranges then firstReversed pat e (firstMember pat p) else none
+
+  unfoldable pub setAs : ℕ → SetEnd → Read
+  setAs p (closes-at e) = closedAs e (reversedOf p e)
+  setAs p (cut-at e) = fault (refused 1 e)
+  setAs p unclosed = fault (refused (if isEmptySet pat p then 9 else 8) p)
+
+  -- the set whose `[` stands at p
+  unfoldable pub setRead : ℕ → Read
+  setRead p = setAs p (setEnd pat p)
+
+  -- the escape whose `%` stands at p, after these captures
+  unfoldable pub escapeAs : ℕ → List Bool → Escape → Read
+  escapeAs p captures esc-end = fault (refused 1 p)
+  escapeAs p captures (esc-digit d) = if isClosed captures d then past (p + 2) else fault (refused 13 (p + 1))
+  escapeAs p captures esc-balance = if ltb (p + 3) (length pat) then past (p + 4) else fault (refused 1 p)
+  escapeAs p captures esc-frontier =
+      let set = setRead (p + 2) in
+      if eqb (byteAt pat (p + 2)) (code "[") then set else fault (refusedWith 10 p (code "f"))
+  escapeAs p captures esc-other = past (p + 2)
+
+  unfoldable pub escapeRead : ℕ → List Bool → Read
+  escapeRead p captures = escapeAs p captures (escapeAt pat (p + 1))
+
+  -- the item at place p, after these captures
+  unfoldable pub headTurn : ℕ → List Bool → Head → Turn (List Bool) Answer
+  headTurn p captures at-open =
+      if ltb (length captures) maxCaptures then goes 1 (captures ++ (false ∷ [])) else stop (refused 12 p)
+  headTurn p captures at-close = afterClose p (closeLatest captures)
+  headTurn p captures at-percent = onward p captures (escapeRead p captures)
+  headTurn p captures at-set = onward p captures (setRead p)
+  headTurn p captures at-other = goes 1 captures
+
+  unfoldable pub patternTurn : ℕ → List Bool → Turn (List Bool) Answer
+  patternTurn p captures = headTurn p captures (headOf (byteAt pat p))
+
+  unfoldable pub patternWalk : Answer
+  patternWalk = walkFrom patternTurn (patternEnd pat) (length pat) 0 []
+
+-- the check with or without its test of ranges
+unfoldable pub checkPatternAs : Bool → ℕ → List ℕ → Answer
+checkPatternAs ranges version pat = checkText version pat (patternWalk ranges pat)
+
+-- the check: `true`, with 39, once the code tests ranges
 unfoldable pub checkPattern : ℕ → List ℕ → Answer
-checkPattern version pat = checkText version pat (patternWalk pat)
+checkPattern version pat = checkPatternAs false version pat
+
+-- ---- The set of an item, for the laws
+
+unfoldable pub escapeSet : List ℕ → ℕ → Escape → Option ℕ
+escapeSet pat p esc-end = none
+escapeSet pat p (esc-digit d) = none
+escapeSet pat p esc-balance = none
+escapeSet pat p esc-frontier = if eqb (byteAt pat (p + 2)) (code "[") then some (p + 2) else none
+escapeSet pat p esc-other = none
+
+unfoldable pub headSet : List ℕ → ℕ → Head → Option ℕ
+headSet pat p at-open = none
+headSet pat p at-close = none
+headSet pat p at-percent = escapeSet pat p (escapeAt pat (p + 1))
+headSet pat p at-set = some p
+headSet pat p at-other = none
+
+-- where the `[` of the item at place p stands, if it is a set or a frontier
+unfoldable pub itemSet : List ℕ → ℕ → Option ℕ
+itemSet pat p = headSet pat p (headOf (byteAt pat p))
+
+unfoldable pub reversedBefore : List ℕ → ℕ → SetEnd → Option ℕ
+reversedBefore pat p (closes-at e) = firstReversed pat e (firstMember pat p)
+reversedBefore pat p (cut-at e) = none
+reversedBefore pat p unclosed = none
+
+unfoldable pub reversedSet : List ℕ → Option ℕ → Option ℕ
+reversedSet pat none = none
+reversedSet pat (some p) = reversedBefore pat p (setEnd pat p)
+
+-- the first reversed range of the item at place p, if its set closes
+unfoldable pub itemReversed : List ℕ → ℕ → Option ℕ
+itemReversed pat p = reversedSet pat (itemSet pat p)
+
+-- a turn of the check without the test, after the test
+unfoldable pub tested : Option ℕ → Turn (List Bool) Answer → Turn (List Bool) Answer
+tested none turn = turn
+tested (some left) turn = stop (refused 39 left)

@@ -37,7 +37,7 @@ fn first_member(text: &[u8], start: usize) -> usize
 // The set whose `[` stands at `start`. `classEnd` takes the first member before it looks for a `]`.
 fn scan_set(text: &[u8], start: usize) -> Scan
     requires { ⌜ start < length (now text) ⌝ }
-    ensures { λ r. ⌜ (readOf r ≡ setRead (now (text .entry)) start) × Within r start (length (now (text .entry))) ⌝ }
+    ensures { λ r. ⌜ (readOf r ≡ setRead false (now (text .entry)) start) × Within r start (length (now (text .entry))) ⌝ }
 {
     let first = first_member(text, start);
     if text.len() - first == 1 {
@@ -121,7 +121,7 @@ fn none_open(count: u32, word: u32) -> bool
 fn scan_escape(text: &[u8], start: usize, count: u32, word: u32) -> Scan
     requires { ⌜ (start < length (now text)) × (count ≤ 32) ⌝ }
     ensures { λ r. ⌜
-        (readOf r ≡ escapeRead (now (text .entry)) start (flagsOf count word)) × Within r start (length (now (text .entry)))
+        (readOf r ≡ escapeRead false (now (text .entry)) start (flagsOf count word)) × Within r start (length (now (text .entry)))
         ⌝ }
 {
     if text.len() - start == 1 {
@@ -164,7 +164,7 @@ fn scan_escape(text: &[u8], start: usize, count: u32, word: u32) -> Scan
 
 // The walk over a text that is UTF-8.
 pub fn scan_pattern(text: &[u8]) -> Walked
-    ensures { λ r. ⌜ walkedOf r ≡ patternWalk (now (text .entry)) ⌝ }
+    ensures { λ r. ⌜ walkedOf r ≡ patternWalk false (now (text .entry)) ⌝ }
 {
     let mut count: u32 = 0;
     // A bit for each capture that is open.

@@ -42,6 +42,8 @@ use Rattle.luck_pattern.specs.Pattern.{
   Read as Found,
   past,
   fault,
+  closedAs,
+  reversedOf,
   setAs,
   setRead,
   escapeAs,
@@ -52,7 +54,7 @@ use Rattle.luck_pattern.specs.Pattern.{
   patternTurn,
   patternEnd,
   patternWalk,
-  checkPattern,
+  checkPatternAs,
 }
 use Rattle.luck_pattern.specs.Items.{
   Single,
@@ -82,7 +84,8 @@ use Rattle.luck_pattern.specs.Items.{
   items,
 }
 use Rattle.luck_trial.proofs.Sound.{AllClosed, WellFormed}
-use Rattle.luck_match.proofs.Places.{ClosesFrom, first-behind, set-closes}
+use Rattle.luck_pattern.proofs.Ranges.{accepted-without}
+use Rattle.luck_pattern.proofs.Places.{ClosesFrom, first-behind, set-closes}
 use Rattle.luck_match.proofs.Items.{IsRepeat, is-repeat}
 
 -- ---- What an acceptance rules out
@@ -104,12 +107,12 @@ if-passed false x number offset c h e = refused-accepted (refused number offset)
 module _ (pat : List ℕ) (c : ℕ) where
   -- the check accepts from place p, after captures of which these are closed, and counts c in all
   abbrev Accepts : ℕ → List Bool → Type 0
-  Accepts p flags = walkFrom (patternTurn pat) (patternEnd pat) (length pat) p flags ≡ accepted c
+  Accepts p flags = walkFrom (patternTurn false pat) (patternEnd pat) (length pat) p flags ≡ accepted c
 
   at-the-end : (p : ℕ) (flags : List Bool) → length pat ≤ p → Accepts p flags → AllClosed c flags
   unfolding patternEnd
   at-the-end p flags h a =
-      let y = if-passed (allClosed flags) (accepted (length flags)) 11 (length pat) c (omega arith) (sym (walk-end (patternTurn pat) (patternEnd pat) (length pat) p flags h) ∙ a) in
+      let y = if-passed (allClosed flags) (accepted (length flags)) 11 (length pat) c (omega arith) (sym (walk-end (patternTurn false pat) (patternEnd pat) (length pat) p flags h) ∙ a) in
       record { count = same-count (length flags) c (y .1); closed = y .0 }
 
   -- the turn at a place, whose outcome is known
@@ -117,15 +120,15 @@ module _ (pat : List ℕ) (c : ℕ) where
   After p (stop a) = a ≡ accepted c
   After p (goes width flags) = 0 < width → p + width ≤ length pat → Accepts (p + width) flags
 
-  one-turn : (p : ℕ) (flags : List Bool) → p < length pat → Accepts p flags → (t : Turn (List Bool) Answer) → patternTurn pat p flags ≡ t → After p t
-  one-turn p flags h a (stop x) e = sym (walk-stop (patternTurn pat) (patternEnd pat) (length pat) p flags x h e) ∙ a
-  one-turn p flags h a (goes width after) e = λ g i. sym (walk-goes (patternTurn pat) (patternEnd pat) (length pat) p flags width after g i e) ∙ a
+  one-turn : (p : ℕ) (flags : List Bool) → p < length pat → Accepts p flags → (t : Turn (List Bool) Answer) → patternTurn false pat p flags ≡ t → After p t
+  one-turn p flags h a (stop x) e = sym (walk-stop (patternTurn false pat) (patternEnd pat) (length pat) p flags x h e) ∙ a
+  one-turn p flags h a (goes width after) e = λ g i. sym (walk-goes (patternTurn false pat) (patternEnd pat) (length pat) p flags width after g i e) ∙ a
 
-  by-head : (p : ℕ) (flags : List Bool) → p < length pat → Accepts p flags → (h : Head) → headOf (byteAt pat p) ≡ h → After p (headTurn pat p flags h)
+  by-head : (p : ℕ) (flags : List Bool) → p < length pat → Accepts p flags → (h : Head) → headOf (byteAt pat p) ≡ h → After p (headTurn false pat p flags h)
   unfolding patternTurn
-  by-head p flags i a h e = subst (λ x. After p (headTurn pat p flags x)) e (one-turn p flags i a (headTurn pat p flags (headOf (byteAt pat p))) refl)
+  by-head p flags i a h e = subst (λ x. After p (headTurn false pat p flags x)) e (one-turn p flags i a (headTurn false pat p flags (headOf (byteAt pat p))) refl)
 
-  after-open : (p : ℕ) (flags : List Bool) → p < length pat → After p (headTurn pat p flags at-open) → (length flags < 32) × Accepts (p + 1) (flags ++ (false ∷ []))
+  after-open : (p : ℕ) (flags : List Bool) → p < length pat → After p (headTurn false pat p flags at-open) → (length flags < 32) × Accepts (p + 1) (flags ++ (false ∷ []))
   unfolding headTurn
   after-open p flags h =
       by-test (λ (t : Turn (List Bool) Answer). After p t → (length flags < 32) × Accepts (p + 1) (flags ++ (false ∷ []))) (ltb (length flags) 32) _ _
@@ -138,7 +141,7 @@ module _ (pat : List ℕ) (c : ℕ) where
     pub closes : closeLatest flags ≡ some after
     pub on : Accepts (p + 1) after
 
-  after-close : (p : ℕ) (flags : List Bool) → p < length pat → After p (headTurn pat p flags at-close) → Closed p flags
+  after-close : (p : ℕ) (flags : List Bool) → p < length pat → After p (headTurn false pat p flags at-close) → Closed p flags
   unfolding headTurn afterClose
   after-close p flags h a = go (closeLatest flags) refl a
     where
@@ -171,11 +174,11 @@ module _ (pat : List ℕ) (c : ℕ) where
   set-fault p = by-test (λ (n : ℕ). 0 < n) (isEmptySet pat p) _ _ (λ t. omega arith) (λ t. omega arith)
 
   -- the set's `[` stands at p, and the item that has it at start, before or at p
-  after-set : (start p : ℕ) (flags : List Bool) → start ≤ p → After start (onward start flags (setRead pat p)) → Set-accepted p flags
-  unfolding setRead setAs
+  after-set : (start p : ℕ) (flags : List Bool) → start ≤ p → After start (onward start flags (setRead false pat p)) → Set-accepted p flags
+  unfolding setRead setAs closedAs reversedOf if_then_else_
   after-set start p flags h a = go (setEnd pat p) refl (set-closes pat p) a
     where
-      go : (e : SetEnd) → setEnd pat p ≡ e → ClosesFrom pat (firstMember pat p) (setEnd pat p) → After start (onward start flags (setAs pat p e)) → Set-accepted p flags
+      go : (e : SetEnd) → setEnd pat p ≡ e → ClosesFrom pat (firstMember pat p) (setEnd pat p) → After start (onward start flags (setAs false pat p e)) → Set-accepted p flags
       go (closes-at e) q i a =
           let j : ClosesFrom pat (firstMember pat p) (closes-at e) = subst (ClosesFrom pat (firstMember pat p)) q i in
           let k = first-behind pat p in
@@ -265,7 +268,7 @@ module _ (pat : List ℕ) (c m : ℕ)
         (λ e.
         by-test (λ (r : Read). Fine r flags) _ _ _ (λ t. single-fine any (p + 1) flags (omega arith) a) (λ t. single-fine (byte (byteAt pat p)) (p + 1) flags (omega arith) a))
 
-    escape-fine : (e : Escape) → escapeAt pat (p + 1) ≡ e → After pat c p (onward p flags (escapeAs pat p flags e)) → Fine (readEscape pat p e) flags
+    escape-fine : (e : Escape) → escapeAt pat (p + 1) ≡ e → After pat c p (onward p flags (escapeAs false pat p flags e)) → Fine (readEscape pat p e) flags
     unfolding escapeAs readEscape thenItems if_then_else_
     escape-fine esc-end f a = after-fault pat c p flags (refused 1 p) (omega arith) a
     escape-fine (esc-digit d) f a = go (isClosed flags d) refl a
@@ -287,13 +290,13 @@ module _ (pat : List ℕ) (c m : ℕ)
         single-fine (class (byteAt pat (p + 1))) (p + 2) flags (omega arith)
         (after-read pat c p flags (p + 2) (omega arith) (omega (arith, escape-there pat (p + 1) esc-other f tt)) a)
 
-    head-fine : (x : Head) → After pat c p (headTurn pat p flags x) → (headOf (byteAt pat p) ≡ x) → Fine (readHead pat p x) flags
+    head-fine : (x : Head) → After pat c p (headTurn false pat p flags x) → (headOf (byteAt pat p) ≡ x) → Fine (readHead pat p x) flags
     unfolding headTurn escapeRead
     head-fine at-open a e = open-fine (after-open pat c p flags h a)
     head-fine at-close a e = close-fine (after-close pat c p flags h a)
     head-fine at-percent a e = percent-fine a
       where
-        percent-fine : After pat c p (onward p flags (escapeRead pat p flags)) → Fine (readHead pat p at-percent) flags
+        percent-fine : After pat c p (onward p flags (escapeRead false pat p flags)) → Fine (readHead pat p at-percent) flags
         percent-fine a = unfold readHead in escape-fine (escapeAt pat (p + 1)) refl a
     head-fine at-set a e = set-fine (after-set pat c p p flags (omega arith) a)
     head-fine at-other a e = byte-fine (a (omega arith) (omega arith))
@@ -326,10 +329,11 @@ unfolding checkText afterVersion
 text-accepted version text walked c e =
     after-utf8 (illFormed text) walked c (if-passed (isVersion version) (afterUtf8 (illFormed text) walked) 25 0 c (omega arith) e .1)
 
-module _ (version : ℕ) (pat : List ℕ) (c : ℕ) (ok : checkPattern version pat ≡ accepted c) where
+-- with or without its test of ranges
+module _ (ranges : Bool) (version : ℕ) (pat : List ℕ) (c : ℕ) (ok : checkPatternAs ranges version pat ≡ accepted c) where
   accepts : Accepts pat c 0 []
-  unfolding checkPattern patternWalk
-  accepts = text-accepted version pat (patternWalk pat) c ok
+  unfolding checkPatternAs patternWalk
+  accepts = text-accepted version pat (patternWalk false pat) c (accepted-without version pat ranges c ok)
 
   pub well-formed : WellFormed (items pat 0) [] c
   well-formed = items-fine pat c 0 [] accepts

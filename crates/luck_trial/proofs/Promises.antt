@@ -3,7 +3,7 @@
 use Prim.Native.Nat.{ℕ, _≤_}
 use native.Mathlib.Omega.{arith}
 use mathlib.Core.Path.{_≡_, refl, ap}
-use mathlib.Core.Bool.{true, false}
+use mathlib.Core.Bool.{Bool, true, false}
 use mathlib.Core.List.{List, [], _∷_}
 use mathlib.Core.Option.{some}
 use lib.ListN.{length}
@@ -11,7 +11,7 @@ use lib.Dec.{eqb}
 use Rattle.luck_text.specs.Bytes.{if_then_else_, among}
 use Rattle.luck_token.specs.Version.{isVersion, rulesOf}
 use Rattle.luck_answer.specs.Answer.{accepted}
-use Rattle.luck_pattern.specs.Pattern.{checkPattern}
+use Rattle.luck_pattern.specs.Pattern.{checkPatternAs}
 use Rattle.luck_pattern.specs.Replacement.{isStrict, checkReplacement}
 use Rattle.luck_subject.specs.Class.{matchClass}
 use Rattle.luck_trial.specs.Gsub.{outputAfter, strGsub, gsub}
@@ -19,10 +19,10 @@ use Rattle.luck_trial.proofs.Writings.{walk-accepted, strict-accepted, 
 use Rattle.luck_trial.proofs.Quiet.{quiet}
 use Rattle.luck_trial.proofs.Endings.{endings}
 
--- ---- A pattern accepted under some version v with its count n, and a replacement accepted for that count under a version w other than 5.1
+-- ---- A pattern accepted, with or without the test of ranges, under some version v with its count n, and a replacement accepted for that count under a version w other than 5.1
 
-module _ (v w n k : ℕ) (pat rep : List ℕ)
-    (pattern-accepted : checkPattern v pat ≡ accepted n)
+module _ (ranges : Bool) (v w n k : ℕ) (pat rep : List ℕ)
+    (pattern-accepted : checkPatternAs ranges v pat ≡ accepted n)
     (replacement-accepted : checkReplacement w (some n) rep ≡ accepted k)
     (not-51 : w ≡ 1 → ⊥) where
   -- the trials under any two of the six versions give the same answer, whole,
@@ -41,7 +41,7 @@ module _ (v w n k : ℕ) (pat rep : List ℕ)
   -- and none raises
   pub none-raises : (sub output : List ℕ) (budget version : ℕ) → gsub version pat rep sub budget (length output) .number ≡ 29 → ⊥
   none-raises sub output budget version =
-      quiet v version n k true pat rep sub budget (length output) pattern-accepted
+      quiet ranges v version n k true pat rep sub budget (length output) pattern-accepted
       (strict-accepted w (some n) rep k replacement-accepted not-51) (λ e. absurd-flag e)
     where
       absurd-flag : true ≡ false → eqb version 1 ≡ true
@@ -49,13 +49,13 @@ module _ (v w n k : ℕ) (pat rep : List ℕ)
 
 -- ---- With a replacement accepted under 5.1, the trial under 5.1 never raises
 
-pub never-raises-51 : (v n k : ℕ) (pat rep sub output : List ℕ) (budget : ℕ)
-    → checkPattern v pat ≡ accepted n
+pub never-raises-51 : (ranges : Bool) (v n k : ℕ) (pat rep sub output : List ℕ) (budget : ℕ)
+    → checkPatternAs ranges v pat ≡ accepted n
     → checkReplacement 1 (some n) rep ≡ accepted k
     → gsub 1 pat rep sub budget (length output) .number ≡ 29
     → ⊥
-never-raises-51 v n k pat rep sub output budget ok rok =
-    quiet v 1 n k (isStrict (rulesOf 1)) pat rep sub budget (length output) ok (walk-accepted 1 (some n) rep k rok) (λ e. refl)
+never-raises-51 ranges v n k pat rep sub output budget ok rok =
+    quiet ranges v 1 n k (isStrict (rulesOf 1)) pat rep sub budget (length output) ok (walk-accepted 1 (some n) rep k rok) (λ e. refl)
 
 -- ---- Every trial, whatever it is given and however it ends
 

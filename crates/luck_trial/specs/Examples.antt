@@ -13,8 +13,9 @@ use Rattle.luck_token.specs.Version.{isVersion, versions, has, rulesOf}
 use Rattle.luck_utf8.specs.Utf8.{rfc3629, tailsOf, follow, widthBy, sequence, sequenceAt, noneIllFormed, illFormed, codePoint, charAt, isChar, utf8Bytes}
 use Rattle.luck_answer.specs.Answer.{Answer, accepted, refused, refusedWith, refusedBoth, afterVersion, afterUtf8, checkText}
 use Rattle.luck_pattern.specs.Captures.{closeLatest, isClosed, allClosed}
-use Rattle.luck_pattern.specs.Pattern.{headOf, escapeOf, escapeAt, memberAt, memberBy, memberTurn, membersEnd, firstMember, setEnd, isEmptySet, setAs, setRead, escapeAs, escapeRead, onward, afterClose, headTurn, patternTurn, patternEnd, patternWalk, checkPattern}
-use Rattle.luck_pattern.specs.Items.{elementsFrom, elementsOf, setOf, repeatOf, repeatWidth, repeated, readSingle, readSet, readFrontier, readEscape, readByte, readHead, readItem, thenItems, itemsFrom, items}
+use Rattle.luck_pattern.specs.Pattern.{headOf, escapeOf, escapeAt, memberAt, memberBy, memberTurn, membersEnd, firstMember, setEnd, isEmptySet, closedAs, reversedOf, setAs, setRead, escapeAs, escapeRead, onward, afterClose, headTurn, patternTurn, patternEnd, patternWalk, checkPatternAs, checkPattern}
+use Rattle.luck_pattern.specs.Elements.{elementAt, widthOf, placedFrom, placedElements, elementsIn, elementsOf, isReversed, reversedIn, firstReversed}
+use Rattle.luck_pattern.specs.Items.{setOf, repeatOf, repeatWidth, repeated, readSingle, readSet, readFrontier, readEscape, readByte, readHead, readItem, thenItems, itemsFrom, items}
 use Rattle.luck_pattern.specs.Replacement.{escaped, pieces, allowsDigit, piecesWalk, checkReplacement}
 use Rattle.luck_format.specs.Format.{isFlag, isModifier, getFormat, scanPrecision, scanWidth, scanFormat, modifiersAt, isConversion, flagsFor, flagsRun, takesPrecision, afterTwoDigits, goodModifiers, conversionTurn, specifierTurn, percentTurn, formatTurn, formatEnd, formatWalk, checkFormat}
 use Rattle.luck_pack.specs.Pack.{getnumlimit, fixedString, numberedOption, getoption, kindOf, numberOr, luckSizeof, luckSize, maxalign, isPowerOfTwo, isMisaligned, aligned, variable, alignBy, alignmentOf, alignToNext, kindTurn, optionTurn, packTurn, packEnd, packWalk, checkPack}
@@ -27,7 +28,7 @@ use Rattle.luck_trial.specs.Gsub.{Answer as Trial, answer, andWrote, end
 
 -- what is computed
 unfoldable computed : Unit {0}
-unfolding if_then_else_ among isDigit isXdigit isLuaWhitespace run digitValue numeralFrom numeral walk walkFrom isVersion versions has rulesOf rfc3629 tailsOf follow widthBy sequence sequenceAt noneIllFormed illFormed codePoint charAt isChar utf8Bytes afterVersion afterUtf8 checkText closeLatest isClosed allClosed headOf escapeOf escapeAt memberAt memberBy memberTurn membersEnd firstMember setEnd isEmptySet setAs setRead escapeAs escapeRead onward afterClose headTurn patternTurn patternEnd patternWalk checkPattern elementsFrom elementsOf setOf repeatOf repeatWidth repeated readSingle readSet readFrontier readEscape readByte readHead readItem thenItems itemsFrom items escaped pieces allowsDigit piecesWalk checkReplacement isFlag isModifier getFormat scanPrecision scanWidth scanFormat modifiersAt isConversion flagsFor flagsRun takesPrecision afterTwoDigits goodModifiers conversionTurn specifierTurn percentTurn formatTurn formatEnd formatWalk checkFormat getnumlimit fixedString numberedOption getoption kindOf numberOr luckSizeof luckSize maxalign isPowerOfTwo isMisaligned aligned variable alignBy alignmentOf alignToNext kindTurn optionTurn packTurn packEnd packWalk checkPack isLower isUpper isAlpha isAlnum isCntrl isGraph isPunct toLower classTest classBy matchClass isElement isAnyOf inSet fits toCloseBy captureToClose due newLevel orElse startCapture endCapture sameBytes matchCapture backReference balanceEnd matchBalance goesOnAt byteBefore isFrontier passedOver longestFirst maxExpand fitsAt reach minExpand expand doItem match andThen append decimalFrom decimal addCapture addDigit addPiece addPieces andWrote endsAgain copyByte copyRest round anchoredRound roundsFrom rounds strGsub writerOf gsub
+unfolding if_then_else_ among isDigit isXdigit isLuaWhitespace run digitValue numeralFrom numeral walk walkFrom isVersion versions has rulesOf rfc3629 tailsOf follow widthBy sequence sequenceAt noneIllFormed illFormed codePoint charAt isChar utf8Bytes afterVersion afterUtf8 checkText closeLatest isClosed allClosed headOf escapeOf escapeAt memberAt memberBy memberTurn membersEnd firstMember setEnd isEmptySet closedAs reversedOf setAs setRead escapeAs escapeRead onward afterClose headTurn patternTurn patternEnd patternWalk checkPatternAs checkPattern elementAt widthOf placedFrom placedElements elementsIn elementsOf isReversed reversedIn firstReversed setOf repeatOf repeatWidth repeated readSingle readSet readFrontier readEscape readByte readHead readItem thenItems itemsFrom items escaped pieces allowsDigit piecesWalk checkReplacement isFlag isModifier getFormat scanPrecision scanWidth scanFormat modifiersAt isConversion flagsFor flagsRun takesPrecision afterTwoDigits goodModifiers conversionTurn specifierTurn percentTurn formatTurn formatEnd formatWalk checkFormat getnumlimit fixedString numberedOption getoption kindOf numberOr luckSizeof luckSize maxalign isPowerOfTwo isMisaligned aligned variable alignBy alignmentOf alignToNext kindTurn optionTurn packTurn packEnd packWalk checkPack isLower isUpper isAlpha isAlnum isCntrl isGraph isPunct toLower classTest classBy matchClass isElement isAnyOf inSet fits toCloseBy captureToClose due newLevel orElse startCapture endCapture sameBytes matchCapture backReference balanceEnd matchBalance goesOnAt byteBefore isFrontier passedOver longestFirst maxExpand fitsAt reach minExpand expand doItem match andThen append decimalFrom decimal addCapture addDigit addPiece addPieces andWrote endsAgain copyByte copyRest round anchoredRound roundsFrom rounds strGsub writerOf gsub
 computed = tt
 
 -- a case: the versions, what is given, and the answer wanted. A trial: subject, pattern, replacement, budget, room

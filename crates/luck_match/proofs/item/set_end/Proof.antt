@@ -9,7 +9,7 @@ use lib.ListN.{length}
 use borrow.Author.Needs.{needs}
 use Rattle.luck_pattern.specs.Pattern.{firstMember, setEnd}
 use Rattle.luck_pattern.proofs.Patterns.{members, set-begins, set-first, set-escaped, set-plain}
-use Rattle.luck_match.proofs.Places.{first-behind}
+use Rattle.luck_pattern.proofs.Places.{first-behind}
 use Rattle.luck_match.proofs.Reading.{after-caret, after-bracket, after-last, closes-nowhere, closes-here, closes-cut}
 use Rattle.luck_match.proofs.item.set_end.Statement.{statement}
 use Rattle.luck_match.proofs.item.set_end.Tie as tie

@@ -9,7 +9,7 @@ use borrow.Author.Needs.{needs}
 use borrow.Author.Tests.{eq-eqb, ne-eqb}
 use Rattle.luck_text.specs.Bytes.{byteAt}
 use Rattle.luck_text.proofs.Bytes.{within, below, above}
-use Rattle.luck_pattern.specs.Items.{elementsOf}
+use Rattle.luck_pattern.specs.Elements.{elementsOf}
 use Rattle.luck_match.specs.Single.{isAnyOf}
 use Rattle.luck_subject.specs.Class.{matchClass}
 use Rattle.luck_match.proofs.Sets.{any-end, any-escape, any-range, any-plain}

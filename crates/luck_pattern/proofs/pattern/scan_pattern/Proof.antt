@@ -1,6 +1,7 @@
 -- `luck_pattern::pattern::scan_pattern` meets its contract. The loop's invariant: the walk from `at` on, after the captures that
 -- the count and the word stand for, is the whole answer. Assumes nothing.
 use mathlib.Core.Path.{_≡_, refl, sym, ap, subst, _∙_}
+use mathlib.Core.Bool.{false}
 use Prim.Native.Nat.{_+_, _-_, _≤_, _<_, _^_}
 use native.Mathlib.Omega.{arith}
 use lib.ListN.{length}
@@ -28,7 +29,7 @@ use Rattle.luck_pattern.proofs.pattern.scan_pattern.Tie as tie
 
 abbrev Inv-loop : tie.InvT-loop
 Inv-loop text count₀ word₀ at₀ count word at =
-    (at ≤ length text) × (count ≤ 32) × (word < 2 ^ count) × (items text at (flagsOf count word) ≡ patternWalk text)
+    (at ≤ length text) × (count ≤ 32) × (word < 2 ^ count) × (items false text at (flagsOf count word) ≡ patternWalk false text)
 
 abbrev μ-loop : tie.MeasureT-loop
 μ-loop text count₀ word₀ at₀ count word at = length text - at
@@ -64,7 +65,7 @@ loop-again c =
       b .1,
       l .inv .1,
       l .inv .2,
-      turn-past text (l .at) captures (c .before .before .before .before .before .before .loop-test .taken) (l .inv .3) (f .result) _ (f .ensures .0) (item-escape text (l .at) captures (c .before .before .before .before .match .keys1)) (r .0 .0) (r .1) (f .ensures .1),
+      turn-past false text (l .at) captures (c .before .before .before .before .before .before .loop-test .taken) (l .inv .3) (f .result) _ (f .ensures .0) (item-escape false text (l .at) captures (c .before .before .before .before .match .keys1)) (r .0 .0) (r .1) (f .ensures .1),
     )
 
 enum-known-found-2 : tie.Need-enum-known-found-2 Inv-loop μ-loop
@@ -77,7 +78,7 @@ returns c =
     let captures = flagsOf (l .count) (l .word) in
     let f = c .before .before .before .scan-escape in
     let r = c .before .found2 .given in
-    turn-fault text (l .at) captures (c .before .before .before .before .before .before .loop-test .taken) (l .inv .3) (f .result) _ (f .ensures .0) (item-escape text (l .at) captures (c .before .before .before .before .match .keys1)) (r .0 .0) (r .1)
+    turn-fault false text (l .at) captures (c .before .before .before .before .before .before .loop-test .taken) (l .inv .3) (f .result) _ (f .ensures .0) (item-escape false text (l .at) captures (c .before .before .before .before .match .keys1)) (r .0 .0) (r .1)
 
 scan-set-requires : tie.Need-scan-set-requires Inv-loop μ-loop
 scan-set-requires c κs = search needs
@@ -103,7 +104,7 @@ loop-again-2 c =
       b .1,
       l .inv .1,
       l .inv .2,
-      turn-past text (l .at) captures (c .before .before .before .before .before .before .loop-test .taken) (l .inv .3) (f .result) _ (f .ensures .0) (item-set text (l .at) captures (c .before .before .before .before .match .keys2)) (r .0 .0) (r .1) (f .ensures .1),
+      turn-past false text (l .at) captures (c .before .before .before .before .before .before .loop-test .taken) (l .inv .3) (f .result) _ (f .ensures .0) (item-set false text (l .at) captures (c .before .before .before .before .match .keys2)) (r .0 .0) (r .1) (f .ensures .1),
     )
 
 enum-known-found-4 : tie.Need-enum-known-found-4 Inv-loop μ-loop
@@ -116,13 +117,13 @@ returns-2 c =
     let captures = flagsOf (l .count) (l .word) in
     let f = c .before .before .before .scan-set in
     let r = c .before .found4 .given in
-    turn-fault text (l .at) captures (c .before .before .before .before .before .before .loop-test .taken) (l .inv .3) (f .result) _ (f .ensures .0) (item-set text (l .at) captures (c .before .before .before .before .match .keys2)) (r .0 .0) (r .1)
+    turn-fault false text (l .at) captures (c .before .before .before .before .before .before .loop-test .taken) (l .inv .3) (f .result) _ (f .ensures .0) (item-set false text (l .at) captures (c .before .before .before .before .match .keys2)) (r .0 .0) (r .1)
 
 returns-3 : tie.Need-returns-3 Inv-loop μ-loop
 returns-3 c =
     let l = c .before .before .before .before .loop in
     let count = flags-length (l .count) (l .word) in
-    turn-full (c .before .before .before .before .before .before .args .text .now) (l .at) (flagsOf (l .count) (l .word)) (c .before .before .before .loop-test .taken) (l .inv .3) (c .before .match .keys3) (omega arith)
+    turn-full false (c .before .before .before .before .before .before .args .text .now) (l .at) (flagsOf (l .count) (l .word)) (c .before .before .before .loop-test .taken) (l .inv .3) (c .before .match .keys3) (omega arith)
 
 opened-requires : tie.Need-opened-requires Inv-loop μ-loop
 opened-requires c κs = search needs
@@ -144,8 +145,8 @@ loop-again-3 c =
       omega arith,
       omega arith,
       c .opened .ensures .0,
-      ap (items text (l .at + 1)) (c .opened .ensures .1)
-          ∙ turn-open text (l .at) (flagsOf (l .count) (l .word)) (c .before .before .before .before .loop-test .taken) (l .inv .3) (c .before .before .match .keys3) (omega arith),
+      ap (items false text (l .at + 1)) (c .opened .ensures .1)
+          ∙ turn-open false text (l .at) (flagsOf (l .count) (l .word)) (c .before .before .before .before .loop-test .taken) (l .inv .3) (c .before .before .match .keys3) (omega arith),
     )
 
 close-latest-requires : tie.Need-close-latest-requires Inv-loop μ-loop
@@ -168,7 +169,7 @@ loop-again-4 c =
       omega arith,
       l .inv .1,
       subst (Below (l .count)) (r .1) (k .ensures .1),
-      turn-close (c .before .before .before .before .before .before .before .before .before .args .text .now) (l .at) (flagsOf (l .count) (l .word)) (c .before .before .before .before .before .before .loop-test .taken) (l .inv .3) (c .before .before .before .before .match .keys4)
+      turn-close false (c .before .before .before .before .before .before .before .before .before .args .text .now) (l .at) (flagsOf (l .count) (l .word)) (c .before .before .before .before .before .before .loop-test .taken) (l .inv .3) (c .before .before .before .before .match .keys4)
           _ (sym (ap (closedOf (l .count)) (r .1)) ∙ k .ensures .0),
     )
 
@@ -178,7 +179,7 @@ enum-told c = search needs
 returns-4 : tie.Need-returns-4 Inv-loop μ-loop
 returns-4 c =
     let l = c .before .before .before .before .before .before .loop in
-    turn-unmatched (c .before .before .before .before .before .before .before .before .args .text .now) (l .at) (flagsOf (l .count) (l .word)) (c .before .before .before .before .before .loop-test .taken) (l .inv .3) (c .before .before .before .match .keys4)
+    turn-unmatched false (c .before .before .before .before .before .before .before .before .args .text .now) (l .at) (flagsOf (l .count) (l .word)) (c .before .before .before .before .before .loop-test .taken) (l .inv .3) (c .before .before .before .match .keys4)
     (sym (ap (closedOf (l .count)) (c .enum-told .given .1)) ∙ c .before .before .close-latest .ensures .0)
 
 add-at-3 : tie.Need-add-at-3 Inv-loop μ-loop
@@ -194,7 +195,7 @@ loop-again-5 c =
       omega arith,
       l .inv .1,
       l .inv .2,
-      turn-plain (c .before .before .before .before .before .args .text .now) (l .at) (flagsOf (l .count) (l .word)) (c .before .before .loop-test .taken) (l .inv .3) (n .0 .0 .0 .1) (n .0 .0 .1) (n .0 .1) (n .1),
+      turn-plain false (c .before .before .before .before .before .args .text .now) (l .at) (flagsOf (l .count) (l .word)) (c .before .before .loop-test .taken) (l .inv .3) (n .0 .0 .0 .1) (n .0 .0 .1) (n .0 .1) (n .1),
     )
 
 none-open-requires : tie.Need-none-open-requires Inv-loop μ-loop
@@ -207,13 +208,13 @@ returns-5 : tie.Need-returns-5 Inv-loop μ-loop
 unfolding if_then_else_
 returns-5 c =
     let l = c .before .before .before .loop in
-    turn-end (c .before .before .before .before .before .args .text .now) (l .at) (flagsOf (l .count) (l .word)) _ (l .count) (sym (c .if2 .taken) ∙ c .before .none-open .ensures) (flags-length (l .count) (l .word)) (c .before .before .loop-test .left) (l .inv .3)
+    turn-end false (c .before .before .before .before .before .args .text .now) (l .at) (flagsOf (l .count) (l .word)) _ (l .count) (sym (c .if2 .taken) ∙ c .before .none-open .ensures) (flags-length (l .count) (l .word)) (c .before .before .loop-test .left) (l .inv .3)
 
 returns-6 : tie.Need-returns-6 Inv-loop μ-loop
 unfolding if_then_else_
 returns-6 c =
     let l = c .before .before .before .loop in
-    turn-end (c .before .before .before .before .before .args .text .now) (l .at) (flagsOf (l .count) (l .word)) _ (l .count) (sym (c .if2 .left) ∙ c .before .none-open .ensures) (flags-length (l .count) (l .word)) (c .before .before .loop-test .left) (l .inv .3)
+    turn-end false (c .before .before .before .before .before .args .text .now) (l .at) (flagsOf (l .count) (l .word)) _ (l .count) (sym (c .if2 .left) ∙ c .before .none-open .ensures) (flags-length (l .count) (l .word)) (c .before .before .loop-test .left) (l .inv .3)
 
 pub scan-pattern-spec : {M : Type 1} → statement M
 scan-pattern-spec =

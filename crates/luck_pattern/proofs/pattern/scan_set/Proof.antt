@@ -20,6 +20,7 @@ use Rattle.luck_pattern.proofs.Patterns.{
   set-first,
   set-escaped,
   set-plain,
+  untested,
 }
 use borrow.Author.Needs.{needs}
 use Rattle.luck_pattern.proofs.pattern.scan_set.Statement.{statement}
@@ -46,7 +47,7 @@ returns : tie.Need-returns Inv-members μ-members
 returns c =
     let f = c .before .before .before .first-member in
     let a = c .before .before .before .before .before .args in
-    (set-empty (a .text .now) (a .start) (f .result) (f .ensures .0) (c .before .before .if1 .taken) (c .if2 .taken), tt)
+    (set-empty (a .text .now) (a .start) (f .result) (f .ensures .0) false (c .before .before .if1 .taken) (c .if2 .taken), tt)
 
 members-holds : tie.Need-members-holds Inv-members μ-members
 members-holds c =
@@ -66,7 +67,7 @@ returns-2 : tie.Need-returns-2 Inv-members μ-members
 returns-2 c =
     let l = c .before .members in
     let a = c .before .before .before .before .before .args in
-    (set-unclosed (a .text .now) (a .start) (c .before .before .before .first-member .result) (l .at) (l .inv .4) (l .inv .3) (c .if3 .taken), tt)
+    (set-unclosed (a .text .now) (a .start) (c .before .before .before .first-member .result) (l .at) (l .inv .4) false (l .inv .3) (c .if3 .taken), tt)
 
 shared-slice-read-here : tie.Need-shared-slice-read-here Inv-members μ-members
 shared-slice-read-here c = search needs
@@ -98,7 +99,7 @@ returns-3 : tie.Need-returns-3 Inv-members μ-members
 returns-3 c =
     let l = c .before .before .before .before .members in
     let a = c .before .before .before .before .before .before .before .before .args in
-    (set-cut (a .text .now) (a .start) (c .before .before .before .before .before .before .first-member .result) (l .at) (l .inv .4) (c .before .before .before .if3 .left) (c .before .match .keys2) (c .if5 .taken), tt)
+    (set-cut (a .text .now) (a .start) (c .before .before .before .before .before .before .first-member .result) (l .at) (l .inv .4) (c .before .before .before .if3 .left) false (c .before .match .keys2) (c .if5 .taken), tt)
 
 add-at-2 : tie.Need-add-at-2 Inv-members μ-members
 add-at-2 c = search needs
@@ -138,7 +139,7 @@ returns-4 : tie.Need-returns-4 Inv-members μ-members
 returns-4 c =
     let l = c .before .before .before .before .members in
     let a = c .before .before .before .before .before .before .before .before .args in
-    (set-closes (a .text .now) (a .start) (c .before .before .before .before .before .before .first-member .result) (l .at) (l .inv .4) (c .before .before .before .if3 .left) (c .before .match .keys1) (c .if4 .taken), (omega arith, omega arith))
+    (set-closes (a .text .now) (a .start) (c .before .before .before .before .before .before .first-member .result) (l .at) (l .inv .4) (c .before .before .before .if3 .left) false (c .before .match .keys1) (c .if4 .taken) (untested _ _ _), (omega arith, omega arith))
 
 pub scan-set-spec : {M : Type 1} → statement M
 scan-set-spec =
