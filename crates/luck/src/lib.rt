@@ -10,8 +10,9 @@ ghost use Rattle.luck_pack.specs.Pack.{checkPack};
 ghost use Rattle.luck_pattern.specs.Pattern.{checkPattern};
 ghost use Rattle.luck_pattern.specs.Replacement.{countOf, checkReplacement};
 ghost use Rattle.luck_linter.specs.StringLiteral.{checkLiteral};
-ghost use Rattle.luck_trial.specs.Gsub.{report, outputAfter, gsub};
+ghost use Rattle.lstr_gsub.specs.Gsub.{report, outputAfter, gsub};
 ghost use Rattle.luck_structs.specs.Answers.{checkAnswer, literalAnswer, decodedAnswer, trialReport, countIf};
+use lstr_gsub::gsub;
 use luck_format::date;
 use luck_format::format;
 use luck_linter::rules::format_string;
@@ -28,7 +29,6 @@ use luck_structs::literal::Literal;
 use luck_structs::trial;
 use luck_structs::trial::Trial;
 use luck_token::string;
-use luck_trial::gsub;
 
 // Accepted with how many arguments the specifiers take.
 #[no_mangle]

@@ -63,7 +63,7 @@ pub data Item : Type 0 where
   frontier : Set → Item  -- `%f` and a set
   back-reference : ℕ → Item  -- `%` and a digit
   single : Single → Repeat → Item
-  raises : ℕ → Item  -- an error of this kind: Match.antt of luck_match lists the kinds
+  raises : ℕ → Item  -- an error of this kind: Match.antt of lstr_item lists the kinds
 
 -- what is read at a place: a last item, or an item and the place after it
 pub data Read : Type 0 where
@@ -133,7 +133,7 @@ unfoldable pub thenItems : (ℕ → List Item) → Read → List Item
 thenItems rest (last i) = i ∷ []
 thenItems rest (item i q) = i ∷ rest q
 
--- the items from place p on; n is at least the bytes left (`items-at` of luck_match takes it away)
+-- the items from place p on; n is at least the bytes left (`items-at` of lstr_item takes it away)
 unfoldable pub itemsFrom : List ℕ → ℕ → ℕ → List Item
 itemsFrom pat zero p = []
 itemsFrom pat (suc n) p = let here = thenItems (itemsFrom pat n) (readItem pat p) in if leb (length pat) p then [] else here

@@ -6,7 +6,7 @@ use mathlib.Core.Option.{Option, none, some}
 use Rattle.luck_token.specs.Decode as decode
 use Rattle.luck_answer.specs.Answer as check
 use Rattle.luck_linter.specs.StringLiteral as literal
-use Rattle.luck_trial.specs.Gsub as trial
+use Rattle.lstr_gsub.specs.Gsub as trial
 use Rattle.luck_structs.specs.declared.answer.Answer.{Answer}
 use Rattle.luck_structs.specs.declared.literal.Literal.{Literal}
 use Rattle.luck_structs.specs.declared.decoded.Decoded.{Decoded}

@@ -1,8 +1,8 @@
 // luck_trial of include/luck.h.
 ghost use mathlib.Core.Path.{_≡_};
-ghost use Rattle.luck_trial.specs.Gsub.{reportOf};
+ghost use Rattle.lstr_gsub.specs.Gsub.{reportOf};
 ghost use Rattle.luck_structs.specs.Answers.{trialReport};
-use luck_trial::gsub;
+use lstr_gsub::gsub;
 
 #[repr(C)]
 pub struct Trial {

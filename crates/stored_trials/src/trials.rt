@@ -6,8 +6,8 @@ ghost use Prim.Native.Nat.{_+_, _<_, _≤_};
 ghost use lib.ListN.{length};
 ghost use Rattle.stored_records.specs.Tally.{Passes};
 ghost use Rattle.stored_trials.specs.Trials.{TrialLies, TrialLiesBehind, TextsLie};
-use luck_trial::gsub;
-use luck_trial::gsub::Trial;
+use lstr_gsub::gsub;
+use lstr_gsub::gsub::Trial;
 use stored_records::bytes;
 use stored_records::tally::Turn;
 

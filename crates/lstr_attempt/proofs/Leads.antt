@@ -1,0 +1,239 @@
+-- Laws of attempts that need no captures: a repeat that ends the pattern, and an attempt that fails by its first test.
+-- Assumes nothing.
+use Prim.Native.Nat.{ℕ, zero, suc, _+_, _-_, _≤_, _<_}
+use native.Mathlib.Omega.{arith}
+use mathlib.Core.Path.{_≡_, refl, sym, ap, _∙_}
+use mathlib.Core.Logic.{⊎-elim}
+use mathlib.Core.Bool.{Bool, true, false}
+use mathlib.Core.List.{List, [], _∷_}
+use lib.ListN.{length, getD}
+use lib.Dec.{ltb}
+use borrow.Author.Tests.{lt-ltb, le-ltb}
+use Rattle.luck_text.specs.Bytes.{if_then_else_}
+use Rattle.luck_text.proofs.Cases.{if-true, if-false, order}
+use Rattle.luck_pattern.specs.Items.{Single, Repeat, once, star, plus, Item, start-capture, position-capture, single, items}
+use Rattle.lstr_class.specs.Class.{matchClass}
+use Rattle.lstr_item.specs.Match.{Capture, opened, position, Outcome, matched, failed, stopped, Rest, due, newLevel, orElse, startCapture, passedOver, Reach, reach, reached, spent, longestFirst, maxExpand, fitsAt, expand, doItem, match}
+use Rattle.lstr_item.specs.Inner.{Then, reachOf, positional, noPair, pairsOf, capturesOf, PairIn, Sound}
+use Rattle.lstr_match.specs.Inner.{AttemptIn}
+use Rattle.lstr_attempt.specs.Inner.{FailsBy, LeadsTo, GoesOn, LastIn, LeadIn}
+use Rattle.lstr_attempt.specs.declared.attempt.Lead.{Lead}
+use Rattle.lstr_item.specs.declared.capture.Captures.{Captures}
+use Rattle.lstr_item.specs.declared.capture.Pair.{Pair}
+use Rattle.lstr_match.specs.declared.matcher.Attempt.{Attempt}
+use Rattle.lstr_item.specs.declared.single.Reached.{Reached}
+use Rattle.lstr_item.proofs.Items.{items-end}
+use Rattle.lstr_item.proofs.Turns as turns
+use Rattle.lstr_match.proofs.Repeats as repeats
+
+pub false-true : _≡_ {A = Bool} false true → ⊥
+false-true e = let z : _≡_ {A = ℕ} 0 1 = cc in absurd (omega arith)
+
+pub true-false : _≡_ {A = Bool} true false → ⊥
+true-false e = false-true (sym e)
+
+-- ---- A match without captures
+
+abbrev pub bare : ℕ → ℕ → Attempt
+bare e u = record { end = e; steps = u; number = 0; more = 0 }
+
+pub bare-in : (e u : ℕ) (kept : List ℕ) (len : ℕ) → e ≤ len → AttemptIn (bare e u) kept len
+bare-in e u kept len h =
+    record { end = λ z. h; captures = λ z. record { few = omega arith; room = omega arith; each = λ i l. absurd (omega arith) } }
+
+-- ---- The first capture
+
+module _ (start len : ℕ) (h : positional ≤ len) (others : List Pair) where
+  abbrev pair : Pair
+  pair = record { start = start; len = len }
+
+  lies-before : (i : ℕ) → i < 1 → PairIn start (getD (pair ∷ others) i noPair)
+  lies-before zero l = (omega arith, λ m. absurd (omega arith))
+  lies-before (suc i) l = absurd (omega arith)
+
+  pub one-sound : Sound start (record { count = 1; pairs = pair ∷ others })
+  one-sound = record { few = omega arith; each = lies-before }
+
+-- nothing stands in its way
+pub first-starts : (c : Capture) (cs : List Capture) → cs ≡ c ∷ [] → (rest : Rest) (s u : ℕ)
+    → newLevel 1 u (λ m. rest s m cs u) ≡ startCapture c rest s 1 [] u
+unfolding startCapture if_then_else_
+first-starts c cs e rest s u = ap (λ (x : List Capture). newLevel 1 u (λ m. rest s m x u)) e
+
+-- ---- A repeat that ends the pattern
+
+end-or-spent : (b : Bool) (e : ℕ) (cs : List Capture) (u v : ℕ) (k : ℕ → Outcome)
+    → orElse (if b then matched e cs v else stopped 27 0 u) k ≡ (if b then matched e cs v else stopped 27 0 u)
+unfolding if_then_else_ orElse
+end-or-spent true e cs u v k = refl
+end-or-spent false e cs u v k = refl
+
+module _ (sub : List ℕ) (budget : ℕ) where
+  -- the pattern's end
+  abbrev ending : Rest
+  ending = match matchClass sub budget []
+
+  end-spent : (e l : ℕ) (cs : List Capture) (u : ℕ) → budget ≤ u → stopped 27 0 u ≡ ending e l cs u
+  unfolding match due
+  end-spent e l cs u h = sym (if-false _ _ _ (le-ltb u budget h))
+
+  end-matches : (e l : ℕ) (cs : List Capture) (u : ℕ) → u < budget → matched e cs (u + 1) ≡ ending e l cs u
+  unfolding match due
+  end-matches e l cs u h = sym (if-true _ _ _ (lt-ltb u budget h))
+
+  end-not-failed : (e l : ℕ) (cs : List Capture) (u : ℕ) (k : ℕ → Outcome) → orElse (ending e l cs u) k ≡ ending e l cs u
+  unfolding match due
+  end-not-failed e l cs u k = end-or-spent (ltb u budget) e cs u (u + 1) k
+
+  longest-is : (e s : ℕ) (cs : List Capture) (u : ℕ) → s ≤ e → newLevel 1 u (λ m. ending e m cs u) ≡ longestFirst ending (e - s) s 1 cs u
+  unfolding newLevel if_then_else_
+  longest-is e s cs u h =
+      ⊎-elim
+      (λ l. sym (end-not-failed e 2 cs u (λ v. longestFirst ending (e - 1 - s) s 1 cs v)) ∙ repeats.longer ending e s 1 cs u l)
+      (λ l. repeats.shortest ending e s 1 cs u (omega arith))
+      (order s e)
+
+  -- the longest repeat is taken
+  longest-taken : (e s : ℕ) (cs : List Capture) (u : ℕ) → s ≤ e → ending e 2 cs u ≡ maxExpand (reached e u) ending s 1 cs
+  unfolding newLevel if_then_else_ maxExpand
+  longest-taken e s cs u h = longest-is e s cs u h
+
+  -- what the code's reach makes of it
+  module _ (x : Single) (s u : ℕ) (r : Reached) (w : reachOf r ≡ reach matchClass sub budget x (length sub - s) s u) (shortest : ℕ) (cs : List Capture) where
+    abbrev taken : Outcome
+    taken = maxExpand (reach matchClass sub budget x (length sub - s) s u) ending shortest 1 cs
+
+    by-reach : (t : Reach) → t ≡ reachOf r → maxExpand t ending shortest 1 cs ≡ taken
+    by-reach t e = ap (λ (y : Reach). maxExpand y ending shortest 1 cs) (e ∙ w)
+
+    pub test-unpaid : r .«is_spent» ≡ true → stopped 27 0 (r .steps) ≡ taken
+    test-unpaid e = repeats.expand-spent ending shortest 1 cs (r .steps) ∙ by-reach (spent (r .steps)) (repeats.reach-is-spent r e)
+
+    module _ (e : r .«is_spent» ≡ false) (h : shortest ≤ r .end) where
+      at-reach : ending (r .end) 2 cs (r .steps) ≡ taken
+      at-reach = longest-taken (r .end) shortest cs (r .steps) h ∙ by-reach (reached (r .end) (r .steps)) (repeats.reach-is r e)
+
+      pub end-unpaid : budget ≤ r .steps → stopped 27 0 (r .steps) ≡ taken
+      end-unpaid l = end-spent (r .end) 2 cs (r .steps) l ∙ at-reach
+
+      pub end-paid : r .steps < budget → matched (r .end) cs (r .steps + 1) ≡ taken
+      end-paid l = end-matches (r .end) 2 cs (r .steps) l ∙ at-reach
+
+  module _ (pat : List ℕ) (p s : ℕ) (cs : List Capture) (u : ℕ) (h : u < budget) (q : ℕ) (x : Single) (last : length pat ≤ q)
+      (f : fitsAt matchClass sub x s ≡ true) where
+    rest-ends : (r : Repeat) → Then pat p (single x r) q
+        → expand matchClass sub budget x r ending s 1 cs (u + 1) ≡ match matchClass sub budget (items pat p) s 1 cs u
+    rest-ends r t =
+        ap (λ (is : List Item). expand matchClass sub budget x r (match matchClass sub budget is) s 1 cs (u + 1)) (sym (items-end pat q last))
+        ∙ turns.fitting sub pat budget p s 1 cs u h q x r t f
+
+    pub last-star : Then pat p (single x star) q
+        → maxExpand (reach matchClass sub budget x (length sub - (s + 1)) (s + 1) (u + 1)) ending s 1 cs ≡ match matchClass sub budget (items pat p) s 1 cs u
+    last-star t = repeats.star-on sub budget x ending s 1 cs (u + 1) _ refl ∙ rest-ends star t
+
+    pub last-plus : Then pat p (single x plus) q
+        → maxExpand (reach matchClass sub budget x (length sub - (s + 1)) (s + 1) (u + 1)) ending (s + 1) 1 cs ≡ match matchClass sub budget (items pat p) s 1 cs u
+    last-plus t = repeats.plus-on sub budget x ending s 1 cs (u + 1) _ refl ∙ rest-ends plus t
+
+-- ---- The first test
+
+module _ (sub : List ℕ) (budget s l : ℕ) (cs : List Capture) (u : ℕ) (h : u < budget) (x : Single) (is : List Item) (f : fitsAt matchClass sub x s ≡ false) where
+  pub once-fails : match matchClass sub budget (single x once ∷ is) s l cs u ≡ failed (u + 1)
+  unfolding match due doItem passedOver if_then_else_
+  once-fails = rw (lt-ltb u budget h, f)
+
+  pub plus-fails : match matchClass sub budget (single x plus ∷ is) s l cs u ≡ failed (u + 1)
+  unfolding match due doItem passedOver if_then_else_
+  plus-fails = rw (lt-ltb u budget h, f)
+
+module _ (pat : List ℕ) where
+  pub no-lead : (x : Lead) → x .steps ≡ 0 → x .«goes_on» ≡ false → x .«is_last» ≡ false → x .«is_skipped» ≡ false → LeadIn pat x
+  no-lead x z g l k =
+      record {
+        single = λ h. absurd (omega arith);
+        fails = λ h. absurd (omega arith);
+        skips = λ e. absurd (false-true (sym k ∙ e));
+        goes = λ e. absurd (false-true (sym g ∙ e));
+        last = λ e. absurd (false-true (sym l ∙ e));
+      }
+
+  -- the single stands first
+  module _ (x : Single) (q : ℕ) where
+    pub first-once : Then pat 0 (single x once) q → FailsBy pat 1 x
+    first-once t sub budget s u h f =
+        ap (λ (i : List Item). match matchClass sub budget i s 1 [] u) (t .is) ∙ once-fails sub budget s 1 [] u (omega arith) x (items pat q) f
+
+    pub first-plus : Then pat 0 (single x plus) q → FailsBy pat 1 x
+    first-plus t sub budget s u h f =
+        ap (λ (i : List Item). match matchClass sub budget i s 1 [] u) (t .is) ∙ plus-fails sub budget s 1 [] u (omega arith) x (items pat q) f
+
+    pub first-passed : Then pat 0 (single x once) q → GoesOn pat x true q 1
+    first-passed at =
+        record {
+          inside = at .inside;
+          on = λ sub budget s t u e h f.
+              ap (λ (y : ℕ). match matchClass sub budget (items pat q) y 1 [] (u + 1)) e
+              ∙ repeats.once-on sub budget x (match matchClass sub budget (items pat q)) s 1 [] (u + 1)
+              ∙ turns.fitting sub pat budget 0 s 1 [] u h q x once at f;
+        }
+
+    pub first-skipped : Then pat 0 (single x star) q → GoesOn pat x false q 0
+    unfolding passedOver
+    first-skipped at =
+        record {
+          inside = at .inside;
+          on = λ sub budget s t u e h f.
+              let z : t ≡ s = omega arith in
+              ap (λ (y : ℕ). match matchClass sub budget (items pat q) y 1 [] (u + 1)) z ∙ turns.unfitting sub pat budget 0 s 1 [] u h q x star at f;
+        }
+
+    pub only-star : Then pat 0 (single x star) q → length pat ≤ q → LastIn pat x
+    only-star t l sub budget s u h f = (s, omega arith, last-star sub budget pat 0 s [] u h q x l f t)
+
+    pub only-plus : Then pat 0 (single x plus) q → length pat ≤ q → LastIn pat x
+    only-plus t l sub budget s u h f = (s + 1, omega arith, last-plus sub budget pat 0 s [] u h q x l f t)
+
+  -- a capture stands before it
+  module _ (q : ℕ) (sub : List ℕ) (budget s u : ℕ) (h : u < budget) where
+    behind-start : Then pat 0 start-capture q
+        → match matchClass sub budget (items pat 0) s 1 [] u ≡ match matchClass sub budget (items pat q) s 2 (opened s ∷ []) (u + 1)
+    unfolding match due doItem startCapture newLevel if_then_else_
+    behind-start t = rw (t .is, lt-ltb u budget h)
+
+    behind-position : Then pat 0 position-capture q
+        → match matchClass sub budget (items pat 0) s 1 [] u ≡ match matchClass sub budget (items pat q) s 2 (position s ∷ []) (u + 1)
+    unfolding match due doItem startCapture newLevel if_then_else_
+    behind-position t = rw (t .is, lt-ltb u budget h)
+
+  module _ (q : ℕ) (c : ℕ → Capture)
+      (on : (sub : List ℕ) (budget s u : ℕ) → u < budget
+      → match matchClass sub budget (items pat 0) s 1 [] u ≡ match matchClass sub budget (items pat q) s 2 (c s ∷ []) (u + 1)) where
+    leads-behind : LeadsTo pat q 2
+    leads-behind =
+        record {
+          once = λ x is e sub budget s u h f.
+              on sub budget s u (omega arith)
+              ∙ ap (λ (i : List Item). match matchClass sub budget i s 2 (c s ∷ []) (u + 1)) e
+              ∙ once-fails sub budget s 2 (c s ∷ []) (u + 1) (omega arith) x is f ∙ ap failed (omega arith);
+          plus = λ x is e sub budget s u h f.
+              on sub budget s u (omega arith)
+              ∙ ap (λ (i : List Item). match matchClass sub budget i s 2 (c s ∷ []) (u + 1)) e
+              ∙ plus-fails sub budget s 2 (c s ∷ []) (u + 1) (omega arith) x is f ∙ ap failed (omega arith);
+        }
+
+  pub leads-start : (q : ℕ) → Then pat 0 start-capture q → LeadsTo pat q 2
+  leads-start q t = leads-behind q opened (λ sub budget s u h. behind-start q sub budget s u h t)
+
+  pub leads-position : (q : ℕ) → Then pat 0 position-capture q → LeadsTo pat q 2
+  leads-position q t = leads-behind q position (λ sub budget s u h. behind-position q sub budget s u h t)
+
+-- ---- do_match at the first level
+
+-- a new level below none is the first
+pub first-level : (sub : List ℕ) (budget : ℕ) (is : List Item) (s u : ℕ) (captures : Captures) → captures .count ≡ 0 → (o : Outcome)
+    → o ≡ newLevel 0 u (λ m. match matchClass sub budget is s m (capturesOf captures) u) → o ≡ match matchClass sub budget is s 1 [] u
+unfolding newLevel if_then_else_ pairsOf
+first-level sub budget is s u captures z o e = e ∙ ap (λ (n : ℕ). match matchClass sub budget is s 1 (pairsOf n (captures .pairs)) u) z
+
+pub none-sound : (s : ℕ) (captures : Captures) → captures .count ≡ 0 → Sound s captures
+none-sound s captures z = record { few = omega arith; each = λ i h. absurd (omega arith) }

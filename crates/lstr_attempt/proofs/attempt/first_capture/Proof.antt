@@ -1,0 +1,25 @@
+-- `lstr_attempt::attempt::first_capture` meets its contract. Assumes nothing.
+use mathlib.Core.Path.{_∙_}
+use borrow.Author.Needs.{needs}
+use Rattle.luck_pattern.specs.Items.{items}
+use Rattle.lstr_class.specs.Class.{matchClass}
+use Rattle.lstr_item.specs.Match.{match}
+use Rattle.lstr_attempt.proofs.Leads as leads
+use Rattle.lstr_attempt.proofs.attempt.first_capture.Statement.{statement}
+use Rattle.lstr_attempt.proofs.attempt.first_capture.Tie as tie
+
+one-capture-requires : tie.Need-one-capture-requires
+one-capture-requires c κs = search needs
+
+do-match-requires : tie.Need-do-match-requires
+do-match-requires c κs =
+    let q = c .before .before .before .before .pre in
+    (q .0, q .1, q .2, c .before .one-capture .ensures .1)
+
+returns : tie.Need-returns
+returns c =
+    let a = c .before .before .before .before .before .args in
+    (c .do-match .ensures .0 ∙ leads.first-starts _ _ (c .before .before .one-capture .ensures .0) (match matchClass (a .subject .now) (a .budget) (items (a .pattern .now) (a .next))) (a .place) (a .used), c .do-match .ensures .1)
+
+pub first-capture-spec : {M : Type 1} → statement M
+first-capture-spec = tie.close (tie.spec one-capture-requires do-match-requires returns)

@@ -1,0 +1,6 @@
+pub mod Runs
+pub mod Endings
+pub mod Writings
+pub mod Quiet
+pub mod Promises
+pub mod Rounds

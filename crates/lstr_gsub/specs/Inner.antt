@@ -1,0 +1,19 @@
+-- What the inner functions of the trial promise each other. No public contract rests on these.
+-- Assumes nothing.
+use Prim.Native.Nat.{ℕ}
+use mathlib.Core.Path.{_≡_}
+use mathlib.Core.Bool.{Bool}
+use mathlib.Core.List.{List}
+use Rattle.luck_pattern.specs.Replacement.{pieces}
+use Rattle.lstr_write.specs.Replace.{addPieces}
+use Rattle.lstr_gsub.specs.Gsub.{Answer, Writer, report, reportOf, outputAfter}
+use Rattle.lstr_gsub.specs.declared.gsub.Trial.{Trial}
+
+-- the code's answer is this one, and the output holds what it has written, and then what it held before
+pub record Reported (r : Trial) (entry exit : List ℕ) (a : Answer) : Type 0 where
+  pub is : reportOf r ≡ report a
+  pub output : exit ≡ outputAfter entry a
+
+-- the writer of 5.1 or of the others
+unfoldable pub writerBy : Bool → List ℕ → List ℕ → ℕ → Writer
+writerBy is51 rep sub room s e cs out = addPieces sub room s e cs is51 (pieces rep) out

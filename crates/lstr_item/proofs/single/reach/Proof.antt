@@ -1,0 +1,99 @@
+-- `lstr_item::single::reach` meets its contract. The loop's invariant: the reach from here is the whole answer. Assumes nothing.
+use Prim.Native.Nat.{_-_, _<_, _≤_}
+use native.Mathlib.Omega.{arith}
+use mathlib.Core.Path.{_≡_, refl, sym, ap, _∙_}
+use lib.ListN.{length}
+use borrow.Author.Tests.{not-true, not-false}
+use Rattle.lstr_class.specs.Class.{matchClass}
+use Rattle.lstr_item.specs.Match.{reach}
+use Rattle.lstr_item.specs.Inner.{singleOf}
+use Rattle.lstr_item.proofs.Singles.{of-class, fits-inside, reach-spent, reach-stop, reach-more}
+use borrow.Author.Needs.{needs}
+use Rattle.lstr_item.proofs.single.reach.Statement.{statement}
+use Rattle.lstr_item.proofs.single.reach.Tie as tie
+
+abbrev Inv-loop : tie.InvT-loop
+Inv-loop masks subject pattern at end place budget used tested₀ steps₀ tested steps =
+    (reach matchClass subject budget (singleOf pattern at end) (length subject - place) place used
+    ≡ reach matchClass subject budget (singleOf pattern at end) (length subject - tested) tested steps)
+    × (place ≤ tested)
+    × (tested ≤ length subject)
+
+abbrev μ-loop : tie.MeasureT-loop
+μ-loop masks subject pattern at end place budget used tested₀ steps₀ tested steps = length subject - tested
+
+shared-slice-read-if1 : tie.Need-shared-slice-read-if1 Inv-loop μ-loop
+shared-slice-read-if1 c = search needs
+
+add-reach-class : tie.Need-add-reach-class Inv-loop μ-loop
+add-reach-class c = search needs
+
+shared-slice-read-reach-class : tie.Need-shared-slice-read-reach-class Inv-loop μ-loop
+shared-slice-read-reach-class c = omega (arith, c .before .before .before .before .before .pre .1 .escape (c .before .if1 .taken), c .before .before .before .before .before .pre .1 .inside)
+
+reach-class-requires : tie.Need-reach-class-requires Inv-loop μ-loop
+reach-class-requires c κs = search needs
+
+returns : tie.Need-returns Inv-loop μ-loop
+returns c =
+    let a = c .before .before .before .before .before .before .args in
+    (c .reach-class .ensures .0 ∙ ap (λ x. reach matchClass (a .subject .now) (a .budget) x (length (a .subject .now) - a .place) (a .place) (a .used)) (of-class (a .pattern .now) (a .at) (a .end) (c .before .before .if1 .taken)), c .reach-class .ensures .1)
+
+loop-holds : tie.Need-loop-holds Inv-loop μ-loop
+loop-holds c = (refl, omega arith, omega arith)
+
+returns-2 : tie.Need-returns-2 Inv-loop μ-loop
+returns-2 c =
+    let a = c .before .before .before .before .before .before .args in
+    let l = c .before .loop in
+    (sym (l .inv .0 ∙ reach-spent matchClass (a .subject .now) (singleOf (a .pattern .now) (a .at) (a .end)) (l .tested) (a .budget) (l .steps) (c .if2 .taken)), (l .inv .1, l .inv .2))
+
+add-steps : tie.Need-add-steps Inv-loop μ-loop
+add-steps c = search needs
+
+fits-requires : tie.Need-fits-requires Inv-loop μ-loop
+fits-requires c κs = search needs
+
+returns-3 : tie.Need-returns-3 Inv-loop μ-loop
+returns-3 c =
+    let a = c .before .before .before .before .before .before .before .before .args in
+    let l = c .before .before .before .loop in
+    (sym (l .inv .0 ∙ reach-stop matchClass (a .subject .now) (singleOf (a .pattern .now) (a .at) (a .end)) (l .tested) (a .budget) (l .steps) (c .before .before .if2 .left) (sym (c .before .fits2 .ensures) ∙ not-true _ (c .if3 .taken))), (l .inv .1, l .inv .2))
+
+-- where the single fits, a byte is left
+inside : (c : tie.Else3 Inv-loop μ-loop) → c .before .before .before .loop .tested < length (c .before .before .before .before .before .before .before .before .args .subject .now)
+inside c =
+    let a = c .before .before .before .before .before .before .before .before .args in
+    fits-inside matchClass (a .subject .now) (singleOf (a .pattern .now) (a .at) (a .end)) (c .before .before .before .loop .tested) (sym (c .before .fits2 .ensures) ∙ not-false _ (c .if3 .left))
+
+add-tested : tie.Need-add-tested Inv-loop μ-loop
+add-tested c = omega (arith, inside c)
+
+loop-less : tie.Need-loop-less Inv-loop μ-loop
+loop-less c = omega (arith, inside c)
+
+loop-again : tie.Need-loop-again Inv-loop μ-loop
+loop-again c =
+    let a = c .before .before .before .before .before .before .before .before .args in
+    let l = c .before .before .before .loop in
+    (l .inv .0 ∙ reach-more matchClass (a .subject .now) (singleOf (a .pattern .now) (a .at) (a .end)) (l .tested) (a .budget) (l .steps) (c .before .before .if2 .left) (sym (c .before .fits2 .ensures) ∙ not-false _ (c .if3 .left)), omega (arith, l .inv .1), omega (arith, inside c))
+
+pub reach-spec : {M : Type 1} → statement M
+reach-spec =
+    tie.close
+    (tie.spec
+    Inv-loop
+    μ-loop
+    shared-slice-read-if1
+    add-reach-class
+    shared-slice-read-reach-class
+    reach-class-requires
+    returns
+    loop-holds
+    returns-2
+    add-steps
+    fits-requires
+    returns-3
+    add-tested
+    loop-less
+    loop-again)

@@ -1,0 +1,4 @@
+pub mod Single
+pub mod Match
+pub mod Inner
+pub mod Ahead

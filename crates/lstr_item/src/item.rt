@@ -1,0 +1,165 @@
+// The items of a pattern.
+ghost use Prim.Native.Nat.{_+_, _<_};
+ghost use lib.ListN.{length};
+ghost use mathlib.Core.Path.{_≡_};
+ghost use Rattle.luck_text.specs.Bytes.{byteAt};
+ghost use Rattle.luck_pattern.specs.Pattern.{setEnd};
+ghost use Rattle.luck_pattern.specs.Items.{repeatOf};
+ghost use Rattle.lstr_class.specs.Inner.{foundOf};
+ghost use Rattle.lstr_item.specs.Inner.{closingOf, ClosesIn, AtSet, AtEscape, AtFrontier, repeatRead, ItemAt};
+use lstr_class::subject::Found;
+
+// What stands at a place of a pattern, with the place after it.
+pub enum Item {
+    End,
+    EndAnchor,
+    Raises(u8),
+    StartCapture(usize),
+    PositionCapture(usize),
+    EndCapture(usize),
+    BackReference(u8, usize),
+    // a single and the place after it
+    Once(usize),
+    // a single and the place of the repeat after it
+    Optional(usize),
+    Star(usize),
+    Plus(usize),
+    Minus(usize),
+    Balance(u8, u8, usize),
+    // the place of the set's `[`, and the place after the set
+    Frontier(usize, usize),
+}
+
+// The closing `]` of the set whose `[` stands at `opening`: one member is taken after `[` or `[^`, even a `]`, and `%` takes one more byte.
+pub fn set_end(pattern: &[u8], opening: usize) -> Found
+    requires { ⌜ opening < length (now pattern) ⌝ }
+    ensures { λ r. ⌜ (foundOf r ≡ closingOf (setEnd (now (pattern .entry)) opening)) × ClosesIn r opening (length (now (pattern .entry))) ⌝ }
+{
+    let mut at = opening + 1;
+    if at < pattern.len() {
+        if pattern[at] == b'^' {
+            at += 1;
+        }
+    }
+    let first = at;
+    let closing = 'members: loop {
+        if pattern.len() <= at {
+            return Found::Nothing;
+        }
+        match pattern[at] {
+            b']' => {
+                if first < at {
+                    break 'members at;
+                }
+                at += 1;
+            }
+            b'%' => {
+                if pattern.len() - at == 1 {
+                    return Found::Nothing;
+                }
+                at += 2;
+            }
+            _ => at += 1,
+        }
+    };
+    Found::At(closing)
+}
+
+// A single that ends before `end`, with the repeat that may stand there.
+fn repeated(pattern: &[u8], end: usize) -> Item
+    ensures { λ r. ⌜ r ≡ repeatRead end (repeatOf (byteAt (now (pattern .entry)) end)) ⌝ }
+{
+    if end < pattern.len() {
+        return match pattern[end] {
+            b'?' => Item::Optional(end),
+            b'*' => Item::Star(end),
+            b'+' => Item::Plus(end),
+            b'-' => Item::Minus(end),
+            _ => Item::Once(end),
+        };
+    }
+    Item::Once(end)
+}
+
+// The set whose `[` stands at `at`.
+fn read_set(pattern: &[u8], at: usize) -> Item
+    requires { ⌜ AtSet (now pattern) at ⌝ }
+    ensures { λ r. ⌜ ItemAt (now (pattern .entry)) at r ⌝ }
+{
+    let found = set_end(pattern, at);
+    match found {
+        Found::At(closing) => repeated(pattern, closing + 1),
+        Found::Nothing => Item::Raises(2),
+    }
+}
+
+// The `%f` whose `%` stands at `at`.
+fn read_frontier(pattern: &[u8], at: usize) -> Item
+    requires { ⌜ AtFrontier (now pattern) at ⌝ }
+    ensures { λ r. ⌜ ItemAt (now (pattern .entry)) at r ⌝ }
+{
+    let opening = at + 2;
+    if opening < pattern.len() {
+        if pattern[opening] == b'[' {
+            let found = set_end(pattern, opening);
+            return match found {
+                Found::At(closing) => Item::Frontier(opening, closing + 1),
+                Found::Nothing => Item::Raises(2),
+            };
+        }
+    }
+    Item::Raises(3)
+}
+
+// The escape whose `%` stands at `at`.
+fn read_escape(pattern: &[u8], at: usize) -> Item
+    requires { ⌜ AtEscape (now pattern) at ⌝ }
+    ensures { λ r. ⌜ ItemAt (now (pattern .entry)) at r ⌝ }
+{
+    if pattern.len() - at == 1 {
+        return Item::Raises(1);
+    }
+    let next = at + 1;
+    let escape = pattern[next];
+    match escape {
+        b'0'..=b'9' => Item::BackReference(escape - b'0', at + 2),
+        b'b' => {
+            if pattern.len() - at < 4 {
+                return Item::Raises(4);
+            }
+            Item::Balance(pattern[at + 2], pattern[at + 3], at + 4)
+        }
+        b'f' => read_frontier(pattern, at),
+        _ => repeated(pattern, at + 2),
+    }
+}
+
+// The item at a place of a pattern.
+pub fn read(pattern: &[u8], at: usize) -> Item
+    ensures { λ r. ⌜ ItemAt (now (pattern .entry)) at r ⌝ }
+{
+    if pattern.len() <= at {
+        return Item::End;
+    }
+    let next = at + 1;
+    match pattern[at] {
+        b'(' => {
+            if next < pattern.len() {
+                if pattern[next] == b')' {
+                    return Item::PositionCapture(at + 2);
+                }
+            }
+            Item::StartCapture(next)
+        }
+        b')' => Item::EndCapture(next),
+        b'%' => read_escape(pattern, at),
+        b'[' => read_set(pattern, at),
+        b'$' => {
+            if next == pattern.len() {
+                return Item::EndAnchor;
+            }
+            repeated(pattern, next)
+        }
+        _ => repeated(pattern, next),
+    }
+}

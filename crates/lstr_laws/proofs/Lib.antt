@@ -1,0 +1,5 @@
+pub mod Attempts
+pub mod Forward
+pub mod Sound
+pub mod Accepted
+pub mod Endings

@@ -1,0 +1,44 @@
+-- `lstr_match::matcher::start_capture` meets its contract. Assumes nothing.
+use Prim.Native.Nat.{ℕ, _+_, _-_}
+use mathlib.Core.Path.{_∙_}
+use native.Mathlib.Omega.{arith}
+use Rattle.lstr_match.specs.Inner.{outcomeBy, outcomeOf}
+use Rattle.lstr_match.proofs.Repeats as repeats
+use Rattle.lstr_item.proofs.Captures.{all-pairs, sound-started, starts-capture, all-taken}
+use Rattle.lstr_match.proofs.matcher.do_match.Reads as do-match
+use Rattle.lstr_match.proofs.matcher.start_capture.Reads as start-capture
+use Rattle.lstr_match.proofs.matcher.+do_match+end_capture+max_expand+min_expand+start_capture.Lts-start_capture as lts
+use Rattle.lstr_match.proofs.matcher.+do_match+end_capture+max_expand+min_expand+start_capture.Proof.Frame.{do-match-below, start-capture-at}
+
+abbrev E : ℕ → lts.Claims
+E t = (do-match-below t, do-match.Post)
+
+module _ (t : ℕ) where
+  returns : lts.Need-returns (E t) (start-capture-at t) start-capture.Post
+  unfolding outcomeOf outcomeBy
+  returns c = (all-taken (c .before .before .before .args .captures) (all-pairs (c .before .before .before .args .captures .pairs) (c .before .before .before .good .1 .1 .1 .1 .1 .1 .1 .1 .0 .1 .1 .1 .0 .1 .0 .1)) (c .before .before .before .pre .1 .4 .few) _ _ _ _ _ (c .if1 .taken), repeats.no-match _ _ _ (λ e. omega arith))
+
+  mul-t17 : lts.Need-mul-t17 (E t) (start-capture-at t) start-capture.Post
+  mul-t17 c = omega arith
+
+  element-set-from-opened : lts.Need-element-set-from-opened (E t) (start-capture-at t) start-capture.Post
+  element-set-from-opened c = omega arith
+
+  add-opened : lts.Need-add-opened (E t) (start-capture-at t) start-capture.Post
+  add-opened c = omega arith
+
+  do-match-requires : lts.Need-do-match-requires (E t) (start-capture-at t) start-capture.Post
+  do-match-requires c κs = (omega arith, (c .before .before .before .before .pre .1 .0, c .before .before .before .before .pre .1 .1, c .before .before .before .before .pre .1 .2, sound-started _ _ _ (c .before .before .before .before .pre .1 .3) (c .before .if1 .left) (c .before .before .before .before .pre .1 .4)))
+
+  returns-2 : lts.Need-returns-2 (E t) (start-capture-at t) start-capture.Post
+  returns-2 c = (c .do-match .ensures .0 ∙ starts-capture (c .before .before .before .before .before .args .captures) (all-pairs (c .before .before .before .before .before .args .captures .pairs) (c .before .before .before .before .before .good .1 .1 .1 .1 .1 .1 .1 .1 .0 .1 .1 .1 .0 .1 .0 .1)) (c .before .before .before .before .before .pre .1 .4 .few) _ _ _ _ _ (c .before .before .if1 .left), c .do-match .ensures .1)
+
+pub start-capture-proof : {M : Type 1} (t : ℕ) → lts.Closed (E t) (start-capture-at t) start-capture.Post M
+start-capture-proof t =
+    lts.spec (E t) (start-capture-at t) start-capture.Post
+    (returns t)
+    (mul-t17 t)
+    (element-set-from-opened t)
+    (add-opened t)
+    (do-match-requires t)
+    (returns-2 t)

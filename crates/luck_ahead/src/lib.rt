@@ -1,2 +1,0 @@
-// What the rest of a pattern surely tests first: the look-ahead of the matching.
-pub mod ahead;

@@ -1,3 +1,0 @@
-pub mod Single
-pub mod Match
-pub mod Inner
