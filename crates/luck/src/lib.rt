@@ -10,9 +10,9 @@ ghost use Rattle.luck_format.specs.Format.{checkFormat};
 ghost use Rattle.luck_pack.specs.Pack.{checkPack};
 ghost use Rattle.luck_pattern.specs.Pattern.{checkPattern};
 ghost use Rattle.luck_pattern.specs.Replacement.{countOf, checkReplacement};
-ghost use Rattle.luck_linter.specs.StringLiteral.{checkLiteral};
+ghost use Rattle.luck_linter.specs.StringLiteral.{literalAnswer, checkLiteral};
 ghost use Rattle.lstr_gsub.specs.Gsub.{report, reportOf, outputAfter, gsub};
-ghost use Rattle.luck_structs.specs.Answers.{literalAnswer, decodedAnswer, countIf};
+ghost use Rattle.luck_structs.specs.Answers.{decodedAnswer, countIf};
 use lstr_gsub::gsub;
 use lstr_gsub::gsub::Trial;
 use luck_answer::answer;
@@ -20,14 +20,13 @@ use luck_answer::answer::Answer;
 use luck_format::date;
 use luck_format::format;
 use luck_linter::rules::format_string;
+use luck_linter::rules::format_string::Literal;
 use luck_pack::pack;
 use luck_pattern::pattern;
 use luck_pattern::replacement;
 use luck_pattern::replacement::Captures;
 use luck_structs::decoded;
 use luck_structs::decoded::Decoded;
-use luck_structs::literal;
-use luck_structs::literal::Literal;
 use luck_token::string;
 
 // Accepted with how many arguments the specifiers take.
@@ -107,7 +106,7 @@ pub extern "C" fn luck_check_literal(
     ensures { λ r. ⌜ literalAnswer r ≡ checkLiteral kind version (countIf known captures) start (now (text .entry)) ⌝ }
 {
     let count = count_if(known, captures);
-    literal::of_checked(format_string::check_literal(kind, version, count, start, text))
+    format_string::check_literal(kind, version, count, start, text)
 }
 
 // What a literal stands for, written to the front of the output; a refusal leaves the output as it was.

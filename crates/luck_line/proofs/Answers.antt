@@ -13,16 +13,16 @@ use Rattle.luck_text.specs.Bytes.{if_then_else_, byteAt, among}
 use Rattle.luck_text.proofs.Cases.{by-test}
 use Rattle.luck_answer.specs.Answer.{Answer, refused}
 use Rattle.luck_pattern.specs.Replacement.{allowsDigit}
-use Rattle.luck_linter.specs.Checks.{Check, pattern, format, date, replacement, pack, literal, answer, deciding, ownNumbers, numbers}
+use Rattle.luck_linter.specs.Checks.{Check, pattern, format, date, replacement, pack, answer, numbers}
 use Rattle.luck_text.proofs.Among.{Every, every-among}
 use Rattle.luck_linter.proofs.Refusals.{refusals, counts}
-use Rattle.luck_line.specs.Line.{longest, checkOf, bodyAnswer, lineAnswer, lineNumbers}
+use Rattle.luck_line.specs.Line.{longest, headCheck, bodyAnswer, lineAnswer, lineNumbers}
 
 abbrev Fits : ℕ → Answer → Type 0
 Fits len a = (a .offset ≤ len) × (among (a .number) lineNumbers ≡ true) × (a .count ≤ len)
 
 -- the numbers of each check are among those of a line
-all : (check : Check) → Every (λ n. among n lineNumbers ≡ true) (ownNumbers check)
+all : (check : Check) → Every (λ n. among n lineNumbers ≡ true) (numbers check)
 unfolding among if_then_else_ allowsDigit
 all pattern = (refl, (refl, (refl, (refl, (refl, (refl, (refl, (refl, (refl, (refl, tt))))))))))
 all format = (refl, (refl, (refl, (refl, (refl, (refl, (refl, (refl, (refl, (refl, tt))))))))))
@@ -30,14 +30,13 @@ all date = (refl, (refl, (refl, (refl, (refl, tt)))))
 all (replacement captures) = (refl, (refl, (refl, (refl, (refl, by-test (Every (λ n. among n lineNumbers ≡ true)) (allowsDigit captures 9) [] (21 ∷ []) (λ _. tt) (λ _. (refl, tt)))))))
 all (pack false) = (refl, (refl, (refl, (refl, (refl, (refl, (refl, tt)))))))
 all (pack true) = (refl, (refl, (refl, (refl, (refl, (refl, (refl, (refl, tt))))))))
-all (literal kind captures start) = (refl, tt)
 
 body-fits : (check : Option Check) (version : ℕ) (body : List ℕ) → Fits (length body) (bodyAnswer check version body)
 unfolding bodyAnswer among
 body-fits none version body = (omega arith, refl, omega arith)
 body-fits (some check) version body =
     let r = refusals check version body in
-    (r .0, every-among (λ n. among n lineNumbers ≡ true) (numbers check) (all (deciding check)) (answer check version body .number) (r .1), counts check version body)
+    (r .0, every-among (λ n. among n lineNumbers ≡ true) (numbers check) (all check) (answer check version body .number) (r .1), counts check version body)
 
 too-long-fits : (len : ℕ) → Fits len (refused 31 0)
 unfolding among
@@ -51,7 +50,7 @@ module _ (line : List ℕ) where
   unfolding lineAnswer
   fits len h =
       by-test (Fits len) (ltb longest (length line)) _ _ (λ _. too-long-fits len)
-      (λ e. body-length len (bodyAnswer (checkOf line) (byteAt line 1 - 48) (drop 5 line)) (h e) (body-fits (checkOf line) (byteAt line 1 - 48) (drop 5 line)))
+      (λ e. body-length len (bodyAnswer (headCheck line) (byteAt line 1 - 48) (drop 5 line)) (h e) (body-fits (headCheck line) (byteAt line 1 - 48) (drop 5 line)))
 
   -- offset and count are at most the length of the body, and in no line more than 4,000, since a longer body is 31
   pub line-fits : Fits (length line - 5) (lineAnswer line)

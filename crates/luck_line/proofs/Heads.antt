@@ -12,8 +12,8 @@ use lib.Seq.{take-all}
 use borrow.Author.Tests.{le-leb, lt-leb, eq-eqb, ne-eqb, lt-ltb, le-ltb}
 use Rattle.luck_text.specs.Bytes.{if_then_else_, byteAt, isDigit}
 use Rattle.luck_answer.specs.Answer.{Answer, refused}
-use Rattle.luck_linter.specs.Checks.{Check, answer}
-use Rattle.luck_line.specs.Line.{twoDigits, capturesIn, replacementWith, plainCheck, checkBy, checkOf, bodyAnswer, lineAnswer}
+use Rattle.luck_linter.specs.Checks.{Check, checkOf}
+use Rattle.luck_line.specs.Line.{twoDigits, capturesIn, checkWith, headCheck, bodyAnswer, lineAnswer}
 
 pub part-whole : (l : List ℕ) (a : ℕ) → take (length l - a) (drop a l) ≡ drop a l
 part-whole l a = take-all (length l - a) (drop a l) (le-of-eq (length-drop a l))
@@ -67,35 +67,18 @@ module _ (tens units : ℕ) where
 
 -- ---- The kind
 
-module _ (kind tens units : ℕ) where
-  pub of-replacement : kind ≡ 71 → replacementWith (capturesIn tens units) ≡ checkBy kind tens units
-  unfolding checkBy if_then_else_
-  of-replacement e = rw (eq-eqb kind 71 e)
+module _ (kind count : ℕ) where
+  pub count-of-replacement : kind ≡ 71 → checkOf kind (some count) ≡ checkWith kind (some (some count))
+  unfolding checkWith if_then_else_
+  count-of-replacement e = rw (eq-eqb kind 71 e)
 
-  module _ (e : kind ≡ 71 → ⊥) where
-    pub of-plain : tens ≡ 32 → units ≡ 32 → plainCheck kind ≡ checkBy kind tens units
-    unfolding checkBy if_then_else_
-    of-plain f g = rw (ne-eqb kind 71 e, eq-eqb tens 32 f, eq-eqb units 32 g)
+  pub count-of-other : (kind ≡ 71 → ⊥) → none ≡ checkWith kind (some (some count))
+  unfolding checkWith if_then_else_
+  count-of-other e = rw (ne-eqb kind 71 e)
 
-    pub units-not-blank : tens ≡ 32 → (units ≡ 32 → ⊥) → none ≡ checkBy kind tens units
-    unfolding checkBy if_then_else_
-    units-not-blank f g = rw (ne-eqb kind 71 e, eq-eqb tens 32 f, ne-eqb units 32 g)
-
-    pub tens-not-blank : (tens ≡ 32 → ⊥) → none ≡ checkBy kind tens units
-    unfolding checkBy if_then_else_
-    tens-not-blank f = rw (ne-eqb kind 71 e, ne-eqb tens 32 f)
-
--- an answer by a check that is known to be this one
-pub by-check : (check wanted : Option Check) (version : ℕ) (body : List ℕ) (a : Answer) → a ≡ bodyAnswer check version body → check ≡ wanted → a ≡ bodyAnswer wanted version body
-by-check check wanted version body a e f = e ∙ ap (λ x. bodyAnswer x version body) f
-
-pub misfit : (wanted : Option Check) (version : ℕ) (body : List ℕ) → none ≡ wanted → refused 30 0 ≡ bodyAnswer wanted version body
+misfit : (wanted : Option Check) (version : ℕ) (body : List ℕ) → none ≡ wanted → refused 30 0 ≡ bodyAnswer wanted version body
 unfolding bodyAnswer
 misfit wanted version body e = ap (λ x. bodyAnswer x version body) e
-
-pub checked : (wanted : Option Check) (check : Check) (version : ℕ) (body : List ℕ) → some check ≡ wanted → answer check version body ≡ bodyAnswer wanted version body
-unfolding bodyAnswer
-checked wanted check version body e = ap (λ x. bodyAnswer x version body) e
 
 -- ---- The line
 
@@ -105,19 +88,19 @@ module _ (line : List ℕ) where
   too-long h = rw (lt-ltb 4005 (length line) h)
 
   module _ (h : length line ≤ 4005) where
-    by-head : (a : Answer) → a ≡ bodyAnswer (checkOf line) (byteAt line 1 - 48) (drop 5 line) → a ≡ lineAnswer line
+    by-head : (a : Answer) → a ≡ bodyAnswer (headCheck line) (byteAt line 1 - 48) (drop 5 line) → a ≡ lineAnswer line
     unfolding lineAnswer if_then_else_
     by-head a e = e ∙ rw (le-ltb 4005 (length line) h)
 
-    no-version : isDigit (byteAt line 1) ≡ false → none ≡ checkOf line
-    unfolding checkOf if_then_else_
+    no-version : isDigit (byteAt line 1) ≡ false → none ≡ headCheck line
+    unfolding headCheck if_then_else_
     no-version e = rw e
 
     pub not-a-digit : isDigit (byteAt line 1) ≡ false → refused 30 0 ≡ lineAnswer line
     not-a-digit e = by-head _ (misfit _ _ _ (no-version e))
 
-    no-space : isDigit (byteAt line 1) ≡ true → (byteAt line 4 ≡ 32 → ⊥) → none ≡ checkOf line
-    unfolding checkOf if_then_else_
+    no-space : isDigit (byteAt line 1) ≡ true → (byteAt line 4 ≡ 32 → ⊥) → none ≡ headCheck line
+    unfolding headCheck if_then_else_
     no-space e f = rw (e, ne-eqb (byteAt line 4) 32 f)
 
     pub not-a-space : isDigit (byteAt line 1) ≡ true → (byteAt line 4 ≡ 32 → ⊥) → refused 30 0 ≡ lineAnswer line
@@ -130,11 +113,12 @@ module _ (line : List ℕ) where
     pub too-short : length line < 5 → refused 30 0 ≡ lineAnswer line
     too-short s = cut (isDigit (byteAt line 1)) refl s
 
-    head : isDigit (byteAt line 1) ≡ true → byteAt line 4 ≡ 32 → checkBy (byteAt line 0) (byteAt line 2) (byteAt line 3) ≡ checkOf line
-    unfolding checkOf if_then_else_
+    head : isDigit (byteAt line 1) ≡ true → byteAt line 4 ≡ 32 → checkWith (byteAt line 0) (capturesIn (byteAt line 2) (byteAt line 3)) ≡ headCheck line
+    unfolding headCheck if_then_else_
     head e f = rw (e, eq-eqb (byteAt line 4) 32 f)
 
-    pub whole-head : isDigit (byteAt line 1) ≡ true → byteAt line 4 ≡ 32 → (a : Answer) (version : ℕ) → version ≡ byteAt line 1 - 48
-        → a ≡ bodyAnswer (checkBy (byteAt line 0) (byteAt line 2) (byteAt line 3)) version (take (length line - 5) (drop 5 line)) → a ≡ lineAnswer line
-    whole-head e f a version v w =
-        by-head a (w ∙ ap₂ (λ x y. bodyAnswer (checkBy (byteAt line 0) (byteAt line 2) (byteAt line 3)) x y) v (part-whole line 5) ∙ ap (λ x. bodyAnswer x (byteAt line 1 - 48) (drop 5 line)) (head e f))
+    pub whole-head : isDigit (byteAt line 1) ≡ true → byteAt line 4 ≡ 32 → (named : Option Check) (version : ℕ) (a : Answer)
+        → named ≡ checkWith (byteAt line 0) (capturesIn (byteAt line 2) (byteAt line 3)) → version ≡ byteAt line 1 - 48
+        → a ≡ bodyAnswer named version (take (length line - 5) (drop 5 line)) → a ≡ lineAnswer line
+    whole-head e f named version a n v w =
+        by-head a (w ∙ ap₂ (λ x y. bodyAnswer named x y) v (part-whole line 5) ∙ ap (λ x. bodyAnswer x (byteAt line 1 - 48) (drop 5 line)) (n ∙ head e f))

@@ -2,17 +2,15 @@
 -- Assumes nothing.
 use Prim.Native.Nat.{ℕ, _+_, _*_, _-_}
 use Prim.Native.Char.{code}
-use mathlib.Core.Bool.{Bool, true, false, _&&_}
+use mathlib.Core.Bool.{Bool, true, _&&_}
 use mathlib.Core.List.{List, _∷_, _++_}
 use mathlib.Core.Option.{Option, none, some}
 use lib.ListN.{length, drop}
 use lib.Dec.{eqb, leb, ltb}
 use Rattle.luck_text.specs.Bytes.{if_then_else_, byteAt, isDigit}
-use Rattle.luck_answer.specs.Answer.{Answer, refused, answerOf}
+use Rattle.luck_answer.specs.Answer.{Answer, refused}
 use Rattle.luck_pattern.specs.Captures.{maxCaptures}
-use Rattle.luck_linter.specs.Checks.{Check, format, pattern, pack, date, replacement, answer, numbers}
-use Rattle.luck_line.specs.declared.line.LineChecked.{LineChecked}
-use Rattle.luck_line.specs.declared.line.LineChecked.the-variants.{TooLong, Misfit, Body}
+use Rattle.luck_linter.specs.Checks.{Check, format, pattern, pack, date, replacement, checkOf, answer, numbers}
 
 -- the longest line that is checked, its newline not counted; a longer one is 31
 abbrev pub longest : ℕ
@@ -38,29 +36,16 @@ capturesIn tens units =
     else if isBlank tens && isDigit units then some (some (digit units))
     else twoDigits tens units
 
-unfoldable pub replacementWith : Option (Option ℕ) → Option Check
-replacementWith none = none
-replacementWith (some count) = some (replacement count)
-
--- the other kinds
-unfoldable pub plainCheck : ℕ → Option Check
-plainCheck kind =
-    if eqb kind (code "F") then some format
-    else if eqb kind (code "P") then some pattern
-    else if eqb kind (code "K") then some (pack false)
-    else if eqb kind (code "S") then some (pack true)
-    else if eqb kind (code "D") then some date else none
-
--- by the kind and the two columns, which are blank but for G
-unfoldable pub checkBy : ℕ → ℕ → ℕ → Option Check
-checkBy kind tens units =
-    if eqb kind (code "G") then replacementWith (capturesIn tens units)
-    else if isBlank tens && isBlank units then plainCheck kind else none
+-- by the kind and the columns, which are blank but for G
+unfoldable pub checkWith : ℕ → Option (Option ℕ) → Option Check
+checkWith kind none = none
+checkWith kind (some none) = checkOf kind none
+checkWith kind (some (some count)) = if eqb kind (code "G") then checkOf kind (some count) else none
 
 -- by the head; a line of fewer than five bytes has no space at its fifth place, which reads as 0
-unfoldable pub checkOf : List ℕ → Option Check
-checkOf line =
-    if isDigit (byteAt line 1) && isBlank (byteAt line 4) then checkBy (byteAt line 0) (byteAt line 2) (byteAt line 3) else none
+unfoldable pub headCheck : List ℕ → Option Check
+headCheck line =
+    if isDigit (byteAt line 1) && isBlank (byteAt line 4) then checkWith (byteAt line 0) (capturesIn (byteAt line 2) (byteAt line 3)) else none
 
 -- 30 where the head does not fit; else the check of the body, which gives 25 for a digit that is no version
 unfoldable pub bodyAnswer : Option Check → ℕ → List ℕ → Answer
@@ -70,14 +55,8 @@ bodyAnswer (some check) version body = answer check version body
 -- 31, 30, 25, then the body
 unfoldable pub lineAnswer : List ℕ → Answer
 lineAnswer line =
-    if ltb longest (length line) then refused 31 0 else bodyAnswer (checkOf line) (digit (byteAt line 1)) (drop 5 line)
+    if ltb longest (length line) then refused 31 0 else bodyAnswer (headCheck line) (digit (byteAt line 1)) (drop 5 line)
 
 -- the numbers of these answers: 31, 30, and those of the checks; packsize has all of a pack format's, and a replacement without captures all of the others'
 abbrev pub lineNumbers : List ℕ
 lineNumbers = 31 ∷ 30 ∷ (numbers format ++ numbers pattern ++ numbers (pack true) ++ numbers (replacement (some 0)) ++ numbers date)
-
--- the code's answers
-abbrev pub lineAnswerOf : LineChecked → Answer
-lineAnswerOf TooLong = refused 31 0
-lineAnswerOf Misfit = refused 30 0
-lineAnswerOf (Body checked) = answerOf checked

@@ -1,16 +1,21 @@
 // One line: kind, version digit, two columns of captures, a space, the body.
 ghost use mathlib.Core.Path.{_≡_};
-ghost use Rattle.luck_line.specs.Line.{digit as digitOf, twoDigits, capturesIn, replacementWith, plainCheck, checkBy, bodyAnswer, lineAnswer, lineAnswerOf};
+ghost use Rattle.luck_answer.specs.Answer.{checkAnswer};
+ghost use Rattle.luck_linter.specs.Checks.{checkNamed};
+ghost use Rattle.luck_line.specs.Line.{digit as digitOf, twoDigits, capturesIn, checkWith, bodyAnswer, lineAnswer};
 ghost use Rattle.luck_line.specs.Inner.{columnsOf};
-use luck_answer::format_pattern::Checked;
-use luck_format::date;
-use luck_format::format;
-use luck_pack::pack;
-use luck_pattern::pattern;
-use luck_pattern::replacement;
+use luck_answer::answer;
+use luck_answer::answer::Answer;
+use luck_linter::checks;
+use luck_linter::checks::Named;
 use luck_pattern::replacement::Captures;
 use luck_text::scan;
 use luck_text::scan::Class;
+
+// The most bytes of a line that is checked, and the bytes before its body.
+pub const LONGEST: usize = 4005;
+
+const HEAD: usize = 5;
 
 // The two columns of captures of a replacement.
 pub enum Columns {
@@ -19,21 +24,13 @@ pub enum Columns {
     Misfit,
 }
 
-pub enum LineChecked {
-    // more than 4,005 bytes
-    TooLong,
-    // no head of five bytes as it should be
-    Misfit,
-    Body(Checked),
-}
-
 fn digit(byte: u8) -> u32
     ensures { λ r. ⌜ r ≡ digitOf byte ⌝ }
 {
     if byte < b'0' {
         return 0;
     }
-    byte as u32 - 48
+    (byte - b'0') as u32
 }
 
 // A count of 10 to 32.
@@ -70,66 +67,51 @@ fn read_columns(tens: u8, units: u8) -> Columns
     two_digits(tens, units)
 }
 
-fn check_replacement(tens: u8, units: u8, version: u32, body: &[u8]) -> LineChecked
-    ensures { λ r. ⌜ lineAnswerOf r ≡ bodyAnswer (replacementWith (capturesIn tens units)) version (now (body .entry)) ⌝ }
+// The check that a head names by its kind and its columns, which are blank but for G.
+fn check_with(kind: u8, tens: u8, units: u8) -> Named
+    ensures { λ r. ⌜ checkNamed r ≡ checkWith kind (capturesIn tens units) ⌝ }
 {
     let found = read_columns(tens, units);
     match found {
         Columns::Unknown => {
             let captures = Captures::Unknown;
-            LineChecked::Body(replacement::validate_gsub_replacement(version, captures, body))
+            checks::check_of(kind, captures)
         }
         Columns::Count(count) => {
             let captures = Captures::Known(count);
-            LineChecked::Body(replacement::validate_gsub_replacement(version, captures, body))
+            if kind == b'G' {
+                return checks::check_of(kind, captures);
+            }
+            Named::Nothing
         }
-        Columns::Misfit => LineChecked::Misfit,
+        Columns::Misfit => Named::Nothing,
     }
 }
 
-fn check_plain(kind: u8, version: u32, body: &[u8]) -> LineChecked
-    ensures { λ r. ⌜ lineAnswerOf r ≡ bodyAnswer (plainCheck kind) version (now (body .entry)) ⌝ }
+fn check_body(named: Named, version: u32, body: &[u8]) -> Answer
+    ensures { λ r. ⌜ checkAnswer r ≡ bodyAnswer (checkNamed named) version (now (body .entry)) ⌝ }
 {
-    match kind {
-        b'F' => LineChecked::Body(format::validate_format(version, body)),
-        b'P' => LineChecked::Body(pattern::validate_lua_pattern(version, body)),
-        b'K' => LineChecked::Body(pack::validate_pack_format(version, false, body)),
-        b'S' => LineChecked::Body(pack::validate_pack_format(version, true, body)),
-        b'D' => LineChecked::Body(date::validate_os_date(version, body)),
-        _ => LineChecked::Misfit,
+    match named {
+        Named::Check(check) => answer::of_checked(checks::validate(check, version, body)),
+        Named::Nothing => answer::refused(30, 0),
     }
-}
-
-// By the kind and the two columns, which are blank but for G.
-fn check_body(kind: u8, tens: u8, units: u8, version: u32, body: &[u8]) -> LineChecked
-    ensures { λ r. ⌜ lineAnswerOf r ≡ bodyAnswer (checkBy kind tens units) version (now (body .entry)) ⌝ }
-{
-    if kind == b'G' {
-        return check_replacement(tens, units, version, body);
-    }
-    if tens == b' ' {
-        if units == b' ' {
-            return check_plain(kind, version, body);
-        }
-    }
-    LineChecked::Misfit
 }
 
 // What is answered for a line, its newline not counted.
-pub fn check_line(line: &[u8]) -> LineChecked
-    ensures { λ r. ⌜ lineAnswerOf r ≡ lineAnswer (now (line .entry)) ⌝ }
+pub fn check_line(line: &[u8]) -> Answer
+    ensures { λ r. ⌜ checkAnswer r ≡ lineAnswer (now (line .entry)) ⌝ }
 {
-    if 4005 < line.len() {
-        return LineChecked::TooLong;
+    if LONGEST < line.len() {
+        return answer::refused(31, 0);
     }
-    if line.len() < 5 {
-        return LineChecked::Misfit;
+    if line.len() < HEAD {
+        return answer::refused(30, 0);
     }
     if scan::is_in(Class::Digit, line[1]) {
         if line[4] == b' ' {
-            let version = digit(line[1]);
-            return check_body(line[0], line[2], line[3], version, &line[5..]);
+            let named = check_with(line[0], line[2], line[3]);
+            return check_body(named, digit(line[1]), &line[HEAD..]);
         }
     }
-    LineChecked::Misfit
+    answer::refused(30, 0)
 }

@@ -2,11 +2,11 @@
 ghost use mathlib.Core.Path.{_≡_};
 ghost use Prim.Native.Nat.{_+_, _%_, _<_};
 ghost use Rattle.luck_answer.specs.Answer.{checkAnswer};
-ghost use Rattle.luck_line.specs.Line.{lineAnswerOf};
 ghost use Rattle.luck_line.specs.Row.{column, row, answerRow};
-use crate::line::LineChecked;
-use luck_answer::answer;
 use luck_answer::answer::Answer;
+
+// The bytes of a row, its newline included.
+pub const ROW: usize = 19;
 
 // The digit at a power of ten, or a blank in the place of a leading zero.
 fn column(power: u64, n: u64) -> u8
@@ -14,19 +14,19 @@ fn column(power: u64, n: u64) -> u8
     ensures { λ r. ⌜ r ≡ column power n ⌝ }
 {
     if n < power {
-        return 32;
+        return b' ';
     }
-    48 + (n / power % 10) as u8
+    b'0' + (n / power % 10) as u8
 }
 
 fn last_column(n: u64) -> u8
     ensures { λ r. ⌜ r ≡ 48 + n % 10 ⌝ }
 {
-    48 + (n % 10) as u8
+    b'0' + (n % 10) as u8
 }
 
 // Number, offset and count in 4, 7 and 7 columns.
-fn row_of(number: u64, offset: u64, count: u64) -> [u8; 19]
+fn row_of(number: u64, offset: u64, count: u64) -> [u8; ROW]
     ensures { λ r. ⌜ r ≡ row number offset count ⌝ }
 {
     [
@@ -48,11 +48,11 @@ fn row_of(number: u64, offset: u64, count: u64) -> [u8; 19]
         column(100, count),
         column(10, count),
         last_column(count),
-        10,
+        b'\n',
     ]
 }
 
-fn of_answer(answer: Answer) -> [u8; 19]
+pub fn of_answer(answer: Answer) -> [u8; ROW]
     ensures { λ r. ⌜ r ≡ answerRow (checkAnswer answer) ⌝ }
 {
     row_of(
@@ -60,14 +60,4 @@ fn of_answer(answer: Answer) -> [u8; 19]
         answer.offset as u64,
         answer.count as u64,
     )
-}
-
-pub fn of_line(checked: LineChecked) -> [u8; 19]
-    ensures { λ r. ⌜ r ≡ answerRow (lineAnswerOf checked) ⌝ }
-{
-    match checked {
-        LineChecked::TooLong => of_answer(answer::refused(31, 0)),
-        LineChecked::Misfit => of_answer(answer::refused(30, 0)),
-        LineChecked::Body(body) => of_answer(answer::of_checked(body)),
-    }
 }

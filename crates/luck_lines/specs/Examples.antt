@@ -17,13 +17,14 @@ use Rattle.luck_pack.specs.Pack.{getnumlimit, fixedString, numberedOption, geto
 use Rattle.luck_pattern.specs.Replacement.{escaped, pieces, allowsDigit, piecesWalk, checkReplacement}
 use Rattle.luck_format.specs.Format.{isFlag, isModifier, getFormat, scanPrecision, scanWidth, scanFormat, modifiersAt, isConversion, flagsFor, flagsRun, takesPrecision, afterTwoDigits, goodModifiers, conversionTurn, specifierTurn, percentTurn, formatTurn, formatEnd, formatWalk, checkFormat}
 use Rattle.luck_format.specs.Date.{secondBytes, isPair, singleWidth, pairWidth, conversionWidth, dateTurn, dateEnd, isStarT, isTable, conversionsWalk, dateWalk, checkDate}
-use Rattle.luck_line.specs.Line.{lineNumbers, twoDigits, capturesIn, replacementWith, plainCheck, checkBy, checkOf, bodyAnswer, lineAnswer}
+use Rattle.luck_linter.specs.Checks.{checkOf}
+use Rattle.luck_line.specs.Line.{lineNumbers, twoDigits, capturesIn, checkWith, headCheck, bodyAnswer, lineAnswer}
 use Rattle.luck_line.specs.Row.{newline, column, justified, fourColumns, sevenColumns, row}
 use Rattle.luck_lines.specs.Lines.{lastLine, linesFrom, lines, rows, listing}
 
 -- what is computed
 unfoldable pub computed : Unit {0}
-unfolding if_then_else_ among isDigit isXdigit run digitValue numeralFrom numeral walk walkFrom isVersion versions has rulesOf rfc3629 tailsOf follow widthBy sequence sequenceAt noneIllFormed illFormed codePoint charAt afterVersion afterUtf8 checkText closeLatest isClosed allClosed headOf escapeOf escapeAt memberAt memberBy memberTurn membersEnd firstMember setEnd isEmptySet closedAs reversedOf setAs setRead escapeAs escapeRead onward afterClose headTurn patternTurn patternEnd patternWalk checkPatternAs checkPattern escaped pieces allowsDigit piecesWalk checkReplacement isFlag isModifier getFormat scanPrecision scanWidth scanFormat modifiersAt isConversion flagsFor flagsRun takesPrecision afterTwoDigits goodModifiers conversionTurn specifierTurn percentTurn formatTurn formatEnd formatWalk checkFormat secondBytes isPair singleWidth pairWidth conversionWidth dateTurn dateEnd isStarT isTable conversionsWalk dateWalk checkDate getnumlimit fixedString numberedOption getoption kindOf numberOr luckSizeof luckSize maxalign isPowerOfTwo isMisaligned aligned variable alignBy alignmentOf alignToNext kindTurn optionTurn packTurn packEnd packWalk checkPack twoDigits capturesIn replacementWith plainCheck checkBy checkOf bodyAnswer lineAnswer column justified fourColumns sevenColumns row lastLine linesFrom lines rows listing
+unfolding if_then_else_ among isDigit isXdigit run digitValue numeralFrom numeral walk walkFrom isVersion versions has rulesOf rfc3629 tailsOf follow widthBy sequence sequenceAt noneIllFormed illFormed codePoint charAt afterVersion afterUtf8 checkText closeLatest isClosed allClosed headOf escapeOf escapeAt memberAt memberBy memberTurn membersEnd firstMember setEnd isEmptySet closedAs reversedOf setAs setRead escapeAs escapeRead onward afterClose headTurn patternTurn patternEnd patternWalk checkPatternAs checkPattern escaped pieces allowsDigit piecesWalk checkReplacement isFlag isModifier getFormat scanPrecision scanWidth scanFormat modifiersAt isConversion flagsFor flagsRun takesPrecision afterTwoDigits goodModifiers conversionTurn specifierTurn percentTurn formatTurn formatEnd formatWalk checkFormat secondBytes isPair singleWidth pairWidth conversionWidth dateTurn dateEnd isStarT isTable conversionsWalk dateWalk checkDate getnumlimit fixedString numberedOption getoption kindOf numberOr luckSizeof luckSize maxalign isPowerOfTwo isMisaligned aligned variable alignBy alignmentOf alignToNext kindTurn optionTurn packTurn packEnd packWalk checkPack checkOf twoDigits capturesIn checkWith headCheck bodyAnswer lineAnswer column justified fourColumns sevenColumns row lastLine linesFrom lines rows listing
 computed = tt
 
 abbrev line : List ℕ → List ℕ → List ℕ

@@ -4,10 +4,13 @@ ghost use mathlib.Core.Path.{_≡_};
 ghost use mathlib.Core.List.{_++_};
 ghost use Prim.Native.Nat.{_+_, _≤_};
 ghost use lib.ListN.{length, drop};
-ghost use Rattle.luck_lines.specs.Stream.{lineLength, rowOf, feed, finish, fedOf, inFront};
+ghost use Rattle.luck_lines.specs.Stream.{rowLength, lineLength, rowOf, feed, finish, fedOf, inFront};
 ghost use Rattle.luck_lines.specs.Inner.{unendedAt};
+use luck_answer::answer;
 use luck_line::line;
+use luck_line::line::LONGEST;
 use luck_line::row;
+use luck_line::row::ROW;
 use luck_text::blocks;
 
 // `used` bytes of the input were taken and `wrote` bytes of the output written. `long`: the line that goes on after them is too long already.
@@ -32,18 +35,18 @@ fn line_end(input: &[u8], at: usize) -> usize
     end
 }
 
-fn row_of(line: &[u8], long: bool) -> [u8; 19]
+fn row_of(line: &[u8], long: bool) -> [u8; ROW]
     ensures { λ r. ⌜ r ≡ rowOf long (now (line .entry)) ⌝ }
 {
     if long {
-        return row::of_line(line::LineChecked::TooLong);
+        return row::of_answer(answer::refused(31, 0));
     }
-    row::of_line(line::check_line(line))
+    row::of_answer(line::check_line(line))
 }
 
 fn put_row(line: &[u8], long: bool, output: &mut [u8])
-    requires { ⌜ 19 ≤ length (now output) ⌝ }
-    ensures { λ r. ⌜ now (output .exit) ≡ rowOf long (now (line .entry)) ++ drop 19 (now (output .entry)) ⌝ }
+    requires { ⌜ rowLength ≤ length (now output) ⌝ }
+    ensures { λ r. ⌜ now (output .exit) ≡ rowOf long (now (line .entry)) ++ drop rowLength (now (output .entry)) ⌝ }
 {
     let bytes = row_of(line, long);
     bytes::copy(&bytes, output);
@@ -63,7 +66,7 @@ pub fn feed(input: &[u8], output: &mut [u8], long: bool) -> Fed
         if end == input.len() {
             return unended(input.len(), used, wrote, is_long);
         }
-        if output.len() - wrote < 19 {
+        if output.len() - wrote < ROW {
             return Fed {
                 used,
                 wrote,
@@ -72,7 +75,7 @@ pub fn feed(input: &[u8], output: &mut [u8], long: bool) -> Fed
         }
         put_row(&input[used..end], is_long, &mut output[wrote..]);
         used = end + 1;
-        wrote += 19;
+        wrote += ROW;
         is_long = false;
     }
     unended(input.len(), used, wrote, is_long)
@@ -90,7 +93,7 @@ fn unended(length: usize, used: usize, wrote: usize, long: bool) -> Fed
             long: true,
         };
     }
-    if 4005 < length - used {
+    if LONGEST < length - used {
         return Fed {
             used: length,
             wrote,
@@ -111,16 +114,16 @@ pub fn finish(left: &[u8], output: &mut [u8], long: bool) -> usize
     ensures output { λ r. ⌜ now (output .exit) ≡ inFront (finish long (now (left .entry)) (length (now (output .entry)))) (now (output .entry)) ⌝ }
     ensures within { λ r. ⌜ r ≤ length (now (output .entry)) ⌝ }
 {
-    if output.len() < 19 {
+    if output.len() < ROW {
         return 0;
     }
     if long {
         put_row(left, long, output);
-        return 19;
+        return ROW;
     }
     if left.len() == 0 {
         return 0;
     }
     put_row(left, long, output);
-    19
+    ROW
 }

@@ -8,13 +8,12 @@ use mathlib.Core.List.{List}
 use lib.ListN.{length}
 use borrow.Author.Tests.{leb-false}
 use Rattle.luck_text.specs.Bytes.{among}
-use Rattle.luck_token.specs.Version.{rulesOf}
 use Rattle.luck_text.specs.Walk.{Turn}
 use Rattle.luck_text.proofs.Cases.{by-test}
 use Rattle.luck_answer.specs.Answer.{Answer}
-use Rattle.luck_linter.specs.Checks.{date, answer, numbers}
-use Rattle.luck_format.specs.Date.{checksDates, hasDateOptions, dateTurn, dateEnd, conversionsWalk, dateWalk, checkDate}
-use Rattle.luck_linter.proofs.Counts.{Counts, walk-counts, Bounded, check-bounded}
+use Rattle.luck_linter.specs.Checks.{date, numbers}
+use Rattle.luck_format.specs.Date.{dateTurn, dateEnd, conversionsWalk, dateWalk}
+use Rattle.luck_linter.proofs.Counts.{Counts, walk-counts, Bounded}
 
 module _ (text : List ℕ) where
   abbrev AnswerIn : Answer → Type 0
@@ -42,7 +41,3 @@ module _ (text : List ℕ) where
     pub date-bounded : (checked : Bool) → Bounded (length text) (numbers date) (dateWalk checked options text)
     unfolding dateWalk among
     date-bounded checked = by-test AnswerIn _ _ _ (λ _. (omega arith, refl, omega arith)) (λ _. conversions)
-
-  pub check-date : (version : ℕ) → Bounded (length text) (numbers date) (answer date version text)
-  unfolding checkDate among
-  check-date version = check-bounded text (numbers date) refl refl version (dateWalk (checksDates (rulesOf version)) (hasDateOptions (rulesOf version)) text) (date-bounded (hasDateOptions (rulesOf version)) (checksDates (rulesOf version)))

@@ -9,13 +9,12 @@ use lib.ListN.{length, drop}
 use lib.Dec.{eqb, ltb}
 use borrow.Author.Tests.{ltb-true, leb-true, eqb-true, leb-false}
 use Rattle.luck_text.specs.Bytes.{byteAt, among, isDigit, run}
-use Rattle.luck_token.specs.Version.{rulesOf}
 use Rattle.luck_text.specs.Walk.{Turn}
 use Rattle.luck_token.specs.declared.version.Rules.{Rules}
 use Rattle.luck_text.proofs.Cases.{by-test, and-right, present}
 use Rattle.luck_text.proofs.Bytes.{run-inside}
 use Rattle.luck_answer.specs.Answer.{Answer}
-use Rattle.luck_linter.specs.Checks.{format, answer, numbers}
+use Rattle.luck_linter.specs.Checks.{format, numbers}
 use Rattle.luck_format.specs.Format.{
   isFlag,
   Modifiers,
@@ -33,9 +32,8 @@ use Rattle.luck_format.specs.Format.{
   formatTurn,
   formatEnd,
   formatWalk,
-  checkFormat,
 }
-use Rattle.luck_linter.proofs.Counts.{Counts, walk-counts, Bounded, check-bounded}
+use Rattle.luck_linter.proofs.Counts.{Counts, walk-counts, Bounded}
 
 module _ (text : List ℕ) where
   abbrev AnswerIn : Answer → Type 0
@@ -109,7 +107,3 @@ module _ (text : List ℕ) where
   pub format-bounded : (rules : Rules) → Bounded (length text) (numbers format) (formatWalk rules text)
   unfolding formatWalk
   format-bounded rules = walk-counts (formatTurn rules text) formatEnd (length text) (λ n. n) AnswerIn (step rules) at-end 0 refl
-
-  pub check-format : (version : ℕ) → Bounded (length text) (numbers format) (answer format version text)
-  unfolding checkFormat among
-  check-format version = check-bounded text (numbers format) refl refl version (formatWalk (rulesOf version) text) (format-bounded (rulesOf version))

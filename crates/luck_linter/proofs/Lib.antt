@@ -5,5 +5,6 @@ pub mod ReplacementAnswers
 pub mod FormatAnswers
 pub mod PackAnswers
 pub mod DateAnswers
+pub mod Checked
 pub mod LiteralAnswers
 pub mod Refusals

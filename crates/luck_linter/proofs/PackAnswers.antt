@@ -13,8 +13,8 @@ use Rattle.luck_text.specs.Walk.{Turn}
 use Rattle.luck_text.proofs.Cases.{by-test}
 use Rattle.luck_text.proofs.Among.{every-among}
 use Rattle.luck_answer.specs.Answer.{Answer}
-use Rattle.luck_linter.specs.Checks.{pack, answer, numbers}
-use Rattle.luck_linter.proofs.Counts.{Counts, walk-counts, Bounded, check-bounded}
+use Rattle.luck_linter.specs.Checks.{pack, numbers}
+use Rattle.luck_linter.proofs.Counts.{Counts, walk-counts, Bounded}
 use Rattle.luck_pack.specs.Pack.{
   PackOption,
   Read,
@@ -50,7 +50,6 @@ use Rattle.luck_pack.specs.Pack.{
   packEnd,
   luckSize,
   packWalk,
-  checkPack,
 }
 
 abbrev valuesOf : State → ℕ
@@ -145,7 +144,3 @@ module _ (packsize : Bool) (text : List ℕ) where
   pub pack-bounded : Bounded (length text) (numbers (pack packsize)) (packWalk packsize text)
   unfolding packWalk
   pack-bounded = walk-counts (packTurn luckSize packsize text) packEnd (length text) valuesOf Placed (λ p s h. item-placed p h s) end-placed (state 0 1) refl
-
-  pub check-pack : (version : ℕ) → Bounded (length text) (numbers (pack packsize)) (answer (pack packsize) version text)
-  unfolding checkPack among
-  check-pack version = check-bounded text (numbers (pack packsize)) (also packsize 23 refl) (also packsize 25 refl) version (packWalk packsize text) pack-bounded

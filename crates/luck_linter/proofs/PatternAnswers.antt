@@ -13,9 +13,9 @@ use Rattle.luck_text.specs.Bytes.{if_then_else_, byteAt, among}
 use Rattle.luck_text.specs.Walk.{Turn}
 use Rattle.luck_text.proofs.Cases.{by-test, present}
 use Rattle.luck_answer.specs.Answer.{Answer}
-use Rattle.luck_linter.specs.Checks.{pattern, answer, numbers}
+use Rattle.luck_linter.specs.Checks.{pattern, numbers}
 use Rattle.luck_answer.proofs.Answers.{Stops, walk-every}
-use Rattle.luck_linter.proofs.Counts.{Counts, walk-counts, Bounded, check-bounded}
+use Rattle.luck_linter.proofs.Counts.{Counts, walk-counts, Bounded}
 use Rattle.luck_pattern.specs.Captures.{closeHere, closeLatest, isClosed, allClosed}
 use Rattle.luck_pattern.specs.Pattern.{
   Head,
@@ -63,8 +63,6 @@ use Rattle.luck_pattern.specs.Pattern.{
   patternTurn,
   patternEnd,
   patternWalk,
-  checkPatternAs,
-  checkPattern,
 }
 
 abbrev AnswerIn : ℕ → Answer → Type 0
@@ -171,7 +169,3 @@ module _ (text : List ℕ) where
   pub pattern-bounded : Bounded (length text) (numbers pattern) (patternWalk false text)
   unfolding patternWalk
   pattern-bounded = walk-counts (patternTurn false text) (patternEnd text) (length text) length (AnswerIn (length text)) (λ p captures h. turn-in p captures h) last-in [] refl
-
-  pub check-pattern : (version : ℕ) → Bounded (length text) (numbers pattern) (answer pattern version text)
-  unfolding checkPattern checkPatternAs among
-  check-pattern version = check-bounded text (numbers pattern) refl refl version (patternWalk false text) pattern-bounded

@@ -10,12 +10,11 @@ use lib.ListN.{length}
 use lib.Dec.{leb}
 use borrow.Author.Tests.{leb-true, le-leb}
 use Rattle.luck_text.specs.Bytes.{among, isDigit}
-use Rattle.luck_token.specs.Version.{rulesOf}
 use Rattle.luck_text.proofs.Cases.{by-test, and-right}
 use Rattle.luck_answer.specs.Answer.{Answer, refused}
-use Rattle.luck_linter.specs.Checks.{replacement, answer, numbers}
-use Rattle.luck_pattern.specs.Replacement.{Piece, literal, digit, percent, other, lone, isStrict, escaped, pieces, allowsDigit, piecesWalk, checkReplacement}
-use Rattle.luck_linter.proofs.Counts.{Bounded, check-bounded}
+use Rattle.luck_linter.specs.Checks.{replacement, numbers}
+use Rattle.luck_pattern.specs.Replacement.{Piece, literal, digit, percent, other, lone, escaped, pieces, allowsDigit, piecesWalk}
+use Rattle.luck_linter.proofs.Counts.{Bounded}
 
 -- ---- The pieces are as long as their text
 
@@ -104,7 +103,3 @@ module _ (strict : Bool) (captures : Option ℕ) (len : ℕ) where
 module _ (captures : Option ℕ) (text : List ℕ) where
   pub replacement-bounded : (strict : Bool) → Bounded (length text) (numbers (replacement captures)) (piecesWalk strict captures (pieces text) 0)
   replacement-bounded strict = walk-bounded strict captures (length text) (pieces text) 0 (pieces-small text) (omega (arith, pieces-width text))
-
-  pub check-replacement : (version : ℕ) → Bounded (length text) (numbers (replacement captures)) (answer (replacement captures) version text)
-  unfolding checkReplacement among
-  check-replacement version = check-bounded text (numbers (replacement captures)) refl refl version (piecesWalk (isStrict (rulesOf version)) captures (pieces text) 0) (replacement-bounded (isStrict (rulesOf version)))

@@ -4,25 +4,35 @@ use Prim.Native.Nat.{ℕ, suc, _+_, _-_, _≤_, _<_, min}
 use native.Mathlib.Numerals.{add-one}
 use native.Mathlib.Omega.{arith}
 use mathlib.Core.Path.{_≡_, refl, sym, ap, ap₂, _∙_}
-use mathlib.Core.Bool.{Bool, true, false, not, _||_}
+use mathlib.Core.Bool.{Bool, true, false, _||_}
 use mathlib.Core.List.{List, [], _∷_}
 use mathlib.Core.Option.{Option, none, some}
 use lib.ListN.{length, drop, drop-of-length-le}
 use lib.Seq.{drop-cons}
-use lib.Dec.{eqb}
 use borrow.Author.Tests.{eq-eqb, ne-eqb}
 use Rattle.luck_text.specs.Bytes.{if_then_else_, byteAt, part}
-use Rattle.luck_token.specs.Version.{isVersion, rulesOf}
-use Rattle.luck_utf8.specs.Utf8.{illFormed}
+use Rattle.luck_token.specs.Version.{rulesOf}
 use Rattle.luck_token.specs.Literal.{isShort, shortStringBody}
 use Rattle.luck_token.specs.Span.{u32-max, spanOf, shiftedBy}
 use Rattle.luck_token.specs.declared.version.Rules.{Rules}
 use Rattle.luck_token.specs.declared.span.Span.{Span}
 use Rattle.luck_text.proofs.Cases.{if-true, if-false}
-use Rattle.luck_answer.specs.Answer.{Answer, accepted, refused, refusal}
-use Rattle.luck_linter.specs.StringLiteral.{isKind, bodyWalk, isNumericEscape, hasNumericEscape, skippedAnswer, unspanned, spannedAnswer, spanAt, withSpan, checkBody, checkShort, afterText, checkLiteral}
-use Rattle.luck_answer.specs.declared.format_pattern.PatternError.{PatternError}
-use Rattle.luck_answer.specs.declared.format_pattern.PatternError.the-variants as error
+use Rattle.luck_token.proofs.Literals.{both-quotes}
+use Rattle.luck_answer.specs.Answer.{Answer, accepted, checkText}
+use Rattle.luck_linter.specs.Checks.{Check, checkOf, walkOf}
+use Rattle.luck_linter.specs.StringLiteral.{
+  isNumericEscape,
+  hasNumericEscape,
+  skippedAnswer,
+  unspanned,
+  spannedAnswer,
+  spanAt,
+  withSpan,
+  checkBody,
+  checkShort,
+  checkNamedLiteral,
+  checkLiteral,
+}
 
 -- ---- Numeric escapes
 
@@ -92,54 +102,28 @@ moved-span start from width =
 
 -- ---- The body
 
--- a fault is no acceptance
-numbered : (fault : PatternError) → eqb (refusal fault .number) 0 ≡ false
-numbered (error.TruncatedSpecifier o) = refl
-numbered (error.UnknownSpecifier o c) = refl
-numbered (error.BadFlag o c) = refl
-numbered (error.BadWidth o) = refl
-numbered (error.BadPrecision o) = refl
-numbered (error.BadModifier o m c) = refl
-numbered (error.LongSpecifier o) = refl
-numbered (error.UnterminatedSet o) = refl
-numbered (error.EmptySet o) = refl
-numbered (error.BadEscape o c) = refl
-numbered (error.UnmatchedCapture o) = refl
-numbered (error.TooManyCaptures o) = refl
-numbered (error.BadBackReference o) = refl
-numbered (error.InvalidPackOption o c) = refl
-numbered (error.TruncatedPackSize o) = refl
-numbered (error.PackSizeOutOfLimits o) = refl
-numbered (error.BadPackAlignment o) = refl
-numbered (error.VariableLengthPackOption o c) = refl
-numbered (error.LonePercent o) = refl
-numbered (error.BadReplacementEscape o) = refl
-numbered (error.CaptureIndexOutOfRange o) = refl
-numbered (error.BadDateSpecifier o) = refl
-
-module _ (kind : ℕ) (rules : Rules) (captures : Option ℕ) (start : ℕ) (body : List ℕ) where
-  pub body-skipped : hasNumericEscape body ≡ true → skippedAnswer ≡ checkBody kind rules captures start body
+module _ (check : Check) (rules : Rules) (start : ℕ) (body : List ℕ) where
+  pub body-skipped : hasNumericEscape body ≡ true → skippedAnswer ≡ checkBody check rules start body
   unfolding checkBody
   body-skipped e = sym (if-true _ _ _ e)
 
-  walked : hasNumericEscape body ≡ false → (a : Answer) → a ≡ bodyWalk kind rules captures body → withSpan start body a ≡ checkBody kind rules captures start body
-  unfolding checkBody
-  walked e a w = ap (withSpan start body) w ∙ sym (if-false _ _ _ e)
+  module _ (e : hasNumericEscape body ≡ false) (a : Answer) (w : a ≡ walkOf check rules body) where
+    walked : withSpan start body a ≡ checkBody check rules start body
+    unfolding checkBody
+    walked = ap (withSpan start body) w ∙ sym (if-false _ _ _ e)
 
-  pub body-accepted : hasNumericEscape body ≡ false → (n : ℕ) → accepted n ≡ bodyWalk kind rules captures body → unspanned (accepted n) ≡ checkBody kind rules captures start body
-  unfolding withSpan if_then_else_
-  body-accepted e n w = walked e (accepted n) w
+    pub body-accepted : a .number ≡ 0 → unspanned a ≡ checkBody check rules start body
+    unfolding withSpan
+    body-accepted z = sym (if-true _ _ _ (eq-eqb (a .number) 0 z)) ∙ walked
 
-  pub body-refused : hasNumericEscape body ≡ false → (fault : PatternError) (span : Span) → refusal fault ≡ bodyWalk kind rules captures body
-      → span ≡ spanAt start body (refusal fault .offset) → spannedAnswer (refusal fault) span ≡ checkBody kind rules captures start body
-  unfolding withSpan
-  body-refused e fault span w s =
-      ap (spannedAnswer (refusal fault)) s ∙ sym (if-false _ _ _ (numbered fault)) ∙ walked e (refusal fault) w
+    pub body-refused : (a .number ≡ 0 → ⊥) → (span : Span) → span ≡ spanAt start body (a .offset) → spannedAnswer a span ≡ checkBody check rules start body
+    unfolding withSpan
+    body-refused n span s = ap (spannedAnswer a) s ∙ sym (if-false _ _ _ (ne-eqb (a .number) 0 n)) ∙ walked
 
 -- ---- The literal
 
 -- where the body of a short string stands
-pub short-places : (raw : List ℕ) (a b : ℕ) → some (a, b) ≡ shortStringBody raw → (isShort raw ≡ true) × (a ≡ 1) × (b ≡ length raw - 1)
+short-places : (raw : List ℕ) (a b : ℕ) → some (a, b) ≡ shortStringBody raw → (isShort raw ≡ true) × (a ≡ 1) × (b ≡ length raw - 1)
 short-places raw a b e = go (isShort raw) refl
   where
     go : (t : Bool) → isShort raw ≡ t → (isShort raw ≡ true) × (a ≡ 1) × (b ≡ length raw - 1)
@@ -152,7 +136,13 @@ short-places raw a b e = go (isShort raw) refl
         let z : _≡_ {A = ℕ} 0 1 = cc in
         absurd (omega arith)
 
-pub no-places : (raw : List ℕ) → none ≡ shortStringBody raw → isShort raw ≡ false
+pub places-in : (raw : List ℕ) (a b : ℕ) → some (a, b) ≡ shortStringBody raw → (a ≤ b) × (b ≤ length raw)
+places-in raw a b e =
+    let s = short-places raw a b e in
+    let two = both-quotes raw (s .0) in
+    (omega (arith, s .1, s .2, two), omega (arith, s .2))
+
+no-places : (raw : List ℕ) → none ≡ shortStringBody raw → isShort raw ≡ false
 no-places raw e = go (isShort raw) refl
   where
     go : (t : Bool) → isShort raw ≡ t → isShort raw ≡ false
@@ -162,34 +152,30 @@ no-places raw e = go (isShort raw) refl
         absurd (omega arith)
     go false s = s
 
-module _ (kind : ℕ) (rules : Rules) (captures : Option ℕ) (start : ℕ) (text : List ℕ) where
-  pub short : isShort text ≡ true → checkBody kind rules captures start (part text 1 (length text - 1)) ≡ checkShort kind rules captures start text
-  unfolding checkShort
-  short e = sym (if-true _ _ _ e)
+module _ (check : Check) (start : ℕ) (text : List ℕ) where
+  module _ (rules : Rules) where
+    pub short : (a b : ℕ) → some (a, b) ≡ shortStringBody text → checkBody check rules start (part text a b) ≡ checkShort check rules start text
+    unfolding checkShort
+    short a b e =
+        let s = short-places text a b e in
+        ap₂ (λ (x y : ℕ). checkBody check rules start (part text x y)) (s .1) (s .2) ∙ sym (if-true _ _ _ (s .0))
 
-  pub no-short : isShort text ≡ false → skippedAnswer ≡ checkShort kind rules captures start text
-  unfolding checkShort
-  no-short e = sym (if-false _ _ _ e)
+    pub no-short : none ≡ shortStringBody text → skippedAnswer ≡ checkShort check rules start text
+    unfolding checkShort
+    no-short e = sym (if-false _ _ _ (no-places text e))
 
-module _ (kind version : ℕ) (captures : Option ℕ) (start : ℕ) (text : List ℕ) where
-  pub unknown-kind : isKind kind ≡ false → unspanned (refused 30 0) ≡ checkLiteral kind version captures start text
-  unfolding checkLiteral
-  unknown-kind k = sym (if-true _ _ _ (ap not k))
+  -- by what comes before every check
+  module _ (version : ℕ) (a : Answer) (t : a ≡ checkText version text (accepted 0)) where
+    pub text-passes : a .number ≡ 0 → checkShort check (rulesOf version) start text ≡ checkNamedLiteral (some check) version start text
+    unfolding checkNamedLiteral
+    text-passes z = sym (if-true _ _ _ (eq-eqb _ 0 (ap (λ x. x .number) (sym t) ∙ z)))
 
-  module _ (k : isKind kind ≡ true) where
-    pub unknown-version : isVersion version ≡ false → unspanned (refused 25 0) ≡ checkLiteral kind version captures start text
-    unfolding checkLiteral
-    unknown-version v = sym (if-false _ _ _ (ap not k) ∙ if-true _ _ _ (ap not v))
+    pub text-refused : (a .number ≡ 0 → ⊥) → unspanned a ≡ checkNamedLiteral (some check) version start text
+    unfolding checkNamedLiteral
+    text-refused n = ap unspanned t ∙ sym (if-false _ _ _ (ne-eqb _ 0 (λ z. n (ap (λ x. x .number) t ∙ z))))
 
-    by-text : isVersion version ≡ true → (u : Option ℕ) → u ≡ illFormed text
-        → afterText u (checkShort kind (rulesOf version) captures start text) ≡ checkLiteral kind version captures start text
-    unfolding checkLiteral
-    by-text v u e = ap (λ x. afterText x (checkShort kind (rulesOf version) captures start text)) e ∙ sym (if-false _ _ _ (ap not k) ∙ if-false _ _ _ (ap not v))
-
-    pub not-utf8 : isVersion version ≡ true → (place : ℕ) → some place ≡ illFormed text → unspanned (refused 23 place) ≡ checkLiteral kind version captures start text
-    unfolding afterText
-    not-utf8 v place e = by-text v (some place) e
-
-    pub checked : isVersion version ≡ true → none ≡ illFormed text → checkShort kind (rulesOf version) captures start text ≡ checkLiteral kind version captures start text
-    unfolding afterText
-    checked v e = by-text v none e
+-- by the check that is named, or none
+pub by-kind : (kind version : ℕ) (captures : Option ℕ) (start : ℕ) (text : List ℕ) (named : Option Check) → named ≡ checkOf kind captures
+    → checkNamedLiteral named version start text ≡ checkLiteral kind version captures start text
+unfolding checkLiteral
+by-kind kind version captures start text named e = ap (λ n. checkNamedLiteral n version start text) e

@@ -5,21 +5,21 @@ use Prim.Native.Char.{code}
 use mathlib.Core.Path.{_≡_, refl}
 use mathlib.Core.Bool.{true, false}
 use mathlib.Core.List.{List, [], _∷_, _++_}
-use mathlib.Core.Option.{none, some}
+use mathlib.Core.Option.{Option, none, some}
 use Rattle.luck_text.specs.Bytes.{ascii, if_then_else_, among, isDigit, run, digitValue, numeralFrom, numeral}
 use Rattle.luck_text.specs.Walk.{walk, walkFrom}
 use Rattle.luck_token.specs.Version.{isVersion, versions, has, rulesOf}
 use Rattle.luck_token.specs.Literal.{isShort}
 use Rattle.luck_utf8.specs.Utf8.{rfc3629, tailsOf, follow, widthBy, sequence, sequenceAt, noneIllFormed, illFormed}
-use Rattle.luck_answer.specs.Answer.{afterVersion, afterUtf8, checkText}
+use Rattle.luck_answer.specs.Answer.{Answer, afterVersion, afterUtf8, checkText}
 use Rattle.luck_pattern.specs.Captures.{closeLatest, isClosed, allClosed}
 use Rattle.luck_pattern.specs.Pattern.{headOf, escapeOf, escapeAt, memberAt, memberBy, memberTurn, membersEnd, firstMember, setEnd, isEmptySet, closedAs, reversedOf, setAs, setRead, escapeAs, escapeRead, onward, afterClose, headTurn, patternTurn, patternEnd, patternWalk, checkPatternAs, checkPattern}
 use Rattle.luck_pattern.specs.Replacement.{escaped, pieces, allowsDigit, piecesWalk, checkReplacement}
 use Rattle.luck_format.specs.Format.{isFlag, isModifier, getFormat, scanPrecision, scanWidth, scanFormat, modifiersAt, isConversion, flagsFor, flagsRun, takesPrecision, afterTwoDigits, goodModifiers, conversionTurn, specifierTurn, percentTurn, formatTurn, formatEnd, formatWalk, checkFormat}
 use Rattle.luck_format.specs.Date.{secondBytes, isPair, singleWidth, pairWidth, conversionWidth, dateTurn, dateEnd, isStarT, isTable, conversionsWalk, dateWalk, checkDate}
 use Rattle.luck_pack.specs.Pack.{getnumlimit, fixedString, numberedOption, getoption, kindOf, numberOr, luckSizeof, luckSize, maxalign, isPowerOfTwo, isMisaligned, aligned, variable, alignBy, alignmentOf, alignToNext, kindTurn, optionTurn, packTurn, packEnd, packWalk, checkPack}
-use Rattle.luck_linter.specs.StringLiteral.{isKind, bodyWalk, isNumericEscape, hasNumericEscape, withSpan, checkBody, checkShort, afterText, checkLiteral}
-use Rattle.luck_linter.specs.Checks.{Check, pattern, format, date, replacement, pack, literal, answer, kindCheck, numbers}
+use Rattle.luck_linter.specs.Checks.{Check, pattern, format, date, replacement, pack, checkOf, walkOf, answer, numbers, namedNumbers}
+use Rattle.luck_linter.specs.StringLiteral.{isNumericEscape, hasNumericEscape, withSpan, checkBody, checkShort, checkNamedLiteral, checkLiteral}
 
 -- ---- Texts
 
@@ -72,7 +72,7 @@ packs more =
 abbrev packsizes : List Example
 packsizes = packs (gives 1 (ascii "bz") 18 ∷ unread)
 
--- the same texts as literals
+-- as literals
 abbrev quoted : List Example → List Example
 quoted [] = []
 quoted (gives version text number ∷ more) = gives version (code "\"" ∷ (text ++ (code "\"" ∷ []))) number ∷ quoted more
@@ -87,42 +87,55 @@ examples =
     ∷ (replacement (some 1), oneCapture)
     ∷ (pack false, packs unread)
     ∷ (pack true, packsizes)
-    ∷ (literal (code "P") none 0, quoted patterns)
-    ∷ (literal (code "F") none 0, quoted formats)
-    ∷ (literal (code "D") none 0, quoted dates)
-    ∷ (literal (code "G") none 0, quoted replacements)
-    ∷ (literal (code "G") (some 1) 0, quoted oneCapture)
-    ∷ (literal (code "K") none 0, quoted (packs unread))
-    ∷ (literal (code "S") none 0, quoted packsizes)
-    ∷ (literal (code "Q") none 0, gives 1 [] 30 ∷ [])
+    ∷ []
+
+-- the same texts as literals, by their kind letters and counts of captures
+abbrev pub literals : List ((ℕ × Option ℕ) × List Example)
+literals =
+    ((code "P", none), quoted patterns)
+    ∷ ((code "F", none), quoted formats)
+    ∷ ((code "D", none), quoted dates)
+    ∷ ((code "G", none), quoted replacements)
+    ∷ ((code "G", some 1), quoted oneCapture)
+    ∷ ((code "K", none), quoted (packs unread))
+    ∷ ((code "S", none), quoted packsizes)
+    ∷ ((code "Q", none), gives 1 [] 30 ∷ [])
     ∷ []
 
 -- ---- What is said of them
 
--- the numbers that a check answers to its examples, and those that they name
-abbrev pub answers : Check → List Example → List ℕ
-answers check [] = []
-answers check (gives version text number ∷ more) = answer check version text .number ∷ answers check more
+-- the numbers that are answered to examples, and those that they name
+abbrev pub answers : (ℕ → List ℕ → Answer) → List Example → List ℕ
+answers ask [] = []
+answers ask (gives version text number ∷ more) = ask version text .number ∷ answers ask more
 
 abbrev pub named : List Example → List ℕ
 named [] = []
 named (gives version text number ∷ more) = number ∷ named more
 
-abbrev pub Each : (Check → List Example → Type 0) → List (Check × List Example) → Type 0
+abbrev pub Each : {A : Type 0} → (A → List Example → Type 0) → List (A × List Example) → Type 0
 Each P [] = Unit {0}
 Each P (of ∷ more) = P (of .0) (of .1) × Each P more
 
 -- what is computed
 unfoldable pub computed : Unit {0}
-unfolding if_then_else_ among isDigit run digitValue numeralFrom numeral walk walkFrom isVersion versions has rulesOf isShort rfc3629 tailsOf follow widthBy sequence sequenceAt noneIllFormed illFormed afterVersion afterUtf8 checkText closeLatest isClosed allClosed headOf escapeOf escapeAt memberAt memberBy memberTurn membersEnd firstMember setEnd isEmptySet closedAs reversedOf setAs setRead escapeAs escapeRead onward afterClose headTurn patternTurn patternEnd patternWalk checkPatternAs checkPattern escaped pieces allowsDigit piecesWalk checkReplacement isFlag isModifier getFormat scanPrecision scanWidth scanFormat modifiersAt isConversion flagsFor flagsRun takesPrecision afterTwoDigits goodModifiers conversionTurn specifierTurn percentTurn formatTurn formatEnd formatWalk checkFormat secondBytes isPair singleWidth pairWidth conversionWidth dateTurn dateEnd isStarT isTable conversionsWalk dateWalk checkDate getnumlimit fixedString numberedOption getoption kindOf numberOr luckSizeof luckSize maxalign isPowerOfTwo isMisaligned aligned variable alignBy alignmentOf alignToNext kindTurn optionTurn packTurn packEnd packWalk checkPack isKind bodyWalk isNumericEscape hasNumericEscape withSpan checkBody checkShort afterText checkLiteral kindCheck
+unfolding if_then_else_ among isDigit run digitValue numeralFrom numeral walk walkFrom isVersion versions has rulesOf isShort rfc3629 tailsOf follow widthBy sequence sequenceAt noneIllFormed illFormed afterVersion afterUtf8 checkText closeLatest isClosed allClosed headOf escapeOf escapeAt memberAt memberBy memberTurn membersEnd firstMember setEnd isEmptySet closedAs reversedOf setAs setRead escapeAs escapeRead onward afterClose headTurn patternTurn patternEnd patternWalk checkPatternAs checkPattern escaped pieces allowsDigit piecesWalk checkReplacement isFlag isModifier getFormat scanPrecision scanWidth scanFormat modifiersAt isConversion flagsFor flagsRun takesPrecision afterTwoDigits goodModifiers conversionTurn specifierTurn percentTurn formatTurn formatEnd formatWalk checkFormat secondBytes isPair singleWidth pairWidth conversionWidth dateTurn dateEnd isStarT isTable conversionsWalk dateWalk checkDate getnumlimit fixedString numberedOption getoption kindOf numberOr luckSizeof luckSize maxalign isPowerOfTwo isMisaligned aligned variable alignBy alignmentOf alignToNext kindTurn optionTurn packTurn packEnd packWalk checkPack checkOf walkOf isNumericEscape hasNumericEscape withSpan checkBody checkShort checkNamedLiteral checkLiteral
 computed = tt
 
 -- each text gives its number
-pub examples-hold : Each (λ check list. answers check list ≡ named list) examples
+pub examples-hold : Each (λ check list. answers (answer check) list ≡ named list) examples
 unfolding computed
-examples-hold = (refl, (refl, (refl, (refl, (refl, (refl, (refl, (refl, (refl, (refl, (refl, (refl, (refl, (refl, (refl, (refl, tt))))))))))))))))
+examples-hold = (refl, (refl, (refl, (refl, (refl, (refl, (refl, (refl, tt))))))))
+
+pub literals-hold : Each (λ of list. answers (λ version text. checkLiteral (of .0) version (of .1) 0 text .answer) list ≡ named list) literals
+unfolding computed
+literals-hold = (refl, (refl, (refl, (refl, (refl, (refl, (refl, (refl, tt))))))))
 
 -- the numbers of a check's list are those of its examples: one that is added there needs a text here
 pub examples-whole : Each (λ check list. numbers check ≡ named list) examples
 unfolding computed
-examples-whole = (refl, (refl, (refl, (refl, (refl, (refl, (refl, (refl, (refl, (refl, (refl, (refl, (refl, (refl, (refl, (refl, tt))))))))))))))))
+examples-whole = (refl, (refl, (refl, (refl, (refl, (refl, (refl, (refl, tt))))))))
+
+pub literals-whole : Each (λ of list. namedNumbers (checkOf (of .0) (of .1)) ≡ named list) literals
+unfolding computed
+literals-whole = (refl, (refl, (refl, (refl, (refl, (refl, (refl, (refl, tt))))))))

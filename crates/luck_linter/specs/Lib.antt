@@ -1,3 +1,3 @@
-pub mod StringLiteral
 pub mod Checks
+pub mod StringLiteral
 pub mod Examples

@@ -1,3 +1,2 @@
-// The structs of include/luck.h that no crate below has: the answers of the literal check and of decoding.
+// The struct of include/luck.h that no crate below has: the answer of decoding.
 pub mod decoded;
-pub mod literal;

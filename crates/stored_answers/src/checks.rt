@@ -6,6 +6,8 @@ ghost use Rattle.stored_questions.specs.Places.{AnswerLies};
 ghost use Rattle.stored_records.specs.Tally.{Passes};
 use luck_answer::answer;
 use luck_answer::answer::Answer;
+use luck_linter::checks;
+use luck_linter::checks::Named;
 use stored_questions::question;
 use stored_questions::question::Asked;
 use stored_questions::question::Question;
@@ -29,10 +31,12 @@ pub fn turn(file: &[u8], at: usize) -> Turn
 fn agrees(file: &[u8], question: Question) -> bool
     requires { ⌜ AnswerLies 13 (length (now file)) question ⌝ }
 {
-    if !question::is_kind(question.kind) {
+    let captures = question.captures;
+    let named = checks::check_of(question.kind, captures);
+    let Named::Check(check) = named else {
         return false;
-    }
-    let given = answer::of_checked(question::ask(file, question, question.version));
+    };
+    let given = answer::of_checked(question::ask(file, question, check, question.version));
     is_same(given, answer_at(file, question.answer))
 }
 

@@ -6,8 +6,7 @@ ghost use Rattle.stored_questions.specs.Places.{AnswerLies};
 ghost use Rattle.stored_records.specs.Tally.{Passes};
 use crate::checks;
 use luck_answer::answer::Answer;
-use luck_structs::literal;
-use luck_structs::literal::Literal;
+use luck_linter::rules::format_string::Literal;
 use stored_questions::question;
 use stored_questions::question::Asked;
 use stored_questions::question::Question;
@@ -32,7 +31,7 @@ fn agrees(file: &[u8], question: Question) -> bool
     requires { ⌜ AnswerLies 27 (length (now file)) question ⌝ }
 {
     let start = bytes::word_at(file, question.answer);
-    let given = literal::of_checked(question::ask_literal(file, question, start));
+    let given = question::ask_literal(file, question, start);
     is_same(given, answer_at(file, question.answer + 4))
 }
 

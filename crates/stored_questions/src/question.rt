@@ -4,13 +4,10 @@ ghost use Prim.Native.Nat.{_+_, _<_, _≤_};
 ghost use lib.ListN.{length};
 ghost use Rattle.stored_questions.specs.Places.{Asks, AnswerLies};
 use luck_answer::format_pattern::Checked;
-use luck_format::date;
-use luck_format::format;
+use luck_linter::checks;
+use luck_linter::checks::Check;
 use luck_linter::rules::format_string;
-use luck_linter::rules::format_string::LiteralChecked;
-use luck_pack::pack;
-use luck_pattern::pattern;
-use luck_pattern::replacement;
+use luck_linter::rules::format_string::Literal;
 use luck_pattern::replacement::Captures;
 use stored_records::bytes;
 
@@ -63,35 +60,17 @@ fn captures_at(file: &[u8], at: usize) -> Captures
     Captures::Known(count as usize)
 }
 
-// Whether a letter names one of the checks below.
-pub fn is_kind(kind: u8) -> bool {
-    match kind {
-        b'F' | b'P' | b'K' | b'S' | b'G' | b'D' => true,
-        _ => false,
-    }
-}
-
-// The library's answer, in a version that need not be the question's. A letter that names no check is asked as a date.
-pub fn ask(file: &[u8], question: Question, version: u32) -> Checked
+// The library's answer by the check that the question's letter names, in a version that need not be the question's.
+pub fn ask(file: &[u8], question: Question, check: Check, version: u32) -> Checked
     requires { ⌜ AnswerLies 0 (length (now file)) question ⌝ }
 {
     let from = question.text;
     let to = question.answer;
-    let text = &file[from..to];
-    let captures = question.captures;
-    let kind = question.kind;
-    match kind {
-        b'F' => format::validate_format(version, text),
-        b'P' => pattern::validate_lua_pattern(version, text),
-        b'K' => pack::validate_pack_format(version, false, text),
-        b'S' => pack::validate_pack_format(version, true, text),
-        b'G' => replacement::validate_gsub_replacement(version, captures, text),
-        _ => date::validate_os_date(version, text),
-    }
+    checks::validate(check, version, &file[from..to])
 }
 
 // The library's answer for a literal that starts at this place of its source.
-pub fn ask_literal(file: &[u8], question: Question, start: u32) -> LiteralChecked
+pub fn ask_literal(file: &[u8], question: Question, start: u32) -> Literal
     requires { ⌜ AnswerLies 0 (length (now file)) question ⌝ }
 {
     let from = question.text;

@@ -8,6 +8,8 @@ use crate::question;
 use crate::question::Asked;
 use crate::question::Question;
 use luck_answer::format_pattern::Checked;
+use luck_linter::checks;
+use luck_linter::checks::Named;
 use stored_records::bytes;
 use stored_records::tally::Turn;
 
@@ -29,15 +31,17 @@ pub fn turn(file: &[u8], at: usize) -> Turn
 fn agrees(file: &[u8], question: Question) -> bool
     requires { ⌜ AnswerLies 2 (length (now file)) question ⌝ }
 {
-    if !question::is_kind(question.kind) {
+    let captures = question.captures;
+    let named = checks::check_of(question.kind, captures);
+    let Named::Check(check) = named else {
         return false;
-    }
+    };
     let versions = bytes::byte_at(file, question.answer);
     let taken = bytes::byte_at(file, question.answer + 1);
     let mut version: u32 = 1;
     while version < 5 {
         if has(versions, version) {
-            if is_accepted(question::ask(file, question, version)) != has(taken, version) {
+            if is_accepted(question::ask(file, question, check, version)) != has(taken, version) {
                 return false;
             }
         }

@@ -11,12 +11,11 @@ count-if-requires c κs = search needs
 check-literal-requires : tie.Need-check-literal-requires
 check-literal-requires c κs = search needs
 
-of-checked-requires : tie.Need-of-checked-requires
-of-checked-requires c κs = search needs
-
 returns : tie.Need-returns
-returns c = c .of-checked .ensures ∙ c .before .check-literal .ensures ∙ ap (λ count. checkLiteral (c .before .before .before .before .args .kind) (c .before .before .before .before .args .version) count (c .before .before .before .before .args .start) (c .before .before .before .before .args .text .now)) (c .before .before .count-if .ensures)
+returns c =
+    let a = c .before .before .before .args in
+    c .check-literal .ensures ∙ ap (λ count. checkLiteral (a .kind) (a .version) count (a .start) (a .text .now)) (c .before .count-if .ensures)
 
 pub luck-check-literal-spec : {M : Type 1} → statement M
 luck-check-literal-spec =
-    tie.close (tie.spec count-if-requires check-literal-requires of-checked-requires returns)
+    tie.close (tie.spec count-if-requires check-literal-requires returns)

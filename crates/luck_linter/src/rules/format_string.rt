@@ -3,17 +3,30 @@ ghost use mathlib.Core.Path.{_≡_};
 ghost use mathlib.Core.Bool.{true};
 ghost use Prim.Native.Nat.{_+_, min};
 ghost use Rattle.luck_token.specs.Span.{u32-max};
-ghost use Rattle.luck_answer.specs.Answer.{walkedOf};
+ghost use Rattle.luck_answer.specs.Answer.{checkAnswer};
 ghost use Rattle.luck_pattern.specs.Replacement.{countOf};
-ghost use Rattle.luck_linter.specs.StringLiteral.{bodyWalk, isNumericEscape, hasNumericEscape, spanAt, checkBody, checkShort, checkLiteral, literalAnswerOf};
+ghost use mathlib.Core.Option.{some};
+ghost use Rattle.luck_linter.specs.Checks.{checkMeant, checkNamed};
+ghost use Rattle.luck_linter.specs.StringLiteral.{
+  isNumericEscape,
+  hasNumericEscape,
+  literalAnswer,
+  skippedAnswer,
+  unspanned,
+  spannedAnswer,
+  spanAt,
+  checkBody,
+  checkShort,
+  checkNamedLiteral,
+  checkLiteral,
+};
+use crate::checks;
+use crate::checks::Check;
+use crate::checks::Named;
 use luck_answer::answer;
-use luck_answer::format_pattern::PatternError;
-use luck_answer::format_pattern::Walked;
-use luck_format::date;
-use luck_format::format;
-use luck_pack::pack;
-use luck_pattern::pattern;
-use luck_pattern::replacement;
+use luck_answer::answer::Answer;
+use luck_answer::format_pattern;
+use luck_answer::format_pattern::Text;
 use luck_pattern::replacement::Captures;
 use luck_text::scan;
 use luck_text::scan::Class;
@@ -23,16 +36,68 @@ use luck_token::string::ShortString;
 use luck_token::version;
 use luck_token::version::Rules;
 use luck_utf8::utf8;
-use luck_utf8::utf8::Utf8;
 
-pub enum LiteralChecked {
-    UnknownKind,
-    UnknownVersion,
-    NotUtf8(usize),
+// luck_literal of include/luck.h.
+#[repr(C)]
+pub struct Literal {
+    pub number: u32,
+    pub first: u32,
+    pub second: u32,
     // no short string, or one with an escape that could spell a byte that the check reads
-    Skipped,
-    Accepted(usize),
-    Refused(PatternError, Span),
+    pub skipped: bool,
+    pub spanned: bool,
+    pub start: u32,
+    pub end: u32,
+    pub offset: usize,
+    pub count: usize,
+}
+
+fn skipped() -> Literal
+    ensures { λ r. ⌜ literalAnswer r ≡ skippedAnswer ⌝ }
+{
+    Literal {
+        number: 0,
+        first: 0,
+        second: 0,
+        skipped: true,
+        spanned: false,
+        start: 0,
+        end: 0,
+        offset: 0,
+        count: 0,
+    }
+}
+
+fn unspanned(answer: Answer) -> Literal
+    ensures { λ r. ⌜ literalAnswer r ≡ unspanned (checkAnswer answer) ⌝ }
+{
+    Literal {
+        number: answer.number,
+        first: answer.first,
+        second: answer.second,
+        skipped: false,
+        spanned: false,
+        start: 0,
+        end: 0,
+        offset: answer.offset,
+        count: answer.count,
+    }
+}
+
+fn spanned(answer: Answer, span: Span) -> Literal
+    ensures { λ r. ⌜ literalAnswer r ≡ spannedAnswer (checkAnswer answer) span ⌝ }
+{
+    Literal {
+        number: answer.number,
+        first: answer.first,
+        second: answer.second,
+        skipped: false,
+        spanned: true,
+        start: span.start,
+        end: span.end,
+        offset: answer.offset,
+        count: answer.count,
+    }
 }
 
 // Whether a backslash before this byte begins an escape that spells a byte by its number.
@@ -69,24 +134,6 @@ fn has_numeric_escape(body: &[u8]) -> bool
     false
 }
 
-// The check of a body that is UTF-8.
-fn scan_body(kind: u8, rules: Rules, captures: Captures, body: &[u8]) -> Walked
-    ensures { λ r. ⌜ walkedOf r ≡ bodyWalk kind rules (countOf captures) (now (body .entry)) ⌝ }
-{
-    match kind {
-        b'F' => format::scan_format_string(body, rules),
-        b'P' => pattern::scan_pattern(body),
-        b'K' => pack::scan_pack_format(body, false),
-        b'S' => pack::scan_pack_format(body, true),
-        b'G' => replacement::scan_replacement(body, captures, rules.strict_gsub_replacement),
-        _ => date::scan_date(
-            body,
-            rules.strict_gsub_replacement,
-            rules.date_format_options,
-        ),
-    }
-}
-
 // A sum that stays at the largest number.
 fn saturating_add(a: usize, b: usize) -> usize
     ensures { λ r. ⌜ r ≡ min (a + b) 0xFFFF_FFFF_FFFF_FFFF ⌝ }
@@ -115,61 +162,52 @@ fn span_at(start: u32, body: &[u8], offset: usize) -> Span
     Span::from_indices(offset, end).shifted(one_later(start))
 }
 
-fn check_body(kind: u8, rules: Rules, captures: Captures, start: u32, body: &[u8]) -> LiteralChecked
-    ensures { λ r. ⌜ literalAnswerOf r ≡ checkBody kind rules (countOf captures) start (now (body .entry)) ⌝ }
+fn check_body(check: Check, rules: Rules, start: u32, body: &[u8]) -> Literal
+    ensures { λ r. ⌜ literalAnswer r ≡ checkBody (checkMeant check) rules start (now (body .entry)) ⌝ }
 {
     if has_numeric_escape(body) {
-        return LiteralChecked::Skipped;
+        return skipped();
     }
-    let walked = scan_body(kind, rules, captures, body);
-    match walked {
-        Walked::Accepted(count) => LiteralChecked::Accepted(count),
-        Walked::Refused(fault) => {
-            let offset = answer::of_fault(fault).offset;
-            let span = span_at(start, body, offset);
-            LiteralChecked::Refused(fault, span)
-        }
+    let answer = answer::of_walked(checks::walk(check, rules, body));
+    if answer.number == 0 {
+        return unspanned(answer);
     }
+    let offset = answer.offset;
+    spanned(answer, span_at(start, body, offset))
 }
 
-fn check_short(
-    kind: u8,
-    rules: Rules,
-    captures: Captures,
-    start: u32,
-    text: &[u8],
-) -> LiteralChecked
-    ensures { λ r. ⌜ literalAnswerOf r ≡ checkShort kind rules (countOf captures) start (now (text .entry)) ⌝ }
+fn check_short(check: Check, rules: Rules, start: u32, text: &[u8]) -> Literal
+    ensures { λ r. ⌜ literalAnswer r ≡ checkShort (checkMeant check) rules start (now (text .entry)) ⌝ }
 {
     let found = string::short_string_body(text);
     match found {
         ShortString::Body {
             start: from,
             end: to,
-        } => check_body(kind, rules, captures, start, &text[from..to]),
-        ShortString::Other => LiteralChecked::Skipped,
+        } => check_body(check, rules, start, &text[from..to]),
+        ShortString::Other => skipped(),
+    }
+}
+
+// By the check that the kind letter names.
+fn check_named(check: Check, version: u32, start: u32, text: &[u8]) -> Literal
+    ensures { λ r. ⌜ literalAnswer r ≡ checkNamedLiteral (some (checkMeant check)) version start (now (text .entry)) ⌝ }
+{
+    let tested = format_pattern::read_text(version, text);
+    match tested {
+        Text::Fine => check_short(check, version::rules_of(version), start, text),
+        Text::NotUtf8(place) => unspanned(answer::refused(23, place)),
+        Text::UnknownVersion => unspanned(answer::refused(25, 0)),
     }
 }
 
 // The check of a literal's text: a kind letter, for G with a count of captures, a version, and the literal's start in its source.
-pub fn check_literal(
-    kind: u8,
-    version: u32,
-    captures: Captures,
-    start: u32,
-    text: &[u8],
-) -> LiteralChecked
-    ensures { λ r. ⌜ literalAnswerOf r ≡ checkLiteral kind version (countOf captures) start (now (text .entry)) ⌝ }
+pub fn check_literal(kind: u8, version: u32, captures: Captures, start: u32, text: &[u8]) -> Literal
+    ensures { λ r. ⌜ literalAnswer r ≡ checkLiteral kind version (countOf captures) start (now (text .entry)) ⌝ }
 {
-    if scan::contains(b"FPKSGD", kind) {
-        if version::is_version(version) {
-            let valid = utf8::validate(text);
-            return match valid {
-                Utf8::Valid => check_short(kind, version::rules_of(version), captures, start, text),
-                Utf8::IllFormed(at) => LiteralChecked::NotUtf8(at),
-            };
-        }
-        return LiteralChecked::UnknownVersion;
+    let named = checks::check_of(kind, captures);
+    match named {
+        Named::Check(check) => check_named(check, version, start, text),
+        Named::Nothing => unspanned(answer::refused(30, 0)),
     }
-    LiteralChecked::UnknownKind
 }

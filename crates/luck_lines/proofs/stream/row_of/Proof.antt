@@ -6,21 +6,15 @@ use borrow.Author.Needs.{needs}
 use Rattle.luck_lines.proofs.stream.row_of.Statement.{statement}
 use Rattle.luck_lines.proofs.stream.row_of.Tie as tie
 
-of-line-requires : tie.Need-of-line-requires
-of-line-requires c κs = search needs
-
 returns : tie.Need-returns
-returns c = c .of-line .ensures ∙ streams.of-long (c .before .before .before .args .long) (c .before .before .before .args .line .now) (c .before .if1 .taken)
-
-check-line-requires : tie.Need-check-line-requires
-check-line-requires c κs = search needs
-
-of-line-requires-2 : tie.Need-of-line-requires-2
-of-line-requires-2 c κs = search needs
+returns c = c .of-answer .ensures ∙ ap answerRow (c .before .refused .ensures) ∙ streams.of-long _ _ (c .before .before .if1 .taken)
 
 returns-2 : tie.Need-returns-2
-returns-2 c = c .of-line2 .ensures ∙ ap answerRow (c .before .check-line .ensures) ∙ streams.of-short (c .before .before .before .before .args .long) (c .before .before .before .before .args .line .now) (c .before .before .if1 .left)
+returns-2 c = c .of-answer2 .ensures ∙ ap answerRow (c .before .check-line .ensures) ∙ streams.of-short _ _ (c .before .before .if1 .left)
 
 pub row-of-spec : {M : Type 1} → statement M
 row-of-spec =
-    tie.close (tie.spec of-line-requires returns check-line-requires of-line-requires-2 returns-2)
+    tie.close
+    (tie.spec
+    (λ c κs. search needs) (λ c κs. search needs) returns
+    (λ c κs. search needs) (λ c κs. search needs) returns-2)

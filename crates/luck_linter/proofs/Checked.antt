@@ -1,0 +1,64 @@
+-- A check is what comes before every check and then its walk; its answer's number is one of its list, its offset and its count are at most the text's length.
+-- Assumes nothing.
+use Prim.Native.Nat.{ℕ}
+use mathlib.Core.Path.{_≡_, refl, sym, ap, subst, _∙_}
+use mathlib.Core.Bool.{true, false}
+use mathlib.Core.List.{List}
+use lib.ListN.{length}
+use Rattle.luck_text.specs.Bytes.{among}
+use Rattle.luck_token.specs.Version.{rulesOf}
+use Rattle.luck_token.specs.declared.version.Rules.{Rules}
+use Rattle.luck_answer.specs.Answer.{Answer, textAnswer, checkText}
+use Rattle.luck_answer.specs.declared.format_pattern.Text.{Text}
+use Rattle.luck_pattern.specs.Pattern.{checkPatternAs, checkPattern}
+use Rattle.luck_pattern.specs.Replacement.{isStrict, checkReplacement}
+use Rattle.luck_format.specs.Format.{checkFormat}
+use Rattle.luck_format.specs.Date.{checksDates, hasDateOptions, checkDate}
+use Rattle.luck_pack.specs.Pack.{checkPack}
+use Rattle.luck_linter.specs.Checks.{Check, format, pattern, date, replacement, pack, walkOf, answer, numbers}
+use Rattle.luck_linter.proofs.Counts.{Bounded, check-bounded}
+use Rattle.luck_linter.proofs.PatternAnswers.{pattern-bounded}
+use Rattle.luck_linter.proofs.FormatAnswers.{format-bounded}
+use Rattle.luck_linter.proofs.PackAnswers.{pack-bounded}
+use Rattle.luck_linter.proofs.ReplacementAnswers.{replacement-bounded}
+use Rattle.luck_linter.proofs.DateAnswers.{date-bounded}
+
+pub whole-check : (check : Check) (version : ℕ) (text : List ℕ) → answer check version text ≡ checkText version text (walkOf check (rulesOf version) text)
+unfolding walkOf checkFormat checkPattern checkPatternAs checkDate checkReplacement checkPack
+whole-check format version text = refl
+whole-check pattern version text = refl
+whole-check date version text = refl
+whole-check (replacement captures) version text = refl
+whole-check (pack packsize) version text = refl
+
+-- by what was read of the text
+pub by-text : (check : Check) (version : ℕ) (text : List ℕ) (read variant : Text) (a : Answer)
+    → ((walked : Answer) → textAnswer read walked ≡ checkText version text walked) → read ≡ variant
+    → a ≡ textAnswer variant (walkOf check (rulesOf version) text) → a ≡ answer check version text
+by-text check version text read variant a reads is e =
+    let walked = walkOf check (rulesOf version) text in
+    e ∙ ap (λ t. textAnswer t walked) (sym is) ∙ reads walked ∙ sym (whole-check check version text)
+
+pub walk-bounded : (check : Check) (rules : Rules) (body : List ℕ) → Bounded (length body) (numbers check) (walkOf check rules body)
+unfolding walkOf
+walk-bounded format rules body = format-bounded body rules
+walk-bounded pattern rules body = pattern-bounded body
+walk-bounded date rules body = date-bounded body (hasDateOptions rules) (checksDates rules)
+walk-bounded (replacement captures) rules body = replacement-bounded captures body (isStrict rules)
+walk-bounded (pack packsize) rules body = pack-bounded packsize body
+
+-- every check accepts some text, and refuses by 23 and 25
+pub has-each : (check : Check) → (among 0 (numbers check) ≡ true) × (among 23 (numbers check) ≡ true) × (among 25 (numbers check) ≡ true)
+unfolding among
+has-each format = (refl, refl, refl)
+has-each pattern = (refl, refl, refl)
+has-each date = (refl, refl, refl)
+has-each (replacement captures) = (refl, refl, refl)
+has-each (pack false) = (refl, refl, refl)
+has-each (pack true) = (refl, refl, refl)
+
+pub bounded : (check : Check) (version : ℕ) (text : List ℕ) → Bounded (length text) (numbers check) (answer check version text)
+bounded check version text =
+    let has = has-each check in
+    subst (Bounded (length text) (numbers check)) (sym (whole-check check version text))
+    (check-bounded text (numbers check) (has .1) (has .2) version _ (walk-bounded check (rulesOf version) text))
