@@ -6,7 +6,7 @@ use mathlib.Core.Path.{refl}
 use mathlib.Core.List.{List, [], _∷_}
 use lib.Dec.{eqb}
 use Rattle.luck_text.specs.Bytes.{among}
-use Rattle.luck_pattern.specs.Replacement.{pieces}
+use Rattle.luck_replacement.specs.Replacement.{pieces}
 use Rattle.lstr_class.specs.Class.{matchClass}
 use Rattle.lstr_gsub.specs.Gsub.{writerOf, gsub}
 use Rattle.lstr_laws.proofs.Endings.{Ending, HasStops, other, raising, attempt-ends}

@@ -12,7 +12,7 @@ use Rattle.luck_text.specs.Bytes.{if_then_else_, among}
 use Rattle.luck_token.specs.Version.{isVersion, rulesOf}
 use Rattle.luck_answer.specs.Answer.{accepted}
 use Rattle.luck_pattern.specs.Pattern.{checkPatternAs}
-use Rattle.luck_pattern.specs.Replacement.{isStrict, checkReplacement}
+use Rattle.luck_replacement.specs.Replacement.{isStrict, checkReplacement}
 use Rattle.lstr_class.specs.Class.{matchClass}
 use Rattle.lstr_gsub.specs.Gsub.{outputAfter, strGsub, gsub}
 use Rattle.lstr_gsub.proofs.Writings.{walk-accepted, strict-accepted, writers-alike}

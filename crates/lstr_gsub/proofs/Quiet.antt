@@ -10,7 +10,7 @@ use lib.Dec.{eqb}
 use Rattle.luck_answer.specs.Answer.{accepted}
 use Rattle.luck_pattern.specs.Pattern.{checkPatternAs}
 use Rattle.luck_pattern.specs.Items.{items}
-use Rattle.luck_pattern.specs.Replacement.{pieces, piecesWalk}
+use Rattle.luck_replacement.specs.Replacement.{pieces, piecesWalk}
 use Rattle.lstr_class.specs.Class.{matchClass}
 use Rattle.lstr_gsub.specs.Gsub.{writerOf, gsub}
 use Rattle.lstr_gsub.proofs.Runs.{gsub-fine}

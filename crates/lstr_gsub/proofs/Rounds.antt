@@ -16,7 +16,7 @@ use Rattle.luck_text.specs.Bytes.{if_then_else_, byteAt}
 use Rattle.luck_text.proofs.Cases.{if-true, if-false, order}
 use Rattle.luck_pattern.specs.Items.{Item, items}
 use Rattle.luck_token.specs.Version.{isVersion}
-use Rattle.luck_pattern.specs.Replacement.{pieces}
+use Rattle.luck_replacement.specs.Replacement.{pieces}
 use Rattle.lstr_class.specs.Class.{matchClass}
 use Rattle.lstr_item.specs.Match.{Outcome, matched, failed, stopped, match}
 use Rattle.lstr_write.specs.Replace.{Wrote, append, addPieces}

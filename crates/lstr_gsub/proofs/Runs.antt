@@ -11,7 +11,7 @@ use lib.Dec.{eqb, leb}
 use Rattle.luck_text.specs.Bytes.{byteAt, part}
 use Rattle.luck_text.proofs.Cases.{by-test}
 use Rattle.luck_pattern.specs.Items.{Item, items}
-use Rattle.luck_pattern.specs.Replacement.{Piece, literal, digit, percent, other, lone}
+use Rattle.luck_replacement.specs.Replacement.{Piece, literal, digit, percent, other, lone}
 use Rattle.lstr_class.specs.Class.{matchClass}
 use Rattle.lstr_item.specs.Match.{Capture, opened, position, closed, Outcome, matched, failed, stopped, match}
 use Rattle.lstr_laws.proofs.Attempts.{AttemptFine}

@@ -15,7 +15,7 @@ use Rattle.luck_token.specs.Version.{isVersion, versions, has, rulesOf}
 use Rattle.luck_text.proofs.Cases.{by-test, and-left, and-right}
 use Rattle.luck_answer.specs.Answer.{Answer, accepted, refused, afterVersion, checkText}
 use Rattle.luck_pattern.specs.Captures.{allClosed}
-use Rattle.luck_pattern.specs.Replacement.{
+use Rattle.luck_replacement.specs.Replacement.{
   isStrict,
   Piece,
   literal,

@@ -13,10 +13,11 @@ use Rattle.luck_token.specs.Version.{isVersion, versions, has, rulesOf}
 use Rattle.luck_utf8.specs.Utf8.{rfc3629, tailsOf, follow, widthBy, sequence, sequenceAt, noneIllFormed, illFormed, codePoint, charAt, isChar, utf8Bytes}
 use Rattle.luck_answer.specs.Answer.{Answer, accepted, refused, refusedWith, refusedBoth, afterVersion, afterUtf8, checkText}
 use Rattle.luck_pattern.specs.Captures.{closeLatest, isClosed, allClosed}
-use Rattle.luck_pattern.specs.Pattern.{headOf, escapeOf, escapeAt, memberAt, memberBy, memberTurn, membersEnd, firstMember, setEnd, isEmptySet, closedAs, reversedOf, setAs, setRead, escapeAs, escapeRead, onward, afterClose, headTurn, patternTurn, patternEnd, patternWalk, checkPatternAs, checkPattern}
+use Rattle.luck_pattern.specs.Reading.{headOf, escapeOf, escapeAt, memberAt, memberBy, memberTurn, membersEnd, firstMember, setEnd}
+use Rattle.luck_pattern.specs.Pattern.{isEmptySet, closedAs, reversedOf, setAs, setRead, escapeAs, escapeRead, onward, afterClose, headTurn, patternTurn, patternEnd, patternWalk, checkPatternAs, checkPattern}
 use Rattle.luck_pattern.specs.Elements.{elementAt, widthOf, placedFrom, placedElements, elementsIn, elementsOf, isReversed, reversedIn, firstReversed}
 use Rattle.luck_pattern.specs.Items.{setOf, repeatOf, repeatWidth, repeated, readSingle, readSet, readFrontier, readEscape, readByte, readHead, readItem, thenItems, itemsFrom, items}
-use Rattle.luck_pattern.specs.Replacement.{escaped, pieces, allowsDigit, piecesWalk, checkReplacement}
+use Rattle.luck_replacement.specs.Replacement.{escaped, pieces, allowsDigit, piecesWalk, checkReplacement}
 use Rattle.luck_format.specs.Format.{isFlag, isModifier, getFormat, scanPrecision, scanWidth, scanFormat, modifiersAt, isConversion, flagsFor, flagsRun, takesPrecision, afterTwoDigits, goodModifiers, conversionTurn, specifierTurn, percentTurn, formatTurn, formatEnd, formatWalk, checkFormat}
 use Rattle.luck_pack.specs.Pack.{getnumlimit, fixedString, numberedOption, getoption, kindOf, numberOr, luckSizeof, luckSize, maxalign, isPowerOfTwo, isMisaligned, aligned, variable, alignBy, alignmentOf, alignToNext, kindTurn, optionTurn, packTurn, packEnd, packWalk, checkPack}
 use Rattle.lstr_class.specs.Class.{isLower, isUpper, isAlpha, isAlnum, isCntrl, isGraph, isPunct, toLower, classTest, classBy, matchClass}

@@ -10,7 +10,7 @@ use lib.Dec.{eqb, ltb}
 use Rattle.luck_text.specs.Bytes.{if_then_else_, byteAt}
 use Rattle.luck_token.specs.Version.{isVersion}
 use Rattle.luck_pattern.specs.Items.{Item, items}
-use Rattle.luck_pattern.specs.Replacement.{pieces}
+use Rattle.luck_replacement.specs.Replacement.{pieces}
 use Rattle.lstr_class.specs.Class.{matchClass}
 use Rattle.lstr_gsub.specs.declared.gsub.Trial.{Trial}
 use Rattle.lstr_item.specs.Match.{Capture, Outcome, matched, failed, stopped, match}

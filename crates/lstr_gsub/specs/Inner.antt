@@ -4,7 +4,7 @@ use Prim.Native.Nat.{ℕ}
 use mathlib.Core.Path.{_≡_}
 use mathlib.Core.Bool.{Bool}
 use mathlib.Core.List.{List}
-use Rattle.luck_pattern.specs.Replacement.{pieces}
+use Rattle.luck_replacement.specs.Replacement.{pieces}
 use Rattle.lstr_write.specs.Replace.{addPieces}
 use Rattle.lstr_gsub.specs.Gsub.{Answer, Writer, report, reportOf, outputAfter}
 use Rattle.lstr_gsub.specs.declared.gsub.Trial.{Trial}

@@ -11,7 +11,7 @@ use lib.Seq.{drop-cons}
 use borrow.Author.Tests.{eq-eqb, ne-eqb, le-leb, lt-leb}
 use Rattle.luck_text.specs.Bytes.{if_then_else_, byteAt, part, isDigit}
 use Rattle.luck_text.proofs.Cases.{if-true, if-false}
-use Rattle.luck_pattern.specs.Replacement.{Piece, literal, digit, percent, other, lone, escaped, pieces}
+use Rattle.luck_replacement.specs.Replacement.{Piece, literal, digit, percent, other, lone, escaped, pieces}
 use Rattle.lstr_item.specs.Match.{Capture, opened}
 use Rattle.lstr_write.specs.Replace.{Wrote, wrote, ended, andThen, append, decimal, addCapture, addDigit, addPiece, addPieces}
 use Rattle.lstr_item.specs.Inner.{unfinished, positional, captureOf, PairIn, capturesIn, KeptIn}

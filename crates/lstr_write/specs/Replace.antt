@@ -8,7 +8,7 @@ use mathlib.Core.List.{List, [], _∷_, _++_}
 use lib.ListN.{length, getD}
 use lib.Dec.{eqb, leb, ltb}
 use Rattle.luck_text.specs.Bytes.{if_then_else_, part}
-use Rattle.luck_pattern.specs.Replacement.{Piece, literal, digit, percent, other, lone}
+use Rattle.luck_replacement.specs.Replacement.{Piece, literal, digit, percent, other, lone}
 use Rattle.lstr_item.specs.Match.{Capture, opened, position, closed}
 
 -- what has been written; or what ended it, by number and kind, and what had been written

@@ -2,7 +2,7 @@
 ghost use mathlib.Core.List.{[], _∷_};
 ghost use Prim.Native.Nat.{_+_, _<_, _≤_};
 ghost use lib.ListN.{length, take};
-ghost use Rattle.luck_pattern.specs.Replacement.{escaped, pieces};
+ghost use Rattle.luck_replacement.specs.Replacement.{escaped, pieces};
 ghost use Rattle.lstr_write.specs.Replace.{append, decimal, addCapture, addDigit, addPiece, addPieces};
 ghost use Rattle.lstr_item.specs.Inner.{captureOf, PairIn, capturesIn, KeptIn};
 ghost use Rattle.lstr_write.specs.Inner.{WroteAs};

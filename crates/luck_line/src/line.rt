@@ -7,8 +7,8 @@ use luck_format::date;
 use luck_format::format;
 use luck_pack::pack;
 use luck_pattern::pattern;
-use luck_pattern::replacement;
-use luck_pattern::replacement::Captures;
+use luck_replacement::replacement;
+use luck_replacement::replacement::Captures;
 use luck_text::scan;
 use luck_text::scan::Class;
 

@@ -13,7 +13,7 @@ use Rattle.luck_utf8.specs.Utf8.{illFormed}
 use Rattle.luck_token.specs.declared.version.Rules.{Rules}
 use Rattle.luck_text.proofs.Cases.{by-test}
 use Rattle.luck_answer.specs.Answer.{Answer, refused}
-use Rattle.luck_pattern.specs.Replacement.{isStrict}
+use Rattle.luck_replacement.specs.Replacement.{isStrict}
 use Rattle.luck_format.specs.Date.{checksDates, hasDateOptions}
 use Rattle.luck_linter.specs.StringLiteral.{isKind, LiteralAnswer, unspanned, bodyWalk, withSpan, checkBody, checkShort, afterText, checkLiteral}
 use Rattle.luck_linter.specs.Checks.{Check, literal, answer, kindCheck, deciding, ownNumbers, numbers}

@@ -14,7 +14,7 @@ use Rattle.luck_token.specs.Version.{rulesOf}
 use Rattle.luck_text.proofs.Cases.{by-test, and-right}
 use Rattle.luck_answer.specs.Answer.{Answer, refused}
 use Rattle.luck_linter.specs.Checks.{replacement, answer, numbers}
-use Rattle.luck_pattern.specs.Replacement.{Piece, literal, digit, percent, other, lone, isStrict, escaped, pieces, allowsDigit, piecesWalk, checkReplacement}
+use Rattle.luck_replacement.specs.Replacement.{Piece, literal, digit, percent, other, lone, isStrict, escaped, pieces, allowsDigit, piecesWalk, checkReplacement}
 use Rattle.luck_linter.proofs.Counts.{Bounded, check-bounded}
 
 -- ---- The pieces are as long as their text

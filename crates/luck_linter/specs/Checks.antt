@@ -9,7 +9,7 @@ use lib.Dec.{eqb}
 use Rattle.luck_text.specs.Bytes.{if_then_else_}
 use Rattle.luck_answer.specs.Answer.{Answer}
 use Rattle.luck_pattern.specs.Pattern.{checkPattern}
-use Rattle.luck_pattern.specs.Replacement.{allowsDigit, checkReplacement}
+use Rattle.luck_replacement.specs.Replacement.{allowsDigit, checkReplacement}
 use Rattle.luck_format.specs.Format.{checkFormat}
 use Rattle.luck_pack.specs.Pack.{checkPack}
 use Rattle.luck_format.specs.Date.{checkDate}

@@ -17,7 +17,7 @@ use Rattle.luck_token.specs.declared.version.Rules.{Rules}
 use Rattle.luck_token.specs.declared.span.Span.{Span}
 use Rattle.luck_answer.specs.Answer.{Answer, accepted, refused, refusal}
 use Rattle.luck_pattern.specs.Pattern.{patternWalk}
-use Rattle.luck_pattern.specs.Replacement.{isStrict, pieces, piecesWalk}
+use Rattle.luck_replacement.specs.Replacement.{isStrict, pieces, piecesWalk}
 use Rattle.luck_format.specs.Format.{formatWalk}
 use Rattle.luck_pack.specs.Pack.{packWalk}
 use Rattle.luck_format.specs.Date.{checksDates, hasDateOptions, dateWalk}

@@ -10,8 +10,8 @@ use luck_linter::rules::format_string;
 use luck_linter::rules::format_string::LiteralChecked;
 use luck_pack::pack;
 use luck_pattern::pattern;
-use luck_pattern::replacement;
-use luck_pattern::replacement::Captures;
+use luck_replacement::replacement;
+use luck_replacement::replacement::Captures;
 use stored_records::bytes;
 
 pub struct Question {

@@ -4,7 +4,7 @@ use native.Mathlib.Omega.{arith}
 use mathlib.Core.Path.{refl, _∙_}
 use lib.ListN.{length, getD, take}
 use borrow.Author.Needs.{needs}
-use Rattle.luck_pattern.specs.Replacement.{literal, escaped}
+use Rattle.luck_replacement.specs.Replacement.{literal, escaped}
 use Rattle.lstr_write.specs.Replace.{addPiece}
 use Rattle.lstr_item.specs.Inner.{capturesIn}
 use Rattle.lstr_write.proofs.Outputs as outputs

@@ -3,7 +3,7 @@ use mathlib.Core.Path.{sym, ap, _∙_}
 use Rattle.luck_answer.specs.Answer.{walkedOf}
 use Rattle.luck_linter.specs.StringLiteral.{spanAt}
 use Rattle.luck_linter.proofs.StringLiterals as laws
-use Rattle.luck_pattern.specs.Replacement.{countOf}
+use Rattle.luck_replacement.specs.Replacement.{countOf}
 use borrow.Author.Needs.{needs}
 use Rattle.luck_linter.proofs.rules.format_string.check_body.Statement.{statement}
 use Rattle.luck_linter.proofs.rules.format_string.check_body.Tie as tie

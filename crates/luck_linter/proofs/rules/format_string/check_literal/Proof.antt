@@ -4,7 +4,7 @@ use Rattle.luck_utf8.specs.Utf8.{placeOf}
 use Rattle.luck_token.specs.declared.version.Rules.{Rules}
 use Rattle.luck_linter.specs.StringLiteral.{isKind, checkShort}
 use Rattle.luck_linter.proofs.StringLiterals as laws
-use Rattle.luck_pattern.specs.Replacement.{countOf}
+use Rattle.luck_replacement.specs.Replacement.{countOf}
 use borrow.Author.Needs.{needs}
 use Rattle.luck_linter.proofs.rules.format_string.check_literal.Statement.{statement}
 use Rattle.luck_linter.proofs.rules.format_string.check_literal.Tie as tie

@@ -7,7 +7,7 @@ use Rattle.luck_token.specs.Literal.{placesOf}
 use Rattle.luck_token.proofs.Literals.{both-quotes}
 use Rattle.luck_linter.specs.StringLiteral.{checkBody}
 use Rattle.luck_linter.proofs.StringLiterals as laws
-use Rattle.luck_pattern.specs.Replacement.{countOf}
+use Rattle.luck_replacement.specs.Replacement.{countOf}
 use borrow.Author.Needs.{needs}
 use Rattle.luck_linter.proofs.rules.format_string.check_short.Statement.{statement}
 use Rattle.luck_linter.proofs.rules.format_string.check_short.Tie as tie
