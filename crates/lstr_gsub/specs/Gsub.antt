@@ -8,10 +8,10 @@ use mathlib.Core.Option.{Option, none, some}
 use lib.ListN.{length, drop}
 use lib.Dec.{eqb, ltb}
 use Rattle.luck_text.specs.Bytes.{if_then_else_, byteAt}
-use Rattle.luck_token.specs.Version.{isVersion}
+use Rattle.luck_token.specs.Version.{isVersion, rulesOf}
 use Rattle.luck_pattern.specs.Items.{Item, items}
-use Rattle.luck_replacement.specs.Replacement.{pieces}
-use Rattle.lstr_class.specs.Class.{matchClass}
+use Rattle.luck_replacement.specs.Replacement.{isStrict, pieces}
+use Rattle.lstr_class.specs.Class.{classOf}
 use Rattle.lstr_gsub.specs.declared.gsub.Trial.{Trial}
 use Rattle.lstr_item.specs.Match.{Capture, Outcome, matched, failed, stopped, match}
 use Rattle.lstr_write.specs.Replace.{Wrote, wrote, ended, append, addPieces}
@@ -104,13 +104,14 @@ module _ (inClass : ℕ → ℕ → Bool) (sub : List ℕ) (budget room : ℕ) (
       let all = rounds (items pat 0) 0 none [] 0 0 in
       if eqb (byteAt pat 0) (code "^") then anchored else all
 
+-- the writer of a replacement, strict or not by document 01's row "strict replacement"
 unfoldable pub writerOf : ℕ → List ℕ → List ℕ → ℕ → Writer
-writerOf version rep sub room s e cs out = addPieces sub room s e cs (eqb version 1) (pieces rep) out
+writerOf version rep sub room s e cs out = addPieces sub room s e cs (isStrict (rulesOf version)) (pieces rep) out
 
 -- 25 comes before all else
 unfoldable pub gsub : ℕ → List ℕ → List ℕ → List ℕ → ℕ → ℕ → Answer
 gsub version pat rep sub budget room =
-    let trial = strGsub matchClass sub budget room (writerOf version rep sub room) pat in
+    let trial = strGsub (classOf version) sub budget room (writerOf version rep sub room) pat in
     if isVersion version then trial else answer 25 0 [] 0 0
 
 -- the code's answer
