@@ -14,7 +14,8 @@ use Rattle.luck_replacement.specs.Replacement.{isStrict, pieces, piecesWalk}
 use Rattle.lstr_class.specs.Class.{classOf}
 use Rattle.lstr_gsub.specs.Gsub.{writerOf, gsub}
 use Rattle.lstr_gsub.proofs.Runs.{gsub-fine}
-use Rattle.lstr_laws.proofs.Sound.{AllClosed, flagsOf, NotRaised, match-sound}
+use Rattle.lstr_item.specs.Match.{flagsOf}
+use Rattle.lstr_laws.proofs.Sound.{AllClosed, NotRaised, match-sound}
 use Rattle.lstr_laws.proofs.Accepted.{well-formed, anchored-well-formed}
 use Rattle.lstr_gsub.proofs.Writings.{pieces-quiet}
 

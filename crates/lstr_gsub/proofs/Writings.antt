@@ -28,11 +28,11 @@ use Rattle.luck_replacement.specs.Replacement.{
   piecesWalk,
   checkReplacement,
 }
-use Rattle.lstr_item.specs.Match.{Capture, opened, position, closed}
+use Rattle.lstr_item.specs.Match.{Capture, opened, position, closed, isFinished, flagsOf}
 use Rattle.lstr_write.specs.Replace.{andThen, append, decimal, addCapture, addDigit, addPiece, addPieces}
 use Rattle.lstr_gsub.specs.Gsub.{writerOf}
 use Rattle.lstr_gsub.proofs.Runs.{WroteFine, append-fine, then-fine}
-use Rattle.lstr_laws.proofs.Sound.{AllClosed, isShut, flagsOf, length-flags, flags-getD}
+use Rattle.lstr_laws.proofs.Sound.{AllClosed, length-flags, flags-getD}
 use Rattle.lstr_laws.proofs.Accepted.{refused-accepted, if-passed, text-accepted}
 
 -- ---- The version
@@ -82,7 +82,7 @@ all-closed [] e i h = absurd (omega arith)
 all-closed (b ∷ flags) e zero h = and-left b (allClosed flags) e
 all-closed (b ∷ flags) e (suc i) h = all-closed flags (and-right b (allClosed flags) e) i (omega arith)
 
-capture-quiet : (sub : List ℕ) (room : ℕ) (c : Capture) → isShut c ≡ true → (out : List ℕ) → WroteFine Quiet (addCapture sub room c out)
+capture-quiet : (sub : List ℕ) (room : ℕ) (c : Capture) → isFinished c ≡ true → (out : List ℕ) → WroteFine Quiet (addCapture sub room c out)
 unfolding addCapture
 capture-quiet sub room (opened s) e out = absurd (true≢false (sym e))
 capture-quiet sub room (position s) e out = append-fine Quiet (λ z. omega arith) room (decimal (s + 1)) out

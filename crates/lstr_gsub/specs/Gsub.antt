@@ -7,7 +7,7 @@ use mathlib.Core.List.{List, [], _∷_, _++_}
 use mathlib.Core.Option.{Option, none, some}
 use lib.ListN.{length, drop}
 use lib.Dec.{eqb, ltb}
-use Rattle.luck_text.specs.Bytes.{if_then_else_, byteAt}
+use Rattle.luck_text.specs.Bytes.{if_then_else_, byteAt, inFront}
 use Rattle.luck_token.specs.Version.{isVersion, rulesOf}
 use Rattle.luck_pattern.specs.Items.{Item, items}
 use Rattle.luck_replacement.specs.Replacement.{isStrict, pieces}
@@ -38,9 +38,9 @@ pub record Report : Type 0 where
 abbrev pub report : Answer → Report
 report a = record { number = a .number; kind = a .kind; written = length (a .written); replacements = a .replacements; steps = a .steps }
 
--- the lent output at exit: its first bytes are those written, the rest is untouched
+-- the lent output at exit
 abbrev pub outputAfter : List ℕ → Answer → List ℕ
-outputAfter output a = a .written ++ drop (length (a .written)) output
+outputAfter output a = inFront (a .written) output
 
 -- what goes on after a writing, which may have ended the trial
 unfoldable pub andWrote : Wrote → ℕ → ℕ → (List ℕ → Answer) → Answer

@@ -7,7 +7,7 @@ use mathlib.Core.Bool.{Bool, true, false}
 use mathlib.Core.List.{List, [], _∷_}
 use mathlib.Core.Option.{Option, none, some}
 use lib.Dec.{eqb, ltb}
-use lib.ListN.{length, length-append}
+use lib.ListN.{length, length-append, length-set}
 use borrow.Author.Tests.{eqb-true}
 use Rattle.luck_text.specs.Bytes.{if_then_else_, byteAt, among}
 use Rattle.luck_text.specs.Walk.{Turn}
@@ -16,7 +16,7 @@ use Rattle.luck_answer.specs.Answer.{Answer}
 use Rattle.luck_linter.specs.Checks.{pattern, answer, numbers}
 use Rattle.luck_answer.proofs.Answers.{Stops, walk-every}
 use Rattle.luck_linter.proofs.Counts.{Counts, walk-counts, Bounded, check-bounded}
-use Rattle.luck_pattern.specs.Captures.{closeHere, closeLatest, isClosed, allClosed}
+use Rattle.luck_pattern.specs.Captures.{latestOpen, closeAt, closeLatest, isClosed, allClosed}
 use Rattle.luck_pattern.specs.Reading.{Head, at-open, at-close, at-percent, at-set, at-other, headOf, Escape, esc-digit, esc-balance, esc-frontier, esc-other, esc-end, escapeAt, Member, closing-bracket, escaped-member, cut-escape, byte-member, memberAt, SetEnd, closes-at, cut-at, unclosed, memberBy, memberTurn, membersEnd, firstMember, setEnd}
 use Rattle.luck_pattern.specs.Pattern.{isEmptySet, Read, past, fault, closedAs, reversedOf, setAs, setRead, escapeAs, escapeRead, onward, afterClose, headTurn, patternTurn, patternEnd, patternWalk, checkPatternAs, checkPattern}
 
@@ -37,15 +37,13 @@ abbrev SameLength : List Bool → Option (List Bool) → Type 0
 SameLength captures none = Unit {0}
 SameLength captures (some after) = length after ≡ length captures
 
-close-here : (closed : Bool) (later : List Bool) (after : Option (List Bool)) → SameLength later after → SameLength (closed ∷ later) (closeHere closed later after)
-close-here closed later (some after) e = ap suc e
-close-here true later none e = tt
-close-here false later none e = refl
-
 close-length : (captures : List Bool) → SameLength captures (closeLatest captures)
 unfolding closeLatest
-close-length [] = tt
-close-length (closed ∷ later) = close-here closed later (closeLatest later) (close-length later)
+close-length captures = go (latestOpen captures)
+  where
+    go : (o : Option ℕ) → SameLength captures (closeAt captures o)
+    go none = tt
+    go (some i) = length-set captures i true
 
 module _ (text : List ℕ) where
   member-in : (p : ℕ) (m : Member) → p < length text → Stops (EndIn (length text)) (memberBy m p)

@@ -12,7 +12,7 @@ use Rattle.luck_token.specs.Version.{isVersion, versions, has, rulesOf}
 use Rattle.luck_token.specs.Literal.{isShort}
 use Rattle.luck_utf8.specs.Utf8.{rfc3629, tailsOf, follow, widthBy, sequence, sequenceAt, noneIllFormed, illFormed}
 use Rattle.luck_answer.specs.Answer.{afterVersion, afterUtf8, checkText}
-use Rattle.luck_pattern.specs.Captures.{closeLatest, isClosed, allClosed}
+use Rattle.luck_pattern.specs.Captures.{latestOpen, closeLatest, isClosed, allClosed}
 use Rattle.luck_pattern.specs.Reading.{headOf, escapeOf, escapeAt, memberAt, memberBy, memberTurn, membersEnd, firstMember, setEnd}
 use Rattle.luck_pattern.specs.Pattern.{isEmptySet, closedAs, reversedOf, setAs, setRead, escapeAs, escapeRead, onward, afterClose, headTurn, patternTurn, patternEnd, patternWalk, checkPatternAs, checkPattern}
 use Rattle.luck_replacement.specs.Replacement.{escaped, pieces, allowsDigit, piecesWalk, checkReplacement}
@@ -115,7 +115,7 @@ Each P (of ∷ more) = P (of .0) (of .1) × Each P more
 
 -- what is computed
 unfoldable pub computed : Unit {0}
-unfolding if_then_else_ among isDigit run digitValue numeralFrom numeral walk walkFrom isVersion versions has rulesOf isShort rfc3629 tailsOf follow widthBy sequence sequenceAt noneIllFormed illFormed afterVersion afterUtf8 checkText closeLatest isClosed allClosed headOf escapeOf escapeAt memberAt memberBy memberTurn membersEnd firstMember setEnd isEmptySet closedAs reversedOf setAs setRead escapeAs escapeRead onward afterClose headTurn patternTurn patternEnd patternWalk checkPatternAs checkPattern escaped pieces allowsDigit piecesWalk checkReplacement isFlag isModifier getFormat scanPrecision scanWidth scanFormat modifiersAt isConversion flagsFor flagsRun takesPrecision afterTwoDigits goodModifiers conversionTurn specifierTurn percentTurn formatTurn formatEnd formatWalk checkFormat secondBytes isPair singleWidth pairWidth conversionWidth dateTurn dateEnd isStarT isTable conversionsWalk dateWalk checkDate getnumlimit fixedString numberedOption getoption kindOf numberOr luckSizeof luckSize maxalign isPowerOfTwo isMisaligned aligned variable alignBy alignmentOf alignToNext kindTurn optionTurn packTurn packEnd packWalk checkPack isKind bodyWalk isNumericEscape hasNumericEscape withSpan checkBody checkShort afterText checkLiteral kindCheck
+unfolding if_then_else_ among isDigit run digitValue numeralFrom numeral walk walkFrom isVersion versions has rulesOf isShort rfc3629 tailsOf follow widthBy sequence sequenceAt noneIllFormed illFormed afterVersion afterUtf8 checkText latestOpen closeLatest isClosed allClosed headOf escapeOf escapeAt memberAt memberBy memberTurn membersEnd firstMember setEnd isEmptySet closedAs reversedOf setAs setRead escapeAs escapeRead onward afterClose headTurn patternTurn patternEnd patternWalk checkPatternAs checkPattern escaped pieces allowsDigit piecesWalk checkReplacement isFlag isModifier getFormat scanPrecision scanWidth scanFormat modifiersAt isConversion flagsFor flagsRun takesPrecision afterTwoDigits goodModifiers conversionTurn specifierTurn percentTurn formatTurn formatEnd formatWalk checkFormat secondBytes isPair singleWidth pairWidth conversionWidth dateTurn dateEnd isStarT isTable conversionsWalk dateWalk checkDate getnumlimit fixedString numberedOption getoption kindOf numberOr luckSizeof luckSize maxalign isPowerOfTwo isMisaligned aligned variable alignBy alignmentOf alignToNext kindTurn optionTurn packTurn packEnd packWalk checkPack isKind bodyWalk isNumericEscape hasNumericEscape withSpan checkBody checkShort afterText checkLiteral kindCheck
 computed = tt
 
 -- each text gives its number
