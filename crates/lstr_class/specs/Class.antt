@@ -55,3 +55,7 @@ classBy (some inside) cl c = if isUpper cl then not inside else inside
 -- match_class: the byte c fits `%` and the byte cl
 unfoldable pub matchClass : ℕ → ℕ → Bool
 matchClass cl c = classBy (classTest (toLower cl) c) cl c
+
+-- the class test of a version's trials: that of 5.4 in every version
+unfoldable pub classOf : ℕ → ℕ → ℕ → Bool
+classOf version = matchClass

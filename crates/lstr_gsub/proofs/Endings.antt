@@ -4,10 +4,10 @@ use Prim.Native.Nat.{ℕ, _≤_, zero-le}
 use native.Mathlib.Omega.{arith}
 use mathlib.Core.Path.{refl}
 use mathlib.Core.List.{List, [], _∷_}
-use lib.Dec.{eqb}
 use Rattle.luck_text.specs.Bytes.{among}
-use Rattle.luck_pattern.specs.Replacement.{pieces}
-use Rattle.lstr_class.specs.Class.{matchClass}
+use Rattle.luck_token.specs.Version.{rulesOf}
+use Rattle.luck_replacement.specs.Replacement.{isStrict, pieces}
+use Rattle.lstr_class.specs.Class.{classOf}
 use Rattle.lstr_gsub.specs.Gsub.{writerOf, gsub}
 use Rattle.lstr_laws.proofs.Endings.{Ending, HasStops, other, raising, attempt-ends}
 use Rattle.lstr_gsub.proofs.Runs.{Fine, pieces-end, gsub-fine}
@@ -30,9 +30,9 @@ endings version pat rep sub budget room =
     (λ s e cs c u h out.
     pieces-end (λ number kind. Ending gsubNumbers budget number kind u) (other gsubNumbers budget 26 u refl (λ e. omega arith) (λ e. omega arith))
     (raises 6 u (omega arith) (omega arith)) (raises 9 u (omega arith) (omega arith)) (raises 10 u (omega arith) (omega arith))
-    sub room s e cs (eqb version 1) (pieces rep) out)
-    (λ s u h. attempt-ends gsubNumbers stops budget matchClass sub pat 0 s u h)
-    (λ t s u h. attempt-ends gsubNumbers stops budget matchClass sub pat 1 s u h)
+    sub room s e cs (isStrict (rulesOf version)) (pieces rep) out)
+    (λ s u h. attempt-ends gsubNumbers stops budget (classOf version) sub pat 0 s u h)
+    (λ t s u h. attempt-ends gsubNumbers stops budget (classOf version) sub pat 1 s u h)
   where
     raises : (kind u : ℕ) → 1 ≤ kind → kind ≤ 10 → Ending gsubNumbers budget 29 kind u
     raises kind u low high = raising gsubNumbers budget kind u (stops .raised) low high

@@ -7,13 +7,12 @@ use mathlib.Core.Bool.{Bool, true, false}
 use mathlib.Core.List.{List, [], _∷_}
 use mathlib.Core.Option.{some}
 use lib.ListN.{length}
-use lib.Dec.{eqb}
 use Rattle.luck_text.specs.Bytes.{if_then_else_, among}
 use Rattle.luck_token.specs.Version.{isVersion, rulesOf}
 use Rattle.luck_answer.specs.Answer.{accepted}
 use Rattle.luck_pattern.specs.Pattern.{checkPatternAs}
-use Rattle.luck_pattern.specs.Replacement.{isStrict, checkReplacement}
-use Rattle.lstr_class.specs.Class.{matchClass}
+use Rattle.luck_replacement.specs.Replacement.{isStrict, checkReplacement}
+use Rattle.lstr_class.specs.Class.{classOf}
 use Rattle.lstr_gsub.specs.Gsub.{outputAfter, strGsub, gsub}
 use Rattle.lstr_gsub.proofs.Writings.{walk-accepted, strict-accepted, writers-alike}
 use Rattle.lstr_gsub.proofs.Quiet.{quiet}
@@ -28,10 +27,10 @@ module _ (ranges : Bool) (v w n k : ℕ) (pat rep : List ℕ)
   -- the trials under any two of the six versions give the same answer, whole,
   pub same-answer : (sub output : List ℕ) (budget a b : ℕ) → isVersion a ≡ true → isVersion b ≡ true
       → gsub a pat rep sub budget (length output) ≡ gsub b pat rep sub budget (length output)
-  unfolding gsub if_then_else_
+  unfolding gsub classOf if_then_else_
   same-answer sub output budget a b i j =
       let alike = writers-alike (some n) k rep sub (length output) a b (strict-accepted w (some n) rep k replacement-accepted not-51) in
-      rw (i, j) (ap (λ write. strGsub matchClass sub budget (length output) write pat) alike)
+      rw (i, j) (ap (λ write. strGsub (classOf a) sub budget (length output) write pat) alike)
 
   -- and leave the same bytes in the whole output,
   pub same-output : (sub output : List ℕ) (budget a b : ℕ) → isVersion a ≡ true → isVersion b ≡ true
@@ -44,7 +43,7 @@ module _ (ranges : Bool) (v w n k : ℕ) (pat rep : List ℕ)
       quiet ranges v version n k true pat rep sub budget (length output) pattern-accepted
       (strict-accepted w (some n) rep k replacement-accepted not-51) (λ e. absurd-flag e)
     where
-      absurd-flag : true ≡ false → eqb version 1 ≡ true
+      absurd-flag : true ≡ false → isStrict (rulesOf version) ≡ false
       absurd-flag e = let z : _≡_ {A = ℕ} 0 1 = cc in absurd (omega arith)
 
 -- ---- With a replacement accepted under 5.1, the trial under 5.1 never raises
@@ -55,7 +54,7 @@ pub never-raises-51 : (ranges : Bool) (v n k : ℕ) (pat rep sub output : List �
     → gsub 1 pat rep sub budget (length output) .number ≡ 29
     → ⊥
 never-raises-51 ranges v n k pat rep sub output budget ok rok =
-    quiet ranges v 1 n k (isStrict (rulesOf 1)) pat rep sub budget (length output) ok (walk-accepted 1 (some n) rep k rok) (λ e. refl)
+    quiet ranges v 1 n k (isStrict (rulesOf 1)) pat rep sub budget (length output) ok (walk-accepted 1 (some n) rep k rok) (λ e. e)
 
 -- ---- Every trial, whatever it is given and however it ends
 

@@ -15,9 +15,10 @@ use borrow.Author.Tests.{eq-eqb, ne-eqb, lt-ltb, le-ltb}
 use Rattle.luck_text.specs.Bytes.{if_then_else_, byteAt}
 use Rattle.luck_text.proofs.Cases.{if-true, if-false, order}
 use Rattle.luck_pattern.specs.Items.{Item, items}
-use Rattle.luck_token.specs.Version.{isVersion}
-use Rattle.luck_pattern.specs.Replacement.{pieces}
-use Rattle.lstr_class.specs.Class.{matchClass}
+use Rattle.luck_token.specs.Version.{isVersion, rulesOf}
+use Rattle.luck_token.specs.declared.version.Rules.{Rules}
+use Rattle.luck_replacement.specs.Replacement.{isStrict, pieces}
+use Rattle.lstr_class.specs.Class.{matchClass, classOf}
 use Rattle.lstr_item.specs.Match.{Outcome, matched, failed, stopped, match}
 use Rattle.lstr_write.specs.Replace.{Wrote, append, addPieces}
 use Rattle.lstr_gsub.specs.Gsub.{Answer, answer, andWrote, Rounds, Writer, endsAgain, copyByte, copyRest, round, anchoredRound, roundsFrom, rounds, strGsub, writerOf, gsub}
@@ -130,9 +131,9 @@ unfolding endsAgain lastOf
 again-false e zero h = refl
 again-false e (suc last) h = ne-eqb e last (λ q. h (omega arith))
 
-module _ (sub : List ℕ) (budget : ℕ) (is51 : Bool) (rep : List ℕ) (is : List Item) (entry : List ℕ) where
+module _ (sub : List ℕ) (budget : ℕ) (strict : Bool) (rep : List ℕ) (is : List Item) (entry : List ℕ) where
   abbrev write : Writer
-  write = writerBy is51 rep sub (length entry)
+  write = writerBy strict rep sub (length entry)
 
   abbrev all : Rounds
   all = rounds matchClass sub budget (length entry) write is
@@ -188,13 +189,13 @@ module _ (sub : List ℕ) (budget : ℕ) (is51 : Bool) (rep : List ℕ) (is : Li
           ∙ sym (ap (λ (x : Outcome). round sub (length entry) write all x place (lastOf after) out n) (is-match r kept z)) ∙ turn
 
       module _ (w : Written) (exit : List ℕ)
-          (more : WroteAs w at output exit (addPieces sub (length output) place (r .end) (capturesIn (r .more) kept) is51 (pieces rep) out))
+          (more : WroteAs w at output exit (addPieces sub (length output) place (r .end) (capturesIn (r .more) kept) strict (pieces rep) out))
           (same : length exit ≡ length output) where
         written : andWrote (wroteOf w (take (w .at) exit)) (n + 1) (r .steps) (λ now. all (r .end) (some (r .end)) now (n + 1) (r .steps)) ≡ whole
         unfolding writerBy
         written =
             ap (λ (x : Wrote). andWrote x (n + 1) (r .steps) (λ now. all (r .end) (some (r .end)) now (n + 1) (r .steps)))
-            (more .is ∙ ap (λ (room : ℕ). addPieces sub room place (r .end) (capturesIn (r .more) kept) is51 (pieces rep) out) (going .upto .same))
+            (more .is ∙ ap (λ (room : ℕ). addPieces sub room place (r .end) (capturesIn (r .more) kept) strict (pieces rep) out) (going .upto .same))
             ∙ replaces
 
         pub goes-upto : Upto 0 entry (w .at) exit
@@ -292,13 +293,13 @@ module _ (room : ℕ) (bytes before : List ℕ) (w : Written) (out : List ℕ) (
       ∙ ap (λ (x : Wrote). andWrote x n u (λ now. answer 0 0 now n u)) (sym (is-ended w out m) ∙ e))
       (order (w .number) 1)
 
-module _ (sub : List ℕ) (budget : ℕ) (is51 : Bool) (rep : List ℕ) (is : List Item) (entry : List ℕ) (r : Attempt) (kept : List ℕ)
+module _ (sub : List ℕ) (budget : ℕ) (strict : Bool) (rep : List ℕ) (is : List Item) (entry : List ℕ) (r : Attempt) (kept : List ℕ)
     (o : outcomeOf r kept ≡ match matchClass sub budget is 0 1 [] 0) where
   abbrev anchored : Answer
-  anchored = anchoredRound sub (length entry) (writerBy is51 rep sub (length entry)) (match matchClass sub budget is 0 1 [] 0)
+  anchored = anchoredRound sub (length entry) (writerBy strict rep sub (length entry)) (match matchClass sub budget is 0 1 [] 0)
 
-  by-outcome : (x : Outcome) → outcomeOf r kept ≡ x → anchoredRound sub (length entry) (writerBy is51 rep sub (length entry)) x ≡ anchored
-  by-outcome x e = ap (anchoredRound sub (length entry) (writerBy is51 rep sub (length entry))) (sym e ∙ o)
+  by-outcome : (x : Outcome) → outcomeOf r kept ≡ x → anchoredRound sub (length entry) (writerBy strict rep sub (length entry)) x ≡ anchored
+  by-outcome x e = ap (anchoredRound sub (length entry) (writerBy strict rep sub (length entry))) (sym e ∙ o)
 
   pub anchored-stops : 1 < r .number → answer (r .number) (r .more) [] 0 (r .steps) ≡ anchored
   unfolding anchoredRound
@@ -311,7 +312,7 @@ module _ (sub : List ℕ) (budget : ℕ) (is51 : Bool) (rep : List ℕ) (is : Li
       copied (length entry) sub [] w (take (w .at) exit) (more .is) 0 (r .steps) ∙ by-outcome (failed (r .steps)) (is-failure r kept z)
 
   module _ (z : r .number ≡ 0) (w : Written) (exit : List ℕ)
-      (more : WroteAs w 0 entry exit (addPieces sub (length entry) 0 (r .end) (capturesIn (r .more) kept) is51 (pieces rep) (take 0 entry))) where
+      (more : WroteAs w 0 entry exit (addPieces sub (length entry) 0 (r .end) (capturesIn (r .more) kept) strict (pieces rep) (take 0 entry))) where
     replacing : andWrote (wroteOf w (take (w .at) exit)) 1 (r .steps) (λ now. copyRest sub (length entry) (r .end) now 1 (r .steps)) ≡ anchored
     unfolding anchoredRound writerBy
     replacing =
@@ -344,17 +345,18 @@ module _ (version : ℕ) (pat rep sub : List ℕ) (budget room : ℕ) where
   unfolding gsub
   no-version e = sym (if-false _ _ _ e)
 
-  module _ (e : isVersion version ≡ true) where
+  -- by the row of the version
+  module _ (e : isVersion version ≡ true) (rules : Rules) (row : rules ≡ rulesOf version) where
     pub gsub-anchored : byteAt pat 0 ≡ 94
-        → anchoredRound sub room (writerBy (eqb version 1) rep sub room) (match matchClass sub budget (items pat 1) 0 1 [] 0)
+        → anchoredRound sub room (writerBy (isStrict rules) rep sub room) (match matchClass sub budget (items pat 1) 0 1 [] 0)
         ≡ gsub version pat rep sub budget room
-    unfolding gsub strGsub writerBy writerOf
-    gsub-anchored h = sym (if-true _ _ _ e ∙ if-true _ _ _ (eq-eqb (byteAt pat 0) 94 h))
+    unfolding gsub strGsub classOf writerBy writerOf
+    gsub-anchored h = rw row (sym (if-true _ _ _ e ∙ if-true _ _ _ (eq-eqb (byteAt pat 0) 94 h)))
 
     pub gsub-free : (byteAt pat 0 ≡ 94 → ⊥)
-        → rounds matchClass sub budget room (writerBy (eqb version 1) rep sub room) (items pat 0) 0 none [] 0 0 ≡ gsub version pat rep sub budget room
-    unfolding gsub strGsub writerBy writerOf
-    gsub-free h = sym (if-true _ _ _ e ∙ if-false _ _ _ (ne-eqb (byteAt pat 0) 94 h))
+        → rounds matchClass sub budget room (writerBy (isStrict rules) rep sub room) (items pat 0) 0 none [] 0 0 ≡ gsub version pat rep sub budget room
+    unfolding gsub strGsub classOf writerBy writerOf
+    gsub-free h = rw row (sym (if-true _ _ _ e ∙ if-false _ _ _ (ne-eqb (byteAt pat 0) 94 h)))
 
 pub first-none : (pat : List ℕ) → length pat ≤ 0 → byteAt pat 0 ≡ 94 → ⊥
 first-none [] h e = omega arith

@@ -11,8 +11,8 @@ use lib.Dec.{eqb, leb}
 use Rattle.luck_text.specs.Bytes.{byteAt, part}
 use Rattle.luck_text.proofs.Cases.{by-test}
 use Rattle.luck_pattern.specs.Items.{Item, items}
-use Rattle.luck_pattern.specs.Replacement.{Piece, literal, digit, percent, other, lone}
-use Rattle.lstr_class.specs.Class.{matchClass}
+use Rattle.luck_replacement.specs.Replacement.{Piece, literal, digit, percent, other, lone}
+use Rattle.lstr_class.specs.Class.{classOf}
 use Rattle.lstr_item.specs.Match.{Capture, opened, position, closed, Outcome, matched, failed, stopped, match}
 use Rattle.lstr_laws.proofs.Attempts.{AttemptFine}
 use Rattle.lstr_write.specs.Replace.{Wrote, wrote, ended, andThen, append, decimal, addCapture, addDigit, addPiece, addPieces}
@@ -70,18 +70,18 @@ module _ (W : ℕ → ℕ → Type 0) where
           by-test (WroteFine W) (leb d (length cs)) _ _ (λ t. capture-ends sub room (getD cs (d - 1) (opened 0)) out)
           (λ t. by-test (WroteFine W) (eqb d 1) _ _ (λ t. append-fine full room (part sub s e) out) (λ t. ten)))
 
-      piece-ends : (is51 : Bool) (p : Piece) (out : List ℕ) → WroteFine W (addPiece sub room s e cs is51 p out)
+      piece-ends : (strict : Bool) (p : Piece) (out : List ℕ) → WroteFine W (addPiece sub room s e cs strict p out)
       unfolding addPiece
-      piece-ends is51 (literal b) out = append-fine full room (b ∷ []) out
-      piece-ends is51 (digit d) out = digit-ends d out
-      piece-ends is51 percent out = append-fine full room (37 ∷ []) out
-      piece-ends is51 (other b) out = by-test (WroteFine W) is51 _ _ (λ t. append-fine full room (b ∷ []) out) (λ t. nine)
-      piece-ends is51 lone out = by-test (WroteFine W) is51 _ _ (λ t. append-fine full room (0 ∷ []) out) (λ t. nine)
+      piece-ends strict (literal b) out = append-fine full room (b ∷ []) out
+      piece-ends strict (digit d) out = digit-ends d out
+      piece-ends strict percent out = append-fine full room (37 ∷ []) out
+      piece-ends strict (other b) out = by-test (WroteFine W) strict _ _ (λ t. nine) (λ t. append-fine full room (b ∷ []) out)
+      piece-ends strict lone out = by-test (WroteFine W) strict _ _ (λ t. nine) (λ t. append-fine full room (0 ∷ []) out)
 
-      pub pieces-end : (is51 : Bool) (ps : List Piece) (out : List ℕ) → WroteFine W (addPieces sub room s e cs is51 ps out)
+      pub pieces-end : (strict : Bool) (ps : List Piece) (out : List ℕ) → WroteFine W (addPieces sub room s e cs strict ps out)
       unfolding addPieces
-      pieces-end is51 [] out = tt
-      pieces-end is51 (p ∷ ps) out = then-fine _ _ (piece-ends is51 p out) (λ now. pieces-end is51 ps now)
+      pieces-end strict [] out = tt
+      pieces-end strict (p ∷ ps) out = then-fine _ _ (piece-ends strict p out) (λ now. pieces-end strict ps now)
 
 module _ (U : ℕ → Type 0) (E : ℕ → ℕ → ℕ → Type 0) (done : (u : ℕ) → U u → E 0 0 u) (full : (u : ℕ) → U u → E 26 0 u) where
   -- the endings at u steps
@@ -149,11 +149,11 @@ pub gsub-fine : (U : ℕ → Type 0) (E : ℕ → ℕ → ℕ → Type 0) (C : L
     → E 25 0 0
     → ((u : ℕ) → U u → E 26 0 u)
     → ((s e : ℕ) (cs : List Capture) → C cs → (u : ℕ) → U u → (out : List ℕ) → WroteFine (λ number kind. E number kind u) (writerOf version rep sub room s e cs out))
-    → ((s u : ℕ) → U u → AttemptFine U E C (match matchClass sub budget (items pat 0) s 1 [] u))
-    → (eqb (byteAt pat 0) 94 ≡ true → (s u : ℕ) → U u → AttemptFine U E C (match matchClass sub budget (items pat 1) s 1 [] u))
+    → ((s u : ℕ) → U u → AttemptFine U E C (match (classOf version) sub budget (items pat 0) s 1 [] u))
+    → (eqb (byteAt pat 0) 94 ≡ true → (s u : ℕ) → U u → AttemptFine U E C (match (classOf version) sub budget (items pat 1) s 1 [] u))
     → Fine U E (gsub version pat rep sub budget room)
 unfolding gsub
 gsub-fine U E C version pat rep sub budget room first done unknown full writes free held =
     by-test (Fine U E) _ _ _
-    (λ t. run-fine U E done full sub room (writerOf version rep sub room) C writes matchClass budget pat first free held)
+    (λ t. run-fine U E done full sub room (writerOf version rep sub room) C writes (classOf version) budget pat first free held)
     (λ t. record { steps = first; ending = unknown })

@@ -15,7 +15,7 @@ use Rattle.luck_token.specs.Version.{isVersion, versions, has, rulesOf}
 use Rattle.luck_text.proofs.Cases.{by-test, and-left, and-right}
 use Rattle.luck_answer.specs.Answer.{Answer, accepted, refused, afterVersion, checkText}
 use Rattle.luck_pattern.specs.Captures.{allClosed}
-use Rattle.luck_pattern.specs.Replacement.{
+use Rattle.luck_replacement.specs.Replacement.{
   isStrict,
   Piece,
   literal,
@@ -28,11 +28,11 @@ use Rattle.luck_pattern.specs.Replacement.{
   piecesWalk,
   checkReplacement,
 }
-use Rattle.lstr_item.specs.Match.{Capture, opened, position, closed}
+use Rattle.lstr_item.specs.Match.{Capture, opened, position, closed, isFinished, flagsOf}
 use Rattle.lstr_write.specs.Replace.{andThen, append, decimal, addCapture, addDigit, addPiece, addPieces}
 use Rattle.lstr_gsub.specs.Gsub.{writerOf}
 use Rattle.lstr_gsub.proofs.Runs.{WroteFine, append-fine, then-fine}
-use Rattle.lstr_laws.proofs.Sound.{AllClosed, isShut, flagsOf, length-flags, flags-getD}
+use Rattle.lstr_laws.proofs.Sound.{AllClosed, length-flags, flags-getD}
 use Rattle.lstr_laws.proofs.Accepted.{refused-accepted, if-passed, text-accepted}
 
 -- ---- The version
@@ -82,7 +82,7 @@ all-closed [] e i h = absurd (omega arith)
 all-closed (b ∷ flags) e zero h = and-left b (allClosed flags) e
 all-closed (b ∷ flags) e (suc i) h = all-closed flags (and-right b (allClosed flags) e) i (omega arith)
 
-capture-quiet : (sub : List ℕ) (room : ℕ) (c : Capture) → isShut c ≡ true → (out : List ℕ) → WroteFine Quiet (addCapture sub room c out)
+capture-quiet : (sub : List ℕ) (room : ℕ) (c : Capture) → isFinished c ≡ true → (out : List ℕ) → WroteFine Quiet (addCapture sub room c out)
 unfolding addCapture
 capture-quiet sub room (opened s) e out = absurd (true≢false (sym e))
 capture-quiet sub room (position s) e out = append-fine Quiet (λ z. omega arith) room (decimal (s + 1)) out
@@ -104,27 +104,28 @@ module _ (sub : List ℕ) (room s e : ℕ) (cs : List Capture) (n : ℕ) (all : 
       by-test (WroteFine Quiet) (eqb d 1) _ _ (λ t1. whole)
       (λ t1. absurd (omega (arith, eqb-false d 0 t0, eqb-false d 1 t1, leb-false d (length cs) t)))))
 
-  pub pieces-quiet : (strict is51 : Bool) → (strict ≡ false → is51 ≡ true) → (k : ℕ) (ps : List Piece) (p : ℕ) → piecesWalk strict (some n) ps p ≡ accepted k
-      → (out : List ℕ) → WroteFine Quiet (addPieces sub room s e cs is51 ps out)
+  -- accepted by the walk, and written as strictly or less
+  pub pieces-quiet : (strict writes : Bool) → (strict ≡ false → writes ≡ false) → (k : ℕ) (ps : List Piece) (p : ℕ) → piecesWalk strict (some n) ps p ≡ accepted k
+      → (out : List ℕ) → WroteFine Quiet (addPieces sub room s e cs writes ps out)
   unfolding piecesWalk addPieces addPiece allowsDigit
-  pieces-quiet strict is51 old k [] p ok out = tt
-  pieces-quiet strict is51 old k (literal b ∷ ps) p ok out =
-      then-fine Quiet _ _ (append-fine Quiet (λ z. omega arith) room (b ∷ []) out) (λ now. pieces-quiet strict is51 old k ps (p + 1) ok now)
-  pieces-quiet strict is51 old k (digit d ∷ ps) p ok out =
+  pieces-quiet strict writes old k [] p ok out = tt
+  pieces-quiet strict writes old k (literal b ∷ ps) p ok out =
+      then-fine Quiet _ _ (append-fine Quiet (λ z. omega arith) room (b ∷ []) out) (λ now. pieces-quiet strict writes old k ps (p + 1) ok now)
+  pieces-quiet strict writes old k (digit d ∷ ps) p ok out =
       let y = if-passed (leb d (max n 1)) (piecesWalk strict (some n) ps (p + 2)) 21 (p + 1) k (omega arith) ok in
-      then-fine Quiet _ _ (digit-quiet d (leb-true d (max n 1) (y .0)) out) (λ now. pieces-quiet strict is51 old k ps (p + 2) (y .1) now)
-  pieces-quiet strict is51 old k (percent ∷ ps) p ok out =
-      then-fine Quiet _ _ (append-fine Quiet (λ z. omega arith) room (37 ∷ []) out) (λ now. pieces-quiet strict is51 old k ps (p + 2) ok now)
-  pieces-quiet strict is51 old k (other b ∷ ps) p ok out =
+      then-fine Quiet _ _ (digit-quiet d (leb-true d (max n 1) (y .0)) out) (λ now. pieces-quiet strict writes old k ps (p + 2) (y .1) now)
+  pieces-quiet strict writes old k (percent ∷ ps) p ok out =
+      then-fine Quiet _ _ (append-fine Quiet (λ z. omega arith) room (37 ∷ []) out) (λ now. pieces-quiet strict writes old k ps (p + 2) ok now)
+  pieces-quiet strict writes old k (other b ∷ ps) p ok out =
       let y = if-refused k strict (piecesWalk strict (some n) ps (p + 2)) 20 (p + 1) (omega arith) ok in
       then-fine Quiet _ _
-      (by-test (WroteFine Quiet) is51 _ _ (λ t. append-fine Quiet (λ z. omega arith) room (b ∷ []) out) (λ t. absurd (true≢false (sym (old (y .0)) ∙ t))))
-      (λ now. pieces-quiet strict is51 old k ps (p + 2) (y .1) now)
-  pieces-quiet strict is51 old k (lone ∷ ps) p ok out =
+      (by-test (WroteFine Quiet) writes _ _ (λ t. absurd (true≢false (sym t ∙ old (y .0)))) (λ t. append-fine Quiet (λ z. omega arith) room (b ∷ []) out))
+      (λ now. pieces-quiet strict writes old k ps (p + 2) (y .1) now)
+  pieces-quiet strict writes old k (lone ∷ ps) p ok out =
       let y = if-refused k strict (piecesWalk strict (some n) ps (p + 1)) 19 p (omega arith) ok in
       then-fine Quiet _ _
-      (by-test (WroteFine Quiet) is51 _ _ (λ t. append-fine Quiet (λ z. omega arith) room (0 ∷ []) out) (λ t. absurd (true≢false (sym (old (y .0)) ∙ t))))
-      (λ now. pieces-quiet strict is51 old k ps (p + 1) (y .1) now)
+      (by-test (WroteFine Quiet) writes _ _ (λ t. absurd (true≢false (sym t ∙ old (y .0)))) (λ t. append-fine Quiet (λ z. omega arith) room (0 ∷ []) out))
+      (λ now. pieces-quiet strict writes old k ps (p + 1) (y .1) now)
 
 -- ---- Alike under all versions
 
@@ -145,4 +146,4 @@ pub writers-alike : (count : Option ℕ) (k : ℕ) (rep sub : List ℕ) (room a 
     → writerOf a rep sub room ≡ writerOf b rep sub room
 unfolding writerOf
 writers-alike count k rep sub room a b ok =
-    fun-ext (λ s. fun-ext (λ e. fun-ext (λ cs. fun-ext (λ out. pieces-alike sub room s e cs count k (eqb a 1) (eqb b 1) (pieces rep) 0 ok out))))
+    fun-ext (λ s. fun-ext (λ e. fun-ext (λ cs. fun-ext (λ out. pieces-alike sub room s e cs count k (isStrict (rulesOf a)) (isStrict (rulesOf b)) (pieces rep) 0 ok out))))

@@ -12,23 +12,24 @@ use Rattle.luck_text.specs.Walk.{walk, walkFrom}
 use Rattle.luck_token.specs.Version.{isVersion, versions, has, rulesOf}
 use Rattle.luck_utf8.specs.Utf8.{rfc3629, tailsOf, follow, widthBy, sequence, sequenceAt, noneIllFormed, illFormed, codePoint, charAt, isChar, utf8Bytes}
 use Rattle.luck_answer.specs.Answer.{Answer, accepted, refused, refusedWith, refusedBoth, afterVersion, afterUtf8, checkText}
-use Rattle.luck_pattern.specs.Captures.{closeLatest, isClosed, allClosed}
-use Rattle.luck_pattern.specs.Pattern.{headOf, escapeOf, escapeAt, memberAt, memberBy, memberTurn, membersEnd, firstMember, setEnd, isEmptySet, closedAs, reversedOf, setAs, setRead, escapeAs, escapeRead, onward, afterClose, headTurn, patternTurn, patternEnd, patternWalk, checkPatternAs, checkPattern}
+use Rattle.luck_pattern.specs.Captures.{latestOpen, closeLatest, isClosed, allClosed}
+use Rattle.luck_pattern.specs.Reading.{headOf, escapeOf, escapeAt, memberAt, memberBy, memberTurn, membersEnd, firstMember, setEnd}
+use Rattle.luck_pattern.specs.Pattern.{isEmptySet, closedAs, reversedOf, setAs, setRead, escapeAs, escapeRead, onward, afterClose, headTurn, patternTurn, patternEnd, patternWalk, checkPatternAs, checkPattern}
 use Rattle.luck_pattern.specs.Elements.{elementAt, widthOf, placedFrom, placedElements, elementsIn, elementsOf, isReversed, reversedIn, firstReversed}
 use Rattle.luck_pattern.specs.Items.{setOf, repeatOf, repeatWidth, repeated, readSingle, readSet, readFrontier, readEscape, readByte, readHead, readItem, thenItems, itemsFrom, items}
-use Rattle.luck_pattern.specs.Replacement.{escaped, pieces, allowsDigit, piecesWalk, checkReplacement}
+use Rattle.luck_replacement.specs.Replacement.{escaped, pieces, allowsDigit, piecesWalk, checkReplacement}
 use Rattle.luck_format.specs.Format.{isFlag, isModifier, getFormat, scanPrecision, scanWidth, scanFormat, modifiersAt, isConversion, flagsFor, flagsRun, takesPrecision, afterTwoDigits, goodModifiers, conversionTurn, specifierTurn, percentTurn, formatTurn, formatEnd, formatWalk, checkFormat}
 use Rattle.luck_pack.specs.Pack.{getnumlimit, fixedString, numberedOption, getoption, kindOf, numberOr, luckSizeof, luckSize, maxalign, isPowerOfTwo, isMisaligned, aligned, variable, alignBy, alignmentOf, alignToNext, kindTurn, optionTurn, packTurn, packEnd, packWalk, checkPack}
-use Rattle.lstr_class.specs.Class.{isLower, isUpper, isAlpha, isAlnum, isCntrl, isGraph, isPunct, toLower, classTest, classBy, matchClass}
+use Rattle.lstr_class.specs.Class.{isLower, isUpper, isAlpha, isAlnum, isCntrl, isGraph, isPunct, toLower, classTest, classBy, matchClass, classOf}
 use Rattle.lstr_item.specs.Single.{isElement, isAnyOf, inSet, fits}
-use Rattle.lstr_item.specs.Match.{toCloseBy, captureToClose, due, newLevel, orElse, startCapture, endCapture, matchCapture, backReference, goesOnAt, isFrontier, passedOver, longestFirst, maxExpand, fitsAt, reach, minExpand, expand, doItem, match}
+use Rattle.lstr_item.specs.Match.{captureToClose, due, newLevel, orElse, startCapture, endCapture, matchCapture, backReference, goesOnAt, isFrontier, passedOver, longestFirst, maxExpand, fitsAt, reach, minExpand, expand, doItem, match}
 use Rattle.lstr_class.specs.Subject.{sameBytes, balanceEnd, matchBalance, byteBefore}
 use Rattle.lstr_write.specs.Replace.{andThen, append, decimalFrom, decimal, addCapture, addDigit, addPiece, addPieces}
 use Rattle.lstr_gsub.specs.Gsub.{Answer as Trial, answer, andWrote, endsAgain, copyByte, copyRest, round, anchoredRound, roundsFrom, rounds, strGsub, writerOf, gsub}
 
 -- what is computed
 unfoldable computed : Unit {0}
-unfolding if_then_else_ among isDigit isXdigit isLuaWhitespace run digitValue numeralFrom numeral walk walkFrom isVersion versions has rulesOf rfc3629 tailsOf follow widthBy sequence sequenceAt noneIllFormed illFormed codePoint charAt isChar utf8Bytes afterVersion afterUtf8 checkText closeLatest isClosed allClosed headOf escapeOf escapeAt memberAt memberBy memberTurn membersEnd firstMember setEnd isEmptySet closedAs reversedOf setAs setRead escapeAs escapeRead onward afterClose headTurn patternTurn patternEnd patternWalk checkPatternAs checkPattern elementAt widthOf placedFrom placedElements elementsIn elementsOf isReversed reversedIn firstReversed setOf repeatOf repeatWidth repeated readSingle readSet readFrontier readEscape readByte readHead readItem thenItems itemsFrom items escaped pieces allowsDigit piecesWalk checkReplacement isFlag isModifier getFormat scanPrecision scanWidth scanFormat modifiersAt isConversion flagsFor flagsRun takesPrecision afterTwoDigits goodModifiers conversionTurn specifierTurn percentTurn formatTurn formatEnd formatWalk checkFormat getnumlimit fixedString numberedOption getoption kindOf numberOr luckSizeof luckSize maxalign isPowerOfTwo isMisaligned aligned variable alignBy alignmentOf alignToNext kindTurn optionTurn packTurn packEnd packWalk checkPack isLower isUpper isAlpha isAlnum isCntrl isGraph isPunct toLower classTest classBy matchClass isElement isAnyOf inSet fits toCloseBy captureToClose due newLevel orElse startCapture endCapture sameBytes matchCapture backReference balanceEnd matchBalance goesOnAt byteBefore isFrontier passedOver longestFirst maxExpand fitsAt reach minExpand expand doItem match andThen append decimalFrom decimal addCapture addDigit addPiece addPieces andWrote endsAgain copyByte copyRest round anchoredRound roundsFrom rounds strGsub writerOf gsub
+unfolding if_then_else_ among isDigit isXdigit isLuaWhitespace run digitValue numeralFrom numeral walk walkFrom isVersion versions has rulesOf rfc3629 tailsOf follow widthBy sequence sequenceAt noneIllFormed illFormed codePoint charAt isChar utf8Bytes afterVersion afterUtf8 checkText latestOpen closeLatest isClosed allClosed headOf escapeOf escapeAt memberAt memberBy memberTurn membersEnd firstMember setEnd isEmptySet closedAs reversedOf setAs setRead escapeAs escapeRead onward afterClose headTurn patternTurn patternEnd patternWalk checkPatternAs checkPattern elementAt widthOf placedFrom placedElements elementsIn elementsOf isReversed reversedIn firstReversed setOf repeatOf repeatWidth repeated readSingle readSet readFrontier readEscape readByte readHead readItem thenItems itemsFrom items escaped pieces allowsDigit piecesWalk checkReplacement isFlag isModifier getFormat scanPrecision scanWidth scanFormat modifiersAt isConversion flagsFor flagsRun takesPrecision afterTwoDigits goodModifiers conversionTurn specifierTurn percentTurn formatTurn formatEnd formatWalk checkFormat getnumlimit fixedString numberedOption getoption kindOf numberOr luckSizeof luckSize maxalign isPowerOfTwo isMisaligned aligned variable alignBy alignmentOf alignToNext kindTurn optionTurn packTurn packEnd packWalk checkPack isLower isUpper isAlpha isAlnum isCntrl isGraph isPunct toLower classTest classBy matchClass classOf isElement isAnyOf inSet fits captureToClose due newLevel orElse startCapture endCapture sameBytes matchCapture backReference balanceEnd matchBalance goesOnAt byteBefore isFrontier passedOver longestFirst maxExpand fitsAt reach minExpand expand doItem match andThen append decimalFrom decimal addCapture addDigit addPiece addPieces andWrote endsAgain copyByte copyRest round anchoredRound roundsFrom rounds strGsub writerOf gsub
 computed = tt
 
 -- a case: the versions, what is given, and the answer wanted. A trial: subject, pattern, replacement, budget, room

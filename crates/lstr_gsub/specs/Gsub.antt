@@ -7,11 +7,11 @@ use mathlib.Core.List.{List, [], _∷_, _++_}
 use mathlib.Core.Option.{Option, none, some}
 use lib.ListN.{length, drop}
 use lib.Dec.{eqb, ltb}
-use Rattle.luck_text.specs.Bytes.{if_then_else_, byteAt}
-use Rattle.luck_token.specs.Version.{isVersion}
+use Rattle.luck_text.specs.Bytes.{if_then_else_, byteAt, inFront}
+use Rattle.luck_token.specs.Version.{isVersion, rulesOf}
 use Rattle.luck_pattern.specs.Items.{Item, items}
-use Rattle.luck_pattern.specs.Replacement.{pieces}
-use Rattle.lstr_class.specs.Class.{matchClass}
+use Rattle.luck_replacement.specs.Replacement.{isStrict, pieces}
+use Rattle.lstr_class.specs.Class.{classOf}
 use Rattle.lstr_gsub.specs.declared.gsub.Trial.{Trial}
 use Rattle.lstr_item.specs.Match.{Capture, Outcome, matched, failed, stopped, match}
 use Rattle.lstr_write.specs.Replace.{Wrote, wrote, ended, append, addPieces}
@@ -38,9 +38,9 @@ pub record Report : Type 0 where
 abbrev pub report : Answer → Report
 report a = record { number = a .number; kind = a .kind; written = length (a .written); replacements = a .replacements; steps = a .steps }
 
--- the lent output at exit: its first bytes are those written, the rest is untouched
+-- the lent output at exit
 abbrev pub outputAfter : List ℕ → Answer → List ℕ
-outputAfter output a = a .written ++ drop (length (a .written)) output
+outputAfter output a = inFront (a .written) output
 
 -- what goes on after a writing, which may have ended the trial
 unfoldable pub andWrote : Wrote → ℕ → ℕ → (List ℕ → Answer) → Answer
@@ -104,13 +104,14 @@ module _ (inClass : ℕ → ℕ → Bool) (sub : List ℕ) (budget room : ℕ) (
       let all = rounds (items pat 0) 0 none [] 0 0 in
       if eqb (byteAt pat 0) (code "^") then anchored else all
 
+-- the writer of a replacement, strict or not by document 01's row "strict replacement"
 unfoldable pub writerOf : ℕ → List ℕ → List ℕ → ℕ → Writer
-writerOf version rep sub room s e cs out = addPieces sub room s e cs (eqb version 1) (pieces rep) out
+writerOf version rep sub room s e cs out = addPieces sub room s e cs (isStrict (rulesOf version)) (pieces rep) out
 
 -- 25 comes before all else
 unfoldable pub gsub : ℕ → List ℕ → List ℕ → List ℕ → ℕ → ℕ → Answer
 gsub version pat rep sub budget room =
-    let trial = strGsub matchClass sub budget room (writerOf version rep sub room) pat in
+    let trial = strGsub (classOf version) sub budget room (writerOf version rep sub room) pat in
     if isVersion version then trial else answer 25 0 [] 0 0
 
 -- the code's answer

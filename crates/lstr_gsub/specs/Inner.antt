@@ -4,7 +4,7 @@ use Prim.Native.Nat.{ℕ}
 use mathlib.Core.Path.{_≡_}
 use mathlib.Core.Bool.{Bool}
 use mathlib.Core.List.{List}
-use Rattle.luck_pattern.specs.Replacement.{pieces}
+use Rattle.luck_replacement.specs.Replacement.{pieces}
 use Rattle.lstr_write.specs.Replace.{addPieces}
 use Rattle.lstr_gsub.specs.Gsub.{Answer, Writer, report, reportOf, outputAfter}
 use Rattle.lstr_gsub.specs.declared.gsub.Trial.{Trial}
@@ -14,6 +14,6 @@ pub record Reported (r : Trial) (entry exit : List ℕ) (a : Answer) : Type 0 wh
   pub is : reportOf r ≡ report a
   pub output : exit ≡ outputAfter entry a
 
--- the writer of 5.1 or of the others
+-- the writer of a replacement, strict or not
 unfoldable pub writerBy : Bool → List ℕ → List ℕ → ℕ → Writer
-writerBy is51 rep sub room s e cs out = addPieces sub room s e cs is51 (pieces rep) out
+writerBy strict rep sub room s e cs out = addPieces sub room s e cs strict (pieces rep) out

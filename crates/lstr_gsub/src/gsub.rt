@@ -28,7 +28,7 @@ pub struct Trial {
 // The rounds over the subject: at each place an attempt, whose match is replaced unless it ends where the last one did.
 fn run_rounds(
     masks: &[u8; 256],
-    is_51: bool,
+    is_strict: bool,
     pattern: &[u8],
     replacement: &[u8],
     subject: &[u8],
@@ -38,7 +38,7 @@ fn run_rounds(
     requires { ⌜ AreMasks (now masks) ⌝ }
     ensures { λ r. ⌜
         Reported r (now (output .entry)) (now (output .exit))
-        (rounds matchClass (now (subject .entry)) budget (length (now (output .entry))) (writerBy «is_51» (now (replacement .entry)) (now (subject .entry)) (length (now (output .entry)))) (items (now (pattern .entry)) 0) 0 none [] 0 0)
+        (rounds matchClass (now (subject .entry)) budget (length (now (output .entry))) (writerBy «is_strict» (now (replacement .entry)) (now (subject .entry)) (length (now (output .entry)))) (items (now (pattern .entry)) 0) 0 none [] 0 0)
         ⌝ }
 {
     let lead = attempt::lead_of(pattern);
@@ -77,7 +77,7 @@ fn run_rounds(
                 let wrote = replace::add_pieces(
                     subject,
                     replacement,
-                    is_51,
+                    is_strict,
                     place,
                     end,
                     attempt.more as usize,
@@ -127,7 +127,7 @@ fn run_rounds(
 // The one attempt of an anchored pattern; the rest of the subject is copied.
 fn run_anchored(
     masks: &[u8; 256],
-    is_51: bool,
+    is_strict: bool,
     pattern: &[u8],
     replacement: &[u8],
     subject: &[u8],
@@ -137,7 +137,7 @@ fn run_anchored(
     requires { ⌜ AreMasks (now masks) × (1 ≤ length (now pattern)) ⌝ }
     ensures { λ r. ⌜
         Reported r (now (output .entry)) (now (output .exit))
-        (anchoredRound (now (subject .entry)) (length (now (output .entry))) (writerBy «is_51» (now (replacement .entry)) (now (subject .entry)) (length (now (output .entry)))) (match matchClass (now (subject .entry)) budget (items (now (pattern .entry)) 1) 0 1 [] 0))
+        (anchoredRound (now (subject .entry)) (length (now (output .entry))) (writerBy «is_strict» (now (replacement .entry)) (now (subject .entry)) (length (now (output .entry)))) (match matchClass (now (subject .entry)) budget (items (now (pattern .entry)) 1) 0 1 [] 0))
         ⌝ }
 {
     let mut kept = [0usize; 64];
@@ -166,7 +166,7 @@ fn run_anchored(
     let wrote = replace::add_pieces(
         subject,
         replacement,
-        is_51,
+        is_strict,
         0,
         end,
         attempt.more as usize,
@@ -211,11 +211,12 @@ pub fn gsub(
 {
     if version::is_version(version) {
         let masks = class::masks();
+        let rules = version::rules_of(version);
         if 0 < pattern.len() {
             if pattern[0] == b'^' {
                 return run_anchored(
                     &masks,
-                    version == 1,
+                    rules.strict_gsub_replacement,
                     pattern,
                     replacement,
                     subject,
@@ -226,7 +227,7 @@ pub fn gsub(
         }
         return run_rounds(
             &masks,
-            version == 1,
+            rules.strict_gsub_replacement,
             pattern,
             replacement,
             subject,

@@ -14,7 +14,8 @@ use lib.Dec.{eqb, leb}
 use borrow.Author.Tests.{lt-ltb, le-ltb, le-leb, lt-leb, eq-eqb, ne-eqb}
 use Rattle.luck_text.specs.Bytes.{if_then_else_}
 use Rattle.luck_text.proofs.Cases.{by-test, second-false, order}
-use Rattle.lstr_item.specs.Match.{Capture, opened, position, closed, startOf, toCloseBy, captureToClose, Outcome, Rest, raised, failed, newLevel, startCapture, endCapture, matchCapture, backReference}
+use Rattle.lstr_item.specs.Match.{Capture, opened, position, closed, startOf, isFinished, captureToClose, Outcome, Rest, raised, failed, newLevel, startCapture, endCapture, matchCapture, backReference}
+use Rattle.luck_pattern.specs.Captures.{openBy, latestOpen}
 use Rattle.lstr_class.specs.Subject.{sameBytes}
 use Rattle.lstr_item.specs.Inner.{unfinished, positional, captureOf, noPair, pairsOf, capturesOf, capturesIn, PairIn, Sound, KeptIn, closeOf, CloseIn}
 use Rattle.lstr_item.specs.declared.capture.Pair.{Pair}
@@ -47,11 +48,11 @@ module _ (start len : ℕ) where
       by-test (λ c. startOf c ≡ start) (eqb len unfinished) _ _ (λ _. refl)
       (λ _. by-test (λ c. startOf c ≡ start) (eqb len positional) _ _ (λ _. refl) (λ _. refl))
 
-  stays-none : (len ≡ unfinished → ⊥) → toCloseBy (captureOf start len) none ≡ none
-  unfolding captureOf toCloseBy if_then_else_
+  stays-none : (len ≡ unfinished → ⊥) → openBy (isFinished (captureOf start len)) none ≡ none
+  unfolding captureOf if_then_else_
   stays-none e =
       rw (ne-eqb len unfinished e)
-      (by-test (λ c. toCloseBy c none ≡ none) (eqb len positional) (position start) (closed start len) (λ _. refl) (λ _. refl))
+      (by-test (λ c. openBy (isFinished c) none ≡ none) (eqb len positional) (position start) (closed start len) (λ _. refl) (λ _. refl))
 
 -- ---- The pairs as a list of captures
 
@@ -143,22 +144,22 @@ sound-finished c i start place h e w =
 -- ---- capture_to_close, from the last pair on
 
 pub close-none : (n : ℕ) (pairs : List Pair) → n ≤ 0 → captureToClose (pairsOf n pairs) ≡ none
-unfolding pairsOf captureToClose
+unfolding pairsOf captureToClose latestOpen
 close-none zero pairs h = refl
 close-none (suc n) pairs h = absurd (omega arith)
 
 closes-last : (n : ℕ) (pairs : List Pair) → getD pairs n noPair .len ≡ unfinished → captureToClose (pairsOf (suc n) pairs) ≡ some n
-unfolding pairsOf captureToClose toCloseBy
+unfolding pairsOf captureToClose latestOpen
 closes-last n [] e = absurd (omega arith)
 closes-last zero (q ∷ pairs) e = rw (is-open (q .start) (q .len) e)
-closes-last (suc n) (q ∷ pairs) e = ap (toCloseBy (ofPair q)) (closes-last n pairs e)
+closes-last (suc n) (q ∷ pairs) e = ap (openBy (isFinished (ofPair q))) (closes-last n pairs e)
 
 passes-last : (n : ℕ) (pairs : List Pair) → (getD pairs n noPair .len ≡ unfinished → ⊥) → captureToClose (pairsOf (suc n) pairs) ≡ captureToClose (pairsOf n pairs)
-unfolding pairsOf captureToClose
+unfolding pairsOf captureToClose latestOpen
 passes-last zero [] e = refl
 passes-last (suc n) [] e = refl
 passes-last zero (q ∷ pairs) e = stays-none (q .start) (q .len) e
-passes-last (suc n) (q ∷ pairs) e = ap (toCloseBy (ofPair q)) (passes-last n pairs e)
+passes-last (suc n) (q ∷ pairs) e = ap (openBy (isFinished (ofPair q))) (passes-last n pairs e)
 
 module _ (n : ℕ) (pairs : List Pair) (h : 0 < n) where
   one-before : n ≡ suc (n - 1)

@@ -12,28 +12,7 @@ use lib.Dec.{eqb, ltb}
 use borrow.Author.Tests.{le-leb, lt-leb, eqb-true}
 use Rattle.luck_text.specs.Bytes.{byteAt}
 use Rattle.luck_text.proofs.Cases.{by-test, if-true, if-false, order}
-use Rattle.luck_pattern.specs.Pattern.{
-  Head,
-  at-open,
-  at-close,
-  at-percent,
-  at-set,
-  at-other,
-  headOf,
-  Escape,
-  esc-digit,
-  esc-balance,
-  esc-frontier,
-  esc-other,
-  esc-end,
-  escapeAt,
-  SetEnd,
-  closes-at,
-  cut-at,
-  unclosed,
-  firstMember,
-  setEnd,
-}
+use Rattle.luck_pattern.specs.Reading.{Head, at-open, at-close, at-percent, at-set, at-other, headOf, Escape, esc-digit, esc-balance, esc-frontier, esc-other, esc-end, escapeAt, SetEnd, closes-at, cut-at, unclosed, firstMember, setEnd}
 use Rattle.luck_pattern.specs.Items.{
   setOf,
   Single,

@@ -11,7 +11,7 @@ use lib.Dec.{eqb, leb, ltb}
 use borrow.Author.Tests.{le-leb, lt-leb, lt-ltb, le-ltb, eq-eqb, ne-eqb}
 use Rattle.luck_text.specs.Bytes.{if_then_else_, byteAt, between}
 use Rattle.luck_text.proofs.Cases.{if-false, first-false, second-false}
-use Rattle.luck_pattern.specs.Pattern.{firstMember}
+use Rattle.luck_pattern.specs.Reading.{firstMember}
 use Rattle.luck_pattern.specs.Elements.{Element, escape, range, plain, elementAt, widthOf, placedElements, elementsIn, elementsOf}
 use Rattle.luck_pattern.specs.Items.{setOf}
 use Rattle.luck_pattern.proofs.Elements.{placed-at, placed-end}

@@ -9,7 +9,7 @@ use mathlib.Core.Option.{Option, none, some}
 use lib.ListN.{length, getD}
 use lib.Dec.{eqb}
 use Rattle.luck_text.specs.Bytes.{if_then_else_, byteAt}
-use Rattle.luck_pattern.specs.Pattern.{SetEnd, closes-at, cut-at, unclosed}
+use Rattle.luck_pattern.specs.Reading.{SetEnd, closes-at, cut-at, unclosed}
 use Rattle.luck_pattern.specs.Items.{Single, any, class, among-set, byte, Repeat, once, optional, star, plus, minus, Item, start-capture, position-capture, end-capture, end-anchor, balance, frontier, back-reference, single, raises, setOf, items}
 use Rattle.lstr_class.specs.Class.{matchClass}
 use Rattle.lstr_item.specs.Match.{Capture, opened, position, closed, failed, raised, Rest, Reach, reached, spent, reach}

@@ -3,13 +3,13 @@
 -- In what follows s is a place of the subject, l the level, cs the captures in the order of their `(`, u the steps used.
 -- Assumes nothing.
 use Prim.Native.Nat.{ℕ, zero, suc, _+_, _-_}
-use mathlib.Core.Bool.{Bool, not, _&&_}
+use mathlib.Core.Bool.{Bool, true, false, not, _&&_}
 use mathlib.Core.List.{List, [], _∷_, _++_}
 use mathlib.Core.Option.{Option, none, some}
 use lib.ListN.{length, getD, set}
 use lib.Dec.{eqb, leb, ltb}
 use Rattle.luck_text.specs.Bytes.{if_then_else_, byteAt}
-use Rattle.luck_pattern.specs.Captures.{maxCaptures}
+use Rattle.luck_pattern.specs.Captures.{maxCaptures, latestOpen}
 use Rattle.luck_pattern.specs.Items.{
   Set,
   Single,
@@ -46,16 +46,19 @@ startOf (opened s) = s
 startOf (position s) = s
 startOf (closed s n) = s
 
--- capture_to_close: the latest open capture, counted from 0
-unfoldable pub toCloseBy : Capture → Option ℕ → Option ℕ
-toCloseBy c (some i) = some (suc i)
-toCloseBy (opened s) none = some 0
-toCloseBy (position s) none = none
-toCloseBy (closed s n) none = none
+-- as the check counts them (Captures.antt of luck_pattern): an entry for each capture, true where it is not open
+abbrev pub isFinished : Capture → Bool
+isFinished (opened s) = false
+isFinished (position s) = true
+isFinished (closed s n) = true
 
+abbrev pub flagsOf : List Capture → List Bool
+flagsOf [] = []
+flagsOf (c ∷ cs) = isFinished c ∷ flagsOf cs
+
+-- capture_to_close: the latest open capture, counted from 0
 unfoldable pub captureToClose : List Capture → Option ℕ
-captureToClose [] = none
-captureToClose (c ∷ later) = toCloseBy c (captureToClose later)
+captureToClose cs = latestOpen (flagsOf cs)
 
 -- ---- Outcomes
 

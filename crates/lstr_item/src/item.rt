@@ -3,7 +3,7 @@ ghost use Prim.Native.Nat.{_+_, _<_};
 ghost use lib.ListN.{length};
 ghost use mathlib.Core.Path.{_≡_};
 ghost use Rattle.luck_text.specs.Bytes.{byteAt};
-ghost use Rattle.luck_pattern.specs.Pattern.{setEnd};
+ghost use Rattle.luck_pattern.specs.Reading.{setEnd};
 ghost use Rattle.luck_pattern.specs.Items.{repeatOf};
 ghost use Rattle.lstr_class.specs.Inner.{foundOf};
 ghost use Rattle.lstr_item.specs.Inner.{closingOf, ClosesIn, AtSet, AtEscape, AtFrontier, repeatRead, ItemAt};

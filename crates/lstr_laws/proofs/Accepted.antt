@@ -6,7 +6,7 @@ use mathlib.Core.Path.{_≡_, refl, sym, ap, subst, _∙_}
 use mathlib.Core.Bool.{Bool, true, false}
 use mathlib.Core.List.{List, [], _∷_, _++_}
 use mathlib.Core.Option.{Option, none, some}
-use lib.ListN.{length}
+use lib.ListN.{length, set}
 use lib.Dec.{eqb, leb, ltb}
 use borrow.Author.Tests.{ltb-true, leb-true, leb-false, eqb-true}
 use Rattle.luck_text.specs.Bytes.{if_then_else_, byteAt}
@@ -16,46 +16,9 @@ use Rattle.luck_token.specs.Version.{isVersion}
 use Rattle.luck_text.proofs.Cases.{by-test, present, and-right}
 use Rattle.luck_text.proofs.Walk.{walk-end, walk-stop, walk-goes}
 use Rattle.luck_answer.specs.Answer.{Answer, accepted, refused, refusedWith, afterVersion, afterUtf8, checkText}
-use Rattle.luck_pattern.specs.Captures.{closeLatest, isClosed, allClosed}
-use Rattle.luck_pattern.specs.Pattern.{
-  Head,
-  at-open,
-  at-close,
-  at-percent,
-  at-set,
-  at-other,
-  headOf,
-  Escape,
-  esc-digit,
-  esc-balance,
-  esc-frontier,
-  esc-other,
-  esc-end,
-  escapeAt,
-  SetEnd,
-  closes-at,
-  cut-at,
-  unclosed,
-  firstMember,
-  setEnd,
-  isEmptySet,
-  Read as Found,
-  past,
-  fault,
-  closedAs,
-  reversedOf,
-  setAs,
-  setRead,
-  escapeAs,
-  escapeRead,
-  onward,
-  afterClose,
-  headTurn,
-  patternTurn,
-  patternEnd,
-  patternWalk,
-  checkPatternAs,
-}
+use Rattle.luck_pattern.specs.Captures.{latestOpen, closeAt, closeLatest, isClosed, allClosed}
+use Rattle.luck_pattern.specs.Reading.{Head, at-open, at-close, at-percent, at-set, at-other, headOf, Escape, esc-digit, esc-balance, esc-frontier, esc-other, esc-end, escapeAt, SetEnd, closes-at, cut-at, unclosed, firstMember, setEnd}
+use Rattle.luck_pattern.specs.Pattern.{isEmptySet, Read as Found, past, fault, closedAs, reversedOf, setAs, setRead, escapeAs, escapeRead, onward, afterClose, headTurn, patternTurn, patternEnd, patternWalk, checkPatternAs}
 use Rattle.luck_pattern.specs.Items.{
   Single,
   any,
@@ -188,10 +151,18 @@ module _ (pat : List ℕ) (c : ℕ) where
 
 -- ---- The items
 
+latest-opened : (flags : List Bool) → latestOpen (flags ++ (false ∷ [])) ≡ some (length flags)
+unfolding latestOpen
+latest-opened [] = refl
+latest-opened (f ∷ flags) = rw (latest-opened flags)
+
+set-opened : (flags : List Bool) → set (flags ++ (false ∷ [])) (length flags) true ≡ flags ++ (true ∷ [])
+set-opened [] = refl
+set-opened (f ∷ flags) = ap {B = List Bool} (λ r. f ∷ r) (set-opened flags)
+
 close-opened : (flags : List Bool) → closeLatest (flags ++ (false ∷ [])) ≡ some (flags ++ (true ∷ []))
 unfolding closeLatest
-close-opened [] = refl
-close-opened (f ∷ flags) = rw (close-opened flags)
+close-opened flags = ap (closeAt (flags ++ (false ∷ []))) (latest-opened flags) ∙ ap some (set-opened flags)
 
 abbrev There : Escape → Type 0
 There (esc-digit d) = Unit {0}

@@ -10,7 +10,7 @@ use lib.ListN.{length, getD, set}
 use lib.Dec.{eqb, leb, ltb}
 use borrow.Author.Tests.{ltb-true, ltb-false, le-leb}
 use Rattle.luck_text.proofs.Cases.{by-test, and-left, and-right, both-true}
-use Rattle.luck_pattern.specs.Captures.{closeHere, closeLatest, isClosed, allClosed}
+use Rattle.luck_pattern.specs.Captures.{latestOpen, closeAt, closeLatest, isClosed, allClosed}
 use Rattle.luck_pattern.specs.Items.{
   Item,
   start-capture,
@@ -23,7 +23,7 @@ use Rattle.luck_pattern.specs.Items.{
   single,
   raises,
 }
-use Rattle.lstr_item.specs.Match.{Capture, opened, position, closed, startOf, toCloseBy, captureToClose, Outcome, Rest, startCapture, endCapture, matchCapture, backReference, doItem, match}
+use Rattle.lstr_item.specs.Match.{Capture, opened, position, closed, startOf, isFinished, flagsOf, captureToClose, Outcome, Rest, startCapture, endCapture, matchCapture, backReference, doItem, match}
 use Rattle.lstr_laws.proofs.Attempts.{AttemptFine, Kept, due-kept, level-kept, single-kept, balance-kept, frontier-kept, closed-kept}
 
 -- n captures, all of them closed
@@ -46,24 +46,15 @@ WellFormed (raises kind ∷ is) flags n = ⊥
 
 -- ---- The captures and their flags
 
-abbrev pub isShut : Capture → Bool
-isShut (opened s) = false
-isShut (position s) = true
-isShut (closed s n) = true
-
-abbrev pub flagsOf : List Capture → List Bool
-flagsOf [] = []
-flagsOf (c ∷ cs) = isShut c ∷ flagsOf cs
-
 pub length-flags : (cs : List Capture) → length (flagsOf cs) ≡ length cs
 length-flags [] = refl
 length-flags (c ∷ cs) = ap suc (length-flags cs)
 
-flags-append : (cs : List Capture) (c : Capture) → flagsOf (cs ++ (c ∷ [])) ≡ flagsOf cs ++ (isShut c ∷ [])
+flags-append : (cs : List Capture) (c : Capture) → flagsOf (cs ++ (c ∷ [])) ≡ flagsOf cs ++ (isFinished c ∷ [])
 flags-append [] c = refl
-flags-append (x ∷ cs) c = ap {B = List Bool} (λ r. isShut x ∷ r) (flags-append cs c)
+flags-append (x ∷ cs) c = ap {B = List Bool} (λ r. isFinished x ∷ r) (flags-append cs c)
 
-pub flags-getD : (cs : List Capture) (i : ℕ) → getD (flagsOf cs) i false ≡ isShut (getD cs i (opened 0))
+pub flags-getD : (cs : List Capture) (i : ℕ) → getD (flagsOf cs) i false ≡ isFinished (getD cs i (opened 0))
 flags-getD [] i = refl
 flags-getD (x ∷ cs) zero = refl
 flags-getD (x ∷ cs) (suc i) = flags-getD cs i
@@ -79,32 +70,18 @@ record Closing (cs : List Capture) (after : List Bool) : Type 0 where
   pub found : captureToClose cs ≡ some at
   pub flags : (start n : ℕ) → flagsOf (set cs at (closed start n)) ≡ after
 
-none-left : (cs : List Capture) → closeLatest (flagsOf cs) ≡ none → captureToClose cs ≡ none
-unfolding closeLatest captureToClose toCloseBy
-none-left [] e = refl
-none-left (c ∷ cs) e = go (none-left cs) c (closeLatest (flagsOf cs)) refl e
-  where
-    go : (closeLatest (flagsOf cs) ≡ none → captureToClose cs ≡ none) → (c : Capture) (o : Option (List Bool)) → closeLatest (flagsOf cs) ≡ o → closeHere (isShut c) (flagsOf cs) o ≡ none → toCloseBy c (captureToClose cs) ≡ none
-    go left c (some later) p q = let z : _≡_ {A = ℕ} 0 1 = cc in absurd (omega arith)
-    go left (opened s) none p q = let z : _≡_ {A = ℕ} 0 1 = cc in absurd (omega arith)
-    go left (position s) none p q = rw (left p)
-    go left (closed s n) none p q = rw (left p)
-
-same-flags : {a b : List Bool} → _≡_ {A = Option (List Bool)} (some a) (some b) → a ≡ b
-same-flags e = cc
+flags-set : (cs : List Capture) (i : ℕ) (c : Capture) → flagsOf (set cs i c) ≡ set (flagsOf cs) i (isFinished c)
+flags-set [] i c = refl
+flags-set (x ∷ cs) zero c = refl
+flags-set (x ∷ cs) (suc i) c = ap {B = List Bool} (λ r. isFinished x ∷ r) (flags-set cs i c)
 
 close-found : (cs : List Capture) (after : List Bool) → closeLatest (flagsOf cs) ≡ some after → Closing cs after
-unfolding closeLatest captureToClose toCloseBy
-close-found [] after e = let z : _≡_ {A = ℕ} 0 1 = cc in absurd (omega arith)
-close-found (c ∷ cs) after e = go (close-found cs) c (closeLatest (flagsOf cs)) refl e
+unfolding closeLatest captureToClose
+close-found cs after e = go (latestOpen (flagsOf cs)) refl e
   where
-    go : ((after : List Bool) → closeLatest (flagsOf cs) ≡ some after → Closing cs after) → (c : Capture) (o : Option (List Bool)) → closeLatest (flagsOf cs) ≡ o → closeHere (isShut c) (flagsOf cs) o ≡ some after → Closing (c ∷ cs) after
-    go on c (some later) p q =
-        let there = on later p in
-        record { at = suc (there .at); found = rw (there .found); flags = λ start n. ap {B = List Bool} (λ r. isShut c ∷ r) (there .flags start n) ∙ same-flags q }
-    go on (opened s) none p q = record { at = 0; found = rw (none-left cs p); flags = λ start n. same-flags q }
-    go on (position s) none p q = let z : _≡_ {A = ℕ} 0 1 = cc in absurd (omega arith)
-    go on (closed s n) none p q = let z : _≡_ {A = ℕ} 0 1 = cc in absurd (omega arith)
+    go : (o : Option ℕ) → latestOpen (flagsOf cs) ≡ o → closeAt (flagsOf cs) o ≡ some after → Closing cs after
+    go none p q = let z : _≡_ {A = ℕ} 0 1 = cc in absurd (omega arith)
+    go (some i) p q = let s : set (flagsOf cs) i true ≡ after = cc in record { at = i; found = p; flags = λ start n. flags-set cs i (closed start n) ∙ s }
 
 -- ---- An attempt
 
@@ -148,7 +125,7 @@ module _ (inClass : ℕ → ℕ → Bool) (sub : List ℕ) (budget n : ℕ) wher
         level-kept inClass sub budget Sound U kept l u _ tt
         (λ m. subst (λ (k : ℕ). Sound (rest s m (set cs k (closed start (s - start))) u)) q (on m start (s - start)))
 
-    reference-sound : (c : Capture) → isShut c ≡ true → (s l : ℕ) (cs : List Capture) (u : ℕ) → ((s l u : ℕ) → U u → Sound (rest s l cs u))
+    reference-sound : (c : Capture) → isFinished c ≡ true → (s l : ℕ) (cs : List Capture) (u : ℕ) → ((s l u : ℕ) → U u → Sound (rest s l cs u))
         → Sound (matchCapture sub c rest s l cs u)
     unfolding matchCapture
     reference-sound (opened start) e s l cs u on = absurd (true≢false (sym e))
@@ -156,7 +133,7 @@ module _ (inClass : ℕ → ℕ → Bool) (sub : List ℕ) (budget n : ℕ) wher
     reference-sound (closed start k) e s l cs u on = closed-kept inClass sub budget Sound U kept rest cs on start k s l u tt
 
   -- a capture that may be referred to is there, and closed
-  reference-fine : (cs : List Capture) (d : ℕ) → isClosed (flagsOf cs) d ≡ true → (isShut (getD cs (d - 1) (opened 0)) ≡ true) × ((ltb 0 d && leb d (length cs)) ≡ true)
+  reference-fine : (cs : List Capture) (d : ℕ) → isClosed (flagsOf cs) d ≡ true → (isFinished (getD cs (d - 1) (opened 0)) ≡ true) × ((ltb 0 d && leb d (length cs)) ≡ true)
   unfolding isClosed
   reference-fine cs d e =
       let first = and-left (ltb 0 d) (getD (flagsOf cs) (d - 1) false) e in

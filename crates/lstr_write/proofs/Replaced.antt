@@ -11,7 +11,7 @@ use lib.Seq.{drop-cons}
 use borrow.Author.Tests.{eq-eqb, ne-eqb, le-leb, lt-leb}
 use Rattle.luck_text.specs.Bytes.{if_then_else_, byteAt, part, isDigit}
 use Rattle.luck_text.proofs.Cases.{if-true, if-false}
-use Rattle.luck_pattern.specs.Replacement.{Piece, literal, digit, percent, other, lone, escaped, pieces}
+use Rattle.luck_replacement.specs.Replacement.{Piece, literal, digit, percent, other, lone, escaped, pieces}
 use Rattle.lstr_item.specs.Match.{Capture, opened}
 use Rattle.lstr_write.specs.Replace.{Wrote, wrote, ended, andThen, append, decimal, addCapture, addDigit, addPiece, addPieces}
 use Rattle.lstr_item.specs.Inner.{unfinished, positional, captureOf, PairIn, capturesIn, KeptIn}
@@ -109,9 +109,9 @@ module _ (b : ℕ) where
     unfolding escaped if_then_else_
     escapes-other e = rw (ne-eqb b 37 n, e)
 
-module _ (sub : List ℕ) (room s e : ℕ) (cs : List Capture) (is51 : Bool) (b : ℕ) (out : List ℕ) where
+module _ (sub : List ℕ) (room s e : ℕ) (cs : List Capture) (strict : Bool) (b : ℕ) (out : List ℕ) where
   abbrev adds : Piece → Wrote
-  adds p = addPiece sub room s e cs is51 p out
+  adds p = addPiece sub room s e cs strict p out
 
   pub adds-percent : b ≡ 37 → append room (37 ∷ []) out ≡ adds (escaped b)
   unfolding addPiece
@@ -122,13 +122,13 @@ module _ (sub : List ℕ) (room s e : ℕ) (cs : List Capture) (is51 : Bool) (b 
     unfolding addPiece
     adds-digit h = sym (ap adds (escapes-digit b n h))
 
-    pub adds-other : isDigit b ≡ false → is51 ≡ true → append room (b ∷ []) out ≡ adds (escaped b)
+    pub adds-other : isDigit b ≡ false → strict ≡ false → append room (b ∷ []) out ≡ adds (escaped b)
     unfolding addPiece
-    adds-other h t = sym (ap adds (escapes-other b n h) ∙ if-true _ _ _ t)
+    adds-other h t = sym (ap adds (escapes-other b n h) ∙ if-false _ _ _ t)
 
-    pub adds-none : isDigit b ≡ false → is51 ≡ false → ended 29 9 out ≡ adds (escaped b)
+    pub adds-none : isDigit b ≡ false → strict ≡ true → ended 29 9 out ≡ adds (escaped b)
     unfolding addPiece
-    adds-none h t = sym (ap adds (escapes-other b n h) ∙ if-false _ _ _ t)
+    adds-none h t = sym (ap adds (escapes-other b n h) ∙ if-true _ _ _ t)
 
 -- ---- The pieces of a text at a place
 
@@ -173,31 +173,31 @@ then-wrote (ended number kind out) = refl
 
 -- ---- The pieces from a place on, behind what is written
 
-module _ (sub : List ℕ) (s e : ℕ) (cs : List Capture) (is51 : Bool) (rep : List ℕ) (at : ℕ) (entry : List ℕ) where
+module _ (sub : List ℕ) (s e : ℕ) (cs : List Capture) (strict : Bool) (rep : List ℕ) (at : ℕ) (entry : List ℕ) where
   abbrev pub on : ℕ → List ℕ → Wrote
-  on read out = addPieces sub (length entry) s e cs is51 (pieces (drop read rep)) out
+  on read out = addPieces sub (length entry) s e cs strict (pieces (drop read rep)) out
 
   -- the pieces from `read` on, behind what is written up to `next`, make the whole writing
   pub record Pieces (read next : ℕ) (now : List ℕ) : Type 0 where
     pub inside : read ≤ length rep
     pub upto : Upto at entry next now
-    pub is : on read (take next now) ≡ addPieces sub (length entry) s e cs is51 (pieces rep) (take at entry)
+    pub is : on read (take next now) ≡ addPieces sub (length entry) s e cs strict (pieces rep) (take at entry)
 
   module _ (read next : ℕ) (now : List ℕ) (so-far : Pieces read next now) where
-    pub all-pieces : length rep ≤ read → wrote (take next now) ≡ addPieces sub (length entry) s e cs is51 (pieces rep) (take at entry)
+    pub all-pieces : length rep ≤ read → wrote (take next now) ≡ addPieces sub (length entry) s e cs strict (pieces rep) (take at entry)
     unfolding addPieces
     all-pieces h =
-        sym (ap (λ (ps : List Piece). addPieces sub (length entry) s e cs is51 ps (take next now)) (at-end rep read h)) ∙ so-far .is
+        sym (ap (λ (ps : List Piece). addPieces sub (length entry) s e cs strict ps (take next now)) (at-end rep read h)) ∙ so-far .is
 
     -- a piece from `read` up to `after`
     module _ (p : Piece) (after : ℕ) (here : pieces (drop read rep) ≡ p ∷ pieces (drop after rep)) (fits : after ≤ length rep)
-        (r : Written) (exit : List ℕ) (w : WroteAs r next now exit (addPiece sub (length now) s e cs is51 p (take next now))) (same : length exit ≡ length now) where
-      cut : andThen (wroteOf r (take (r .at) exit)) (λ out. on after out) ≡ addPieces sub (length entry) s e cs is51 (pieces rep) (take at entry)
+        (r : Written) (exit : List ℕ) (w : WroteAs r next now exit (addPiece sub (length now) s e cs strict p (take next now))) (same : length exit ≡ length now) where
+      cut : andThen (wroteOf r (take (r .at) exit)) (λ out. on after out) ≡ addPieces sub (length entry) s e cs strict (pieces rep) (take at entry)
       unfolding addPieces
       cut =
           ap (λ (x : Wrote). andThen x (λ out. on after out))
-          (w .is ∙ ap (λ (room : ℕ). addPiece sub room s e cs is51 p (take next now)) (so-far .upto .same))
-          ∙ sym (ap (λ (ps : List Piece). addPieces sub (length entry) s e cs is51 ps (take next now)) here) ∙ so-far .is
+          (w .is ∙ ap (λ (room : ℕ). addPiece sub room s e cs strict p (take next now)) (so-far .upto .same))
+          ∙ sym (ap (λ (ps : List Piece). addPieces sub (length entry) s e cs strict ps (take next now)) here) ∙ so-far .is
 
       pub piece-done : r .number ≡ 0 → Pieces after (r .at) exit
       unfolding andThen
@@ -209,7 +209,7 @@ module _ (sub : List ℕ) (s e : ℕ) (cs : List Capture) (is51 : Bool) (rep : L
           }
 
       pub piece-ended : (r .number ≡ 0 → ⊥)
-          → WroteAs (record { at = r .at; number = r .number; kind = r .kind }) at entry exit (addPieces sub (length entry) s e cs is51 (pieces rep) (take at entry))
+          → WroteAs (record { at = r .at; number = r .number; kind = r .kind }) at entry exit (addPieces sub (length entry) s e cs strict (pieces rep) (take at entry))
       unfolding andThen
       piece-ended n =
           let u = goes-on at entry next now (so-far .upto) r exit _ w same in
@@ -224,19 +224,19 @@ module _ (sub : List ℕ) (s e : ℕ) (cs : List Capture) (is51 : Bool) (rep : L
 
     -- a final `%`
     module _ (h : read < length rep) (b : byteAt rep read ≡ 37) (l : length rep ≤ read + 1) where
-      only : addPiece sub (length entry) s e cs is51 lone (take next now) ≡ addPieces sub (length entry) s e cs is51 (pieces rep) (take at entry)
+      only : addPiece sub (length entry) s e cs strict lone (take next now) ≡ addPieces sub (length entry) s e cs strict (pieces rep) (take at entry)
       unfolding addPieces
       only =
-          sym (then-wrote (addPiece sub (length entry) s e cs is51 lone (take next now)))
-          ∙ sym (ap (λ (ps : List Piece). addPieces sub (length entry) s e cs is51 ps (take next now)) (at-lone rep read h b l)) ∙ so-far .is
+          sym (then-wrote (addPiece sub (length entry) s e cs strict lone (take next now)))
+          ∙ sym (ap (λ (ps : List Piece). addPieces sub (length entry) s e cs strict ps (take next now)) (at-lone rep read h b l)) ∙ so-far .is
 
-      pub lone-51 : is51 ≡ true → append (length now) (0 ∷ []) (take next now) ≡ addPieces sub (length entry) s e cs is51 (pieces rep) (take at entry)
+      pub lone-zero : strict ≡ false → append (length now) (0 ∷ []) (take next now) ≡ addPieces sub (length entry) s e cs strict (pieces rep) (take at entry)
       unfolding addPiece
-      lone-51 t = ap (λ (room : ℕ). append room (0 ∷ []) (take next now)) (so-far .upto .same) ∙ sym (if-true _ _ _ t) ∙ only
+      lone-zero t = ap (λ (room : ℕ). append room (0 ∷ []) (take next now)) (so-far .upto .same) ∙ sym (if-false _ _ _ t) ∙ only
 
-      pub lone-raises : is51 ≡ false → ended 29 9 (take next now) ≡ addPieces sub (length entry) s e cs is51 (pieces rep) (take at entry)
+      pub lone-raises : strict ≡ true → ended 29 9 (take next now) ≡ addPieces sub (length entry) s e cs strict (pieces rep) (take at entry)
       unfolding addPiece
-      lone-raises t = sym (if-false _ _ _ t) ∙ only
+      lone-raises t = sym (if-true _ _ _ t) ∙ only
 
 -- ---- What is kept lies in the subject
 

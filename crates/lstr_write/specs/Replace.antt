@@ -8,7 +8,7 @@ use mathlib.Core.List.{List, [], _∷_, _++_}
 use lib.ListN.{length, getD}
 use lib.Dec.{eqb, leb, ltb}
 use Rattle.luck_text.specs.Bytes.{if_then_else_, part}
-use Rattle.luck_pattern.specs.Replacement.{Piece, literal, digit, percent, other, lone}
+use Rattle.luck_replacement.specs.Replacement.{Piece, literal, digit, percent, other, lone}
 use Rattle.lstr_item.specs.Match.{Capture, opened, position, closed}
 
 -- what has been written; or what ended it, by number and kind, and what had been written
@@ -52,15 +52,16 @@ module _ (sub : List ℕ) (room s e : ℕ) (cs : List Capture) where
       else if leb d (length cs) then capture
       else if eqb d 1 then whole else ended 29 10 out
 
-  -- 5.1 writes the byte after a `%`, and C's closing zero byte for a final `%`
+  -- by document 01's row "strict replacement": 5.1, which is not strict, writes the byte after a `%`, and C's closing zero byte
+  -- for a final `%`
   unfoldable pub addPiece : Bool → Piece → List ℕ → Wrote
-  addPiece is51 (literal b) out = append room (b ∷ []) out
-  addPiece is51 (digit d) out = addDigit d out
-  addPiece is51 percent out = append room (code "%" ∷ []) out
-  addPiece is51 (other b) out = if is51 then append room (b ∷ []) out else ended 29 9 out
-  addPiece is51 lone out = if is51 then append room (0 ∷ []) out else ended 29 9 out
+  addPiece strict (literal b) out = append room (b ∷ []) out
+  addPiece strict (digit d) out = addDigit d out
+  addPiece strict percent out = append room (code "%" ∷ []) out
+  addPiece strict (other b) out = if strict then ended 29 9 out else append room (b ∷ []) out
+  addPiece strict lone out = if strict then ended 29 9 out else append room (0 ∷ []) out
 
   -- add_s
   unfoldable pub addPieces : Bool → List Piece → List ℕ → Wrote
-  addPieces is51 [] out = wrote out
-  addPieces is51 (p ∷ more) out = andThen (addPiece is51 p out) (λ now. addPieces is51 more now)
+  addPieces strict [] out = wrote out
+  addPieces strict (p ∷ more) out = andThen (addPiece strict p out) (λ now. addPieces strict more now)

@@ -2,7 +2,7 @@
 ghost use mathlib.Core.List.{[], _∷_};
 ghost use Prim.Native.Nat.{_+_, _<_, _≤_};
 ghost use lib.ListN.{length, take};
-ghost use Rattle.luck_pattern.specs.Replacement.{escaped, pieces};
+ghost use Rattle.luck_replacement.specs.Replacement.{escaped, pieces};
 ghost use Rattle.lstr_write.specs.Replace.{append, decimal, addCapture, addDigit, addPiece, addPieces};
 ghost use Rattle.lstr_item.specs.Inner.{captureOf, PairIn, capturesIn, KeptIn};
 ghost use Rattle.lstr_write.specs.Inner.{WroteAs};
@@ -146,7 +146,7 @@ fn add_digit(
 pub fn add_pieces(
     subject: &[u8],
     replacement: &[u8],
-    is_51: bool,
+    is_strict: bool,
     place: usize,
     end: usize,
     count: usize,
@@ -157,7 +157,7 @@ pub fn add_pieces(
     requires { ⌜ (at ≤ length (now output)) × (place ≤ end) × (end ≤ length (now subject)) × KeptIn (length (now subject)) count (now kept) ⌝ }
     ensures { λ r. ⌜
         WroteAs r at (now (output .entry)) (now (output .exit))
-        (addPieces (now (subject .entry)) (length (now (output .entry))) place end (capturesIn count (now (kept .entry))) «is_51» (pieces (now (replacement .entry))) (take at (now (output .entry))))
+        (addPieces (now (subject .entry)) (length (now (output .entry))) place end (capturesIn count (now (kept .entry))) «is_strict» (pieces (now (replacement .entry))) (take at (now (output .entry))))
         ⌝ }
 {
     let mut read = 0;
@@ -178,21 +178,21 @@ pub fn add_pieces(
             continue 'pieces;
         }
         if replacement.len() <= read {
-            if is_51 {
-                return append_byte(output, next, 0);
+            if is_strict {
+                return Wrote {
+                    at: next,
+                    number: 29,
+                    kind: 9,
+                };
             }
-            return Wrote {
-                at: next,
-                number: 29,
-                kind: 9,
-            };
+            return append_byte(output, next, 0);
         }
         let behind = replacement[read];
         read += 1;
         let wrote = add_escape(
             subject,
             behind,
-            is_51,
+            is_strict,
             place,
             end,
             count,
@@ -220,7 +220,7 @@ pub fn add_pieces(
 fn add_escape(
     subject: &[u8],
     behind: u8,
-    is_51: bool,
+    is_strict: bool,
     place: usize,
     end: usize,
     count: usize,
@@ -231,21 +231,21 @@ fn add_escape(
     requires { ⌜ (at ≤ length (now output)) × (place ≤ end) × (end ≤ length (now subject)) × KeptIn (length (now subject)) count (now kept) ⌝ }
     ensures { λ r. ⌜
         WroteAs r at (now (output .entry)) (now (output .exit))
-        (addPiece (now (subject .entry)) (length (now (output .entry))) place end (capturesIn count (now (kept .entry))) «is_51» (escaped behind) (take at (now (output .entry))))
+        (addPiece (now (subject .entry)) (length (now (output .entry))) place end (capturesIn count (now (kept .entry))) «is_strict» (escaped behind) (take at (now (output .entry))))
         ⌝ }
 {
     match behind {
         b'%' => append_byte(output, at, b'%'),
         b'0'..=b'9' => add_digit(subject, place, end, count, kept, behind - b'0', output, at),
         _ => {
-            if is_51 {
-                return append_byte(output, at, behind);
+            if is_strict {
+                return Wrote {
+                    at,
+                    number: 29,
+                    kind: 9,
+                };
             }
-            Wrote {
-                at,
-                number: 29,
-                kind: 9,
-            }
+            append_byte(output, at, behind)
         }
     }
 }

@@ -7,7 +7,7 @@ use mathlib.Core.Bool.{Bool, true, false}
 use mathlib.Core.List.{List, [], _∷_}
 use mathlib.Core.Option.{Option, none, some}
 use lib.Dec.{eqb, ltb}
-use lib.ListN.{length, length-append}
+use lib.ListN.{length, length-append, length-set}
 use borrow.Author.Tests.{eqb-true}
 use Rattle.luck_text.specs.Bytes.{if_then_else_, byteAt, among}
 use Rattle.luck_text.specs.Walk.{Turn}
@@ -82,15 +82,13 @@ abbrev SameLength : List Bool → Option (List Bool) → Type 0
 SameLength captures none = Unit {0}
 SameLength captures (some after) = length after ≡ length captures
 
-close-here : (closed : Bool) (later : List Bool) (after : Option (List Bool)) → SameLength later after → SameLength (closed ∷ later) (closeHere closed later after)
-close-here closed later (some after) e = ap suc e
-close-here true later none e = tt
-close-here false later none e = refl
-
 close-length : (captures : List Bool) → SameLength captures (closeLatest captures)
 unfolding closeLatest
-close-length [] = tt
-close-length (closed ∷ later) = close-here closed later (closeLatest later) (close-length later)
+close-length captures = go (latestOpen captures)
+  where
+    go : (o : Option ℕ) → SameLength captures (closeAt captures o)
+    go none = tt
+    go (some i) = length-set captures i true
 
 module _ (text : List ℕ) where
   member-in : (p : ℕ) (m : Member) → p < length text → Stops (EndIn (length text)) (memberBy m p)

@@ -20,47 +20,8 @@ use Rattle.luck_token.specs.Version.{isVersion}
 use Rattle.luck_utf8.specs.Utf8.{illFormed}
 use Rattle.luck_answer.specs.Answer.{Answer, accepted, refused, refusedWith, afterVersion, afterUtf8, checkText}
 use Rattle.luck_pattern.specs.Captures.{closeLatest, isClosed, allClosed}
-use Rattle.luck_pattern.specs.Pattern.{
-  Head,
-  at-open,
-  at-close,
-  at-percent,
-  at-set,
-  at-other,
-  headOf,
-  Escape,
-  esc-digit,
-  esc-balance,
-  esc-frontier,
-  esc-other,
-  esc-end,
-  escapeAt,
-  SetEnd,
-  closes-at,
-  cut-at,
-  unclosed,
-  firstMember,
-  setEnd,
-  isEmptySet,
-  Read,
-  past,
-  fault,
-  onward,
-  afterClose,
-  patternEnd,
-  closedAs,
-  reversedOf,
-  setAs,
-  setRead,
-  escapeAs,
-  escapeRead,
-  headTurn,
-  patternTurn,
-  patternWalk,
-  checkPatternAs,
-  itemReversed,
-  tested,
-}
+use Rattle.luck_pattern.specs.Reading.{Head, at-open, at-close, at-percent, at-set, at-other, headOf, Escape, esc-digit, esc-balance, esc-frontier, esc-other, esc-end, escapeAt, SetEnd, closes-at, cut-at, unclosed, firstMember, setEnd}
+use Rattle.luck_pattern.specs.Pattern.{isEmptySet, Read, past, fault, onward, afterClose, patternEnd, closedAs, reversedOf, setAs, setRead, escapeAs, escapeRead, headTurn, patternTurn, patternWalk, checkPatternAs, itemReversed, tested}
 use Rattle.luck_pattern.proofs.Places.{ClosesFrom, first-behind, set-closes}
 use Rattle.luck_pattern.proofs.Ranges.{turn-tested, Reversed, walk-or-39}
 

@@ -1,7 +1,7 @@
 -- The word of open captures and the list of captures that it stands for: opening one, closing the latest, reading one, and none open.
 -- Assumes nothing.
 use mathlib.Core.Path.{_≡_, refl, sym, ap, _∙_}
-use mathlib.Core.Bool.{false, _&&_}
+use mathlib.Core.Bool.{true, false, _&&_}
 use mathlib.Core.List.{[], _∷_, _++_}
 use mathlib.Core.Logic.{_⊎_, inl, inr}
 use mathlib.Core.Option.{none, some}
@@ -10,10 +10,10 @@ use native.Mathlib.Nat.{pow-suc, not-suc-le-zero, le-of-suc-le-suc, div-div-eq-d
 use native.Mathlib.Omega.{arith}
 use lib.Count.{ones, ones-step, leadingZeros, leading-top, leading-of-zero}
 use lib.Dec.{eqb, eqb·suc-zero, lit<}
-use lib.ListN.{length, getD}
+use lib.ListN.{length, getD, set}
 use lib.Pow.{pow-pos, shl-exact}
 use borrow.Author.Tests.{ne-eqb}
-use Rattle.luck_pattern.specs.Captures.{closeHere, closeLatest, allClosed}
+use Rattle.luck_pattern.specs.Captures.{openBy, latestOpen, closeAt, closeLatest, allClosed}
 use Rattle.luck_pattern.specs.Inner.{flagsOf}
 
 pub flags-length : (n w : ℕ) → length (flagsOf n w) ≡ n
@@ -31,25 +31,41 @@ flags-open (suc n) w h =
     let b : w / 2 < 2 ^ n = omega arith in
     rw (lo, hi, flags-open n (w / 2) b)
 
-none-open : (n : ℕ) → closeLatest (flagsOf n 0) ≡ none
-unfolding flagsOf closeLatest
+none-open : (n : ℕ) → latestOpen (flagsOf n 0) ≡ none
+unfolding flagsOf latestOpen
 none-open zero = refl
 none-open (suc n) = rw (none-open n)
 
 pub flags-none : (n w : ℕ) → w ≡ 0 → closeLatest (flagsOf n w) ≡ none
-flags-none n w e = rw e (none-open n)
+unfolding closeLatest
+flags-none n w e = rw e (ap (closeAt (flagsOf n 0)) (none-open n))
 
-pub flags-close : (n w j : ℕ) → w < 2 ^ n → 2 ^ j ≤ w → w < 2 ^ suc j → closeLatest (flagsOf n w) ≡ some (flagsOf n (w - 2 ^ j))
-unfolding flagsOf closeLatest
-flags-close zero w j h l u = let p : 0 < 2 ^ j = pow-pos j in absurd (omega arith)
-flags-close (suc n) w zero h l u = let e : w ≡ 1 = omega arith in rw e (ap (closeHere false (flagsOf n 0)) (none-open n))
-flags-close (suc n) w (suc j) h l u =
+-- the highest bit of the word is the latest open capture, and without it that one is closed
+latest-at : (n w j : ℕ) → w < 2 ^ n → 2 ^ j ≤ w → w < 2 ^ suc j → latestOpen (flagsOf n w) ≡ some j
+unfolding flagsOf latestOpen
+latest-at zero w j h l u = let p : 0 < 2 ^ j = pow-pos j in absurd (omega arith)
+latest-at (suc n) w zero h l u = let e : w ≡ 1 = omega arith in rw e (ap (openBy false) (none-open n))
+latest-at (suc n) w (suc j) h l u =
+    let p : 2 ^ suc n ≡ 2 ^ n * 2 = pow-suc 2 n in
+    let q : 2 ^ suc j ≡ 2 ^ j * 2 = pow-suc 2 j in
+    let r : 2 ^ suc (suc j) ≡ 2 ^ suc j * 2 = pow-suc 2 (suc j) in
+    rw (latest-at n (w / 2) j (omega arith) (omega arith) (omega arith))
+
+closed-at : (n w j : ℕ) → w < 2 ^ n → 2 ^ j ≤ w → w < 2 ^ suc j → set (flagsOf n w) j true ≡ flagsOf n (w - 2 ^ j)
+unfolding flagsOf
+closed-at zero w j h l u = let p : 0 < 2 ^ j = pow-pos j in absurd (omega arith)
+closed-at (suc n) w zero h l u = let e : w ≡ 1 = omega arith in rw e refl
+closed-at (suc n) w (suc j) h l u =
     let p : 2 ^ suc n ≡ 2 ^ n * 2 = pow-suc 2 n in
     let q : 2 ^ suc j ≡ 2 ^ j * 2 = pow-suc 2 j in
     let r : 2 ^ suc (suc j) ≡ 2 ^ suc j * 2 = pow-suc 2 (suc j) in
     let lo : (w - 2 ^ suc j) % 2 ≡ w % 2 = omega arith in
     let hi : (w - 2 ^ suc j) / 2 ≡ w / 2 - 2 ^ j = omega arith in
-    rw (lo, hi, flags-close n (w / 2) j (omega arith) (omega arith) (omega arith))
+    rw (lo, hi, closed-at n (w / 2) j (omega arith) (omega arith) (omega arith))
+
+pub flags-close : (n w j : ℕ) → w < 2 ^ n → 2 ^ j ≤ w → w < 2 ^ suc j → closeLatest (flagsOf n w) ≡ some (flagsOf n (w - 2 ^ j))
+unfolding closeLatest
+flags-close n w j h l u = ap (closeAt (flagsOf n w)) (latest-at n w j h l u) ∙ ap some (closed-at n w j h l u)
 
 pub flags-at : (n w d : ℕ) → d < n → getD (flagsOf n w) d false ≡ eqb (w / 2 ^ d % 2) 0
 unfolding flagsOf

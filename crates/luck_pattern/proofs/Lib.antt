@@ -4,6 +4,3 @@ pub mod Elements
 pub mod Ranges
 pub mod Exactly
 pub mod Patterns
-pub mod Replacements
-pub mod Counts
-pub mod Unread

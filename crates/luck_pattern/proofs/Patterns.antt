@@ -17,49 +17,8 @@ use Rattle.luck_text.proofs.Walk.{walk-end, walk-stop, walk-goes}
 use Rattle.luck_answer.specs.Answer.{Answer, accepted, refused, refusedWith, refusal}
 use Rattle.luck_pattern.specs.Elements.{firstReversed}
 use Rattle.luck_pattern.specs.Captures.{closeLatest, isClosed, allClosed}
-use Rattle.luck_pattern.specs.Pattern.{
-  Head,
-  at-open,
-  at-close,
-  at-percent,
-  at-set,
-  at-other,
-  headOf,
-  Escape,
-  esc-digit,
-  esc-balance,
-  esc-frontier,
-  esc-other,
-  esc-end,
-  escapeOf,
-  escapeAt,
-  memberAt,
-  SetEnd,
-  closes-at,
-  cut-at,
-  unclosed,
-  memberBy,
-  memberTurn,
-  membersEnd,
-  firstMember,
-  setEnd,
-  isEmptySet,
-  Read,
-  past,
-  fault,
-  closedAs,
-  reversedOf,
-  setAs,
-  setRead,
-  escapeAs,
-  escapeRead,
-  onward,
-  afterClose,
-  headTurn,
-  patternTurn,
-  patternEnd,
-  patternWalk,
-}
+use Rattle.luck_pattern.specs.Reading.{Head, at-open, at-close, at-percent, at-set, at-other, headOf, Escape, esc-digit, esc-balance, esc-frontier, esc-other, esc-end, escapeOf, escapeAt, memberAt, SetEnd, closes-at, cut-at, unclosed, memberBy, memberTurn, membersEnd, firstMember, setEnd}
+use Rattle.luck_pattern.specs.Pattern.{isEmptySet, Read, past, fault, closedAs, reversedOf, setAs, setRead, escapeAs, escapeRead, onward, afterClose, headTurn, patternTurn, patternEnd, patternWalk}
 use Rattle.luck_pattern.specs.Inner.{readOf, Within}
 use Rattle.luck_answer.specs.declared.format_pattern.PatternError.{PatternError}
 use Rattle.luck_pattern.specs.declared.pattern.Scan.{Scan}

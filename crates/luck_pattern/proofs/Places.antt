@@ -8,23 +8,7 @@ use mathlib.Core.List.{List}
 use lib.ListN.{length}
 use Rattle.luck_text.specs.Walk.{Turn, stop, goes, walk, walkFrom}
 use Rattle.luck_text.proofs.Cases.{by-test}
-use Rattle.luck_pattern.specs.Pattern.{
-  Member,
-  closing-bracket,
-  escaped-member,
-  cut-escape,
-  byte-member,
-  memberAt,
-  SetEnd,
-  closes-at,
-  cut-at,
-  unclosed,
-  memberBy,
-  memberTurn,
-  membersEnd,
-  firstMember,
-  setEnd,
-}
+use Rattle.luck_pattern.specs.Reading.{Member, closing-bracket, escaped-member, cut-escape, byte-member, memberAt, SetEnd, closes-at, cut-at, unclosed, memberBy, memberTurn, membersEnd, firstMember, setEnd}
 
 abbrev StopsAt : {S A : Type 0} → (A → Type 0) → Turn S A → Type 0
 StopsAt P (stop a) = P a

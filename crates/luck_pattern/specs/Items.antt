@@ -1,5 +1,5 @@
--- The items of a pattern, as `match`, classEnd and matchbracketclass of lstrlib.c 5.4 read them (document 01, "The trial"): what the trial runs. The check walks over the
--- same pattern, and both go by Pattern.antt for what stands at a place: head, escape, and where a set ends.
+-- The items of a pattern, as `match`, classEnd and matchbracketclass of lstrlib.c 5.4 read them (document 01, "The trial"):
+-- what the trial runs. The check walks over the same pattern, and both go by Reading.antt for what stands at a place.
 -- Assumes nothing.
 use Prim.Native.Nat.{ℕ, zero, suc, _+_, _-_}
 use Prim.Native.Char.{code}
@@ -9,28 +9,7 @@ use lib.ListN.{length}
 use lib.Dec.{eqb, leb, ltb}
 use Rattle.luck_text.specs.Bytes.{if_then_else_, byteAt}
 use Rattle.luck_pattern.specs.Elements.{Element, elementsOf}
-use Rattle.luck_pattern.specs.Pattern.{
-  Head,
-  at-open,
-  at-close,
-  at-percent,
-  at-set,
-  at-other,
-  headOf,
-  Escape,
-  esc-digit,
-  esc-balance,
-  esc-frontier,
-  esc-other,
-  esc-end,
-  escapeAt,
-  SetEnd,
-  closes-at,
-  cut-at,
-  unclosed,
-  firstMember,
-  setEnd,
-}
+use Rattle.luck_pattern.specs.Reading.{Head, at-open, at-close, at-percent, at-set, at-other, headOf, Escape, esc-digit, esc-balance, esc-frontier, esc-other, esc-end, escapeAt, SetEnd, closes-at, cut-at, unclosed, firstMember, setEnd}
 
 -- ---- Sets
 

@@ -1,7 +1,6 @@
 pub mod Captures
+pub mod Reading
 pub mod Elements
 pub mod Pattern
 pub mod Items
-pub mod Replacement
-pub mod Counts
 pub mod Inner

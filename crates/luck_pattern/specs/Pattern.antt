@@ -1,82 +1,21 @@
--- What stands at a place of a pattern, as lstrlib.c's matching (`match`, which document 01 calls do_match) and classEnd read it, as far as the check needs it, and which patterns are
--- accepted (validate_lua_pattern, scan_escape and scan_set of luck; document 01, "Pattern, then replacement"). luck passes over a whole UTF-8 character where this passes over one byte: the bytes after a
--- character's first are 128 or more, so none of them is a byte that is tested for here, and the two read the same items.
+-- Which patterns are accepted (validate_lua_pattern, scan_escape and scan_set of luck; document 01, "Pattern, then
+-- replacement"), by what stands at each place (Reading.antt). luck passes over a whole UTF-8 character where this passes over
+-- one byte: the bytes after a character's first are 128 or more, so none of them is a byte that is tested for here, and the
+-- two read the same items.
 -- Assumes nothing.
 use Prim.Native.Nat.{ℕ, _+_, _-_}
 use Prim.Native.Char.{code}
-use mathlib.Core.Bool.{Bool, true, false, not, _&&_}
+use mathlib.Core.Bool.{Bool, false, _&&_}
 use mathlib.Core.List.{List, [], _∷_, _++_}
 use mathlib.Core.Option.{Option, none, some}
 use lib.ListN.{length}
 use lib.Dec.{eqb, ltb}
-use Rattle.luck_text.specs.Bytes.{if_then_else_, byteAt, isDigit}
+use Rattle.luck_text.specs.Bytes.{if_then_else_, byteAt}
 use Rattle.luck_text.specs.Walk.{Turn, stop, goes, walkFrom}
 use Rattle.luck_answer.specs.Answer.{Answer, accepted, refused, refusedWith, checkText}
+use Rattle.luck_pattern.specs.Reading.{Head, at-open, at-close, at-percent, at-set, at-other, headOf, Escape, esc-digit, esc-balance, esc-frontier, esc-other, esc-end, escapeAt, SetEnd, closes-at, cut-at, unclosed, firstMember, setEnd, itemSet}
 use Rattle.luck_pattern.specs.Elements.{firstReversed}
 use Rattle.luck_pattern.specs.Captures.{maxCaptures, closeLatest, isClosed, allClosed}
-
--- ---- Reading
-
--- the switch on the byte at a place
-pub data Head : Type 0 where
-  at-open at-close at-percent at-set at-other : Head
-
-unfoldable pub headOf : ℕ → Head
-headOf b =
-    if eqb b (code "(") then at-open
-    else if eqb b (code ")") then at-close
-    else if eqb b (code "%") then at-percent
-    else if eqb b (code "[") then at-set else at-other
-
--- the switch on the byte after a `%`
-pub data Escape : Type 0 where
-  esc-digit : ℕ → Escape  -- a back-reference
-  esc-balance esc-frontier esc-other esc-end : Escape
-
-unfoldable pub escapeOf : ℕ → Escape
-escapeOf b =
-    if isDigit b then esc-digit (b - code "0")
-    else if eqb b (code "b") then esc-balance
-    else if eqb b (code "f") then esc-frontier else esc-other
-
-unfoldable pub escapeAt : List ℕ → ℕ → Escape
-escapeAt pat p = if ltb p (length pat) then escapeOf (byteAt pat p) else esc-end
-
--- the switch on the byte at a place of a set: the first member is taken even if it is a `]`, and `%` takes one more byte
-pub data Member : Type 0 where
-  closing-bracket escaped-member cut-escape byte-member : Member
-
-unfoldable pub memberAt : List ℕ → Bool → ℕ → Member
-memberAt pat first p =
-    let escape = if ltb (p + 1) (length pat) then escaped-member else cut-escape in
-    let member = if eqb (byteAt pat p) (code "%") then escape else byte-member in
-    if eqb (byteAt pat p) (code "]") && not first then closing-bracket else member
-
--- where a set ends: at its closing `]`; nowhere, since a `%` at this place ends the pattern; or nowhere
-pub data SetEnd : Type 0 where
-  closes-at cut-at : ℕ → SetEnd
-  unclosed : SetEnd
-
-unfoldable pub memberBy : Member → ℕ → Turn Bool SetEnd
-memberBy closing-bracket p = stop (closes-at p)
-memberBy escaped-member p = goes 2 false
-memberBy cut-escape p = stop (cut-at p)
-memberBy byte-member p = goes 1 false
-
-unfoldable pub memberTurn : List ℕ → ℕ → Bool → Turn Bool SetEnd
-memberTurn pat p first = memberBy (memberAt pat first p) p
-
-unfoldable pub membersEnd : ℕ → Bool → SetEnd
-membersEnd p first = unclosed
-
--- the place of the first member of the set whose `[` stands at p, after `[` or `[^`
-unfoldable pub firstMember : List ℕ → ℕ → ℕ
-firstMember pat p = if eqb (byteAt pat (p + 1)) (code "^") then p + 2 else p + 1
-
-unfoldable pub setEnd : List ℕ → ℕ → SetEnd
-setEnd pat p = walkFrom (memberTurn pat) membersEnd (length pat) (firstMember pat p) true
-
--- ---- The check
 
 -- a lone `]` ends the pattern where the set's first member is due
 unfoldable pub isEmptySet : List ℕ → ℕ → Bool
@@ -153,25 +92,7 @@ checkPatternAs ranges version pat = checkText version pat (patternWalk ranges pa
 unfoldable pub checkPattern : ℕ → List ℕ → Answer
 checkPattern version pat = checkPatternAs false version pat
 
--- ---- The set of an item, for the laws
-
-unfoldable pub escapeSet : List ℕ → ℕ → Escape → Option ℕ
-escapeSet pat p esc-end = none
-escapeSet pat p (esc-digit d) = none
-escapeSet pat p esc-balance = none
-escapeSet pat p esc-frontier = if eqb (byteAt pat (p + 2)) (code "[") then some (p + 2) else none
-escapeSet pat p esc-other = none
-
-unfoldable pub headSet : List ℕ → ℕ → Head → Option ℕ
-headSet pat p at-open = none
-headSet pat p at-close = none
-headSet pat p at-percent = escapeSet pat p (escapeAt pat (p + 1))
-headSet pat p at-set = some p
-headSet pat p at-other = none
-
--- where the `[` of the item at place p stands, if it is a set or a frontier
-unfoldable pub itemSet : List ℕ → ℕ → Option ℕ
-itemSet pat p = headSet pat p (headOf (byteAt pat p))
+-- ---- The reversed range of an item, for the laws
 
 unfoldable pub reversedBefore : List ℕ → ℕ → SetEnd → Option ℕ
 reversedBefore pat p (closes-at e) = firstReversed pat e (firstMember pat p)

@@ -1,11 +1,12 @@
--- Texts and bytes, on which all other definitions stand. A text is a list of bytes and a byte a number. A place past the end of a text reads as 0, as C's closing zero byte.
+-- Texts and bytes, on which all other definitions stand. A text is a list of bytes and a byte a number. A place past the end of
+-- a text reads as 0, as C's closing zero byte. Here and everywhere `-` on numbers stops at 0: 2 - 3 is 0.
 -- Assumes nothing.
 use Prim.Native.Nat.{ℕ, suc, _+_, _*_, _-_}
 use Prim.Native.Char.{code}
 use Prim.Native.String.{String, [] as empty, _∷_ as _then_}
 use mathlib.Core.Bool.{Bool, true, false, _&&_, _||_}
-use mathlib.Core.List.{List, [], _∷_}
-use lib.ListN.{getD, take, drop}
+use mathlib.Core.List.{List, [], _∷_, _++_}
+use lib.ListN.{length, getD, take, drop}
 use lib.Dec.{leb, eqb}
 
 infixr 5 if_then_else_
@@ -20,6 +21,10 @@ byteAt text p = getD text p 0
 -- the bytes from a place up to another, which does not belong to them
 abbrev pub part : List ℕ → ℕ → ℕ → List ℕ
 part text from to = take (to - from) (drop from text)
+
+-- a lent output after these bytes were written to its front: the rest is as it was
+abbrev pub inFront : List ℕ → List ℕ → List ℕ
+inFront written output = written ++ drop (length written) output
 
 -- a text of ASCII characters as its bytes
 abbrev pub ascii : String → List ℕ

@@ -2,11 +2,11 @@
 -- at offset 0; refused, the output is untouched, else only the value's bytes are written, from the front.
 -- Assumes nothing.
 use Prim.Native.Nat.{ℕ}
-use mathlib.Core.List.{List, _++_}
+use mathlib.Core.List.{List}
 use mathlib.Core.Option.{Option, none, some}
-use lib.ListN.{length, drop}
+use lib.ListN.{length}
 use lib.Dec.{leb}
-use Rattle.luck_text.specs.Bytes.{if_then_else_}
+use Rattle.luck_text.specs.Bytes.{if_then_else_, inFront}
 use Rattle.luck_token.specs.Version.{isVersion, rulesOf}
 use Rattle.luck_utf8.specs.Utf8.{illFormed}
 use Rattle.luck_token.specs.Literal.{literalValue}
@@ -52,5 +52,5 @@ numbered OutputTooShort = answer 26 0 0
 
 -- the output at the end
 unfoldable pub outputOf : Outcome → List ℕ → List ℕ
-outputOf (value bytes) output = bytes ++ drop (length bytes) output
+outputOf (value bytes) output = inFront bytes output
 outputOf (refused number offset) output = output

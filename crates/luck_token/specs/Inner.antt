@@ -7,6 +7,7 @@ use mathlib.Core.List.{List, [], _∷_, _++_}
 use mathlib.Core.Option.{Option, none, some}
 use Prim.Native.Char.{code}
 use lib.ListN.{length, drop}
+use Rattle.luck_text.specs.Bytes.{inFront}
 use Rattle.luck_text.specs.Scan.{neither}
 use Rattle.luck_utf8.specs.Utf8.{utf8Bytes}
 use Rattle.luck_token.specs.Literal.{Piece, piece, malformed}
@@ -54,4 +55,4 @@ Within size.Malformed len = Unit {0}
 -- a value that fits stands at the front of the output, and behind it what was there
 abbrev pub Written : Option (List ℕ) → List ℕ → List ℕ → Type 0
 Written none old new = Unit {0}
-Written (some bytes) old new = length bytes ≤ length old → new ≡ bytes ++ drop (length bytes) old
+Written (some bytes) old new = length bytes ≤ length old → new ≡ inFront bytes old

@@ -1,6 +1,6 @@
 -- `luck::luck_check_replacement` meets its contract. Assumes nothing.
 use mathlib.Core.Path.{ap, _∙_}
-use Rattle.luck_pattern.specs.Replacement.{checkReplacement}
+use Rattle.luck_replacement.specs.Replacement.{checkReplacement}
 use borrow.Author.Needs.{needs}
 use Rattle.luck.proofs.luck_check_replacement.Statement.{statement}
 use Rattle.luck.proofs.luck_check_replacement.Tie as tie

@@ -7,7 +7,7 @@ use native.Mathlib.Omega.{arith}
 use lib.Dec.{eqb}
 use lib.ListN.{length}
 use borrow.Author.Needs.{needs}
-use Rattle.luck_pattern.specs.Pattern.{firstMember, setEnd}
+use Rattle.luck_pattern.specs.Reading.{firstMember, setEnd}
 use Rattle.luck_pattern.proofs.Patterns.{members, set-begins, set-first, set-escaped, set-plain}
 use Rattle.luck_pattern.proofs.Places.{first-behind}
 use Rattle.lstr_item.proofs.Reading.{after-caret, after-bracket, after-last, closes-nowhere, closes-here, closes-cut}

@@ -4,7 +4,7 @@ use native.Mathlib.Omega.{arith}
 use mathlib.Core.Path.{refl, _∙_}
 use lib.ListN.{length, getD, take}
 use borrow.Author.Needs.{needs}
-use Rattle.luck_pattern.specs.Replacement.{literal, escaped}
+use Rattle.luck_replacement.specs.Replacement.{literal, escaped}
 use Rattle.lstr_write.specs.Replace.{addPiece}
 use Rattle.lstr_item.specs.Inner.{capturesIn}
 use Rattle.lstr_write.proofs.Outputs as outputs
@@ -13,11 +13,11 @@ use Rattle.lstr_write.proofs.replace.add_pieces.Statement.{statement}
 use Rattle.lstr_write.proofs.replace.add_pieces.Tie as tie
 
 abbrev Inv-pieces : tie.InvT-pieces
-Inv-pieces subject replacement is-51 place end count kept output₀ at read₀ next₀ output read next =
-    replaced.Pieces subject place end (capturesIn count kept) is-51 replacement at output₀ read next output
+Inv-pieces subject replacement is-strict place end count kept output₀ at read₀ next₀ output read next =
+    replaced.Pieces subject place end (capturesIn count kept) is-strict replacement at output₀ read next output
 
 abbrev μ-pieces : tie.MeasureT-pieces
-μ-pieces subject replacement is-51 place end count kept output₀ at read₀ next₀ output read next = length replacement - read
+μ-pieces subject replacement is-strict place end count kept output₀ at read₀ next₀ output read next = length replacement - read
 
 pieces-holds : tie.Need-pieces-holds Inv-pieces μ-pieces
 pieces-holds c =
@@ -48,7 +48,7 @@ returns c =
     let a = c .before .before .before .before .before .before .before .before .before .before .before .before .before .args in
     let b = getD (a .replacement .now) (l .read) 0 in
     let h = c .before .before .before .before .before .before .before .before .pieces-test .taken in
-    replaced.piece-ended (a .subject .now) (a .place) (a .end) (capturesIn (a .count) (a .kept .now)) (a .is-51) (a .replacement .now) (a .at) (a .output .now) (l .read) (l .next) (l .output) (l .inv)
+    replaced.piece-ended (a .subject .now) (a .place) (a .end) (capturesIn (a .count) (a .kept .now)) (a .is-strict) (a .replacement .now) (a .at) (a .output .now) (l .read) (l .next) (l .output) (l .inv)
     (literal b) (l .read + 1) (replaced.at-literal (a .replacement .now) (l .read) h (c .before .before .before .before .before .before .if1 .taken)) (omega (arith, h)) _ _ (c .before .before .before .before .append-byte .ensures) (search needs) (c .if2 .taken)
 
 pieces-less : tie.Need-pieces-less Inv-pieces μ-pieces
@@ -61,36 +61,36 @@ pieces-again c =
     let a = c .before .before .before .before .before .before .before .before .before .before .before .before .before .args in
     let b = getD (a .replacement .now) (l .read) 0 in
     let h = c .before .before .before .before .before .before .before .before .pieces-test .taken in
-    replaced.piece-done (a .subject .now) (a .place) (a .end) (capturesIn (a .count) (a .kept .now)) (a .is-51) (a .replacement .now) (a .at) (a .output .now) (l .read) (l .next) (l .output) (l .inv)
+    replaced.piece-done (a .subject .now) (a .place) (a .end) (capturesIn (a .count) (a .kept .now)) (a .is-strict) (a .replacement .now) (a .at) (a .output .now) (l .read) (l .next) (l .output) (l .inv)
     (literal b) (l .read + 1) (replaced.at-literal (a .replacement .now) (l .read) h (c .before .before .before .before .before .before .if1 .taken)) (omega (arith, h)) _ _ (c .before .before .before .before .append-byte .ensures) (search needs) (c .if2 .left)
+
+same-length-2 : tie.Need-same-length-2 Inv-pieces μ-pieces
+same-length-2 c = c .before .before .before .before .before .pieces .inv .upto .same
+
+returns-2 : tie.Need-returns-2 Inv-pieces μ-pieces
+returns-2 c =
+    let l = c .before .before .before .before .before .pieces in
+    let a = c .before .before .before .before .before .before .before .before .before .args in
+    outputs.stays (a .at) (a .output .now) (l .next) (l .output) (l .inv .upto) 29 9 _
+    (outputs.is-ended (record { at = l .next; number = 29; kind = 9 }) (take (l .next) (l .output)) (λ e. omega arith)
+    ∙ replaced.lone-raises (a .subject .now) (a .place) (a .end) (capturesIn (a .count) (a .kept .now)) (a .is-strict) (a .replacement .now) (a .at) (a .output .now) (l .read) (l .next) (l .output) (l .inv)
+    (c .before .before .before .before .pieces-test .taken) (c .before .before .if1 .left) (c .before .if3 .taken) (c .if4 .taken))
 
 append-byte-requires-2 : tie.Need-append-byte-requires-2 Inv-pieces μ-pieces
 append-byte-requires-2 c κs =
     let u = c .before .before .before .before .before .before .pieces .inv .upto in
     omega (arith, u .inside, u .same)
 
-same-length-2 : tie.Need-same-length-2 Inv-pieces μ-pieces
-same-length-2 c = search (needs, c .before .before .before .before .before .before .before .before .before .pieces .inv .upto .same)
-
-returns-2 : tie.Need-returns-2 Inv-pieces μ-pieces
-returns-2 c =
-    let l = c .before .before .before .before .before .before .before .before .before .pieces in
-    let a = c .before .before .before .before .before .before .before .before .before .before .before .before .before .args in
-    outputs.ends-all (a .at) (a .output .now) (l .next) (l .output) (l .inv .upto) _ _ _ (c .before .before .append-byte2 .ensures) (search needs) _
-    (replaced.lone-51 (a .subject .now) (a .place) (a .end) (capturesIn (a .count) (a .kept .now)) (a .is-51) (a .replacement .now) (a .at) (a .output .now) (l .read) (l .next) (l .output) (l .inv)
-    (c .before .before .before .before .before .before .before .before .pieces-test .taken) (c .before .before .before .before .before .before .if1 .left) (c .before .before .before .before .before .if3 .taken) (c .before .before .before .before .if4 .taken))
-
 same-length-3 : tie.Need-same-length-3 Inv-pieces μ-pieces
-same-length-3 c = c .before .before .before .before .before .pieces .inv .upto .same
+same-length-3 c = search (needs, c .before .before .before .before .before .before .before .before .before .pieces .inv .upto .same)
 
 returns-3 : tie.Need-returns-3 Inv-pieces μ-pieces
 returns-3 c =
-    let l = c .before .before .before .before .before .pieces in
-    let a = c .before .before .before .before .before .before .before .before .before .args in
-    outputs.stays (a .at) (a .output .now) (l .next) (l .output) (l .inv .upto) 29 9 _
-    (outputs.is-ended (record { at = l .next; number = 29; kind = 9 }) (take (l .next) (l .output)) (λ e. omega arith)
-    ∙ replaced.lone-raises (a .subject .now) (a .place) (a .end) (capturesIn (a .count) (a .kept .now)) (a .is-51) (a .replacement .now) (a .at) (a .output .now) (l .read) (l .next) (l .output) (l .inv)
-    (c .before .before .before .before .pieces-test .taken) (c .before .before .if1 .left) (c .before .if3 .taken) (c .if4 .left))
+    let l = c .before .before .before .before .before .before .before .before .before .pieces in
+    let a = c .before .before .before .before .before .before .before .before .before .before .before .before .before .args in
+    outputs.ends-all (a .at) (a .output .now) (l .next) (l .output) (l .inv .upto) _ _ _ (c .before .before .append-byte2 .ensures) (search needs) _
+    (replaced.lone-zero (a .subject .now) (a .place) (a .end) (capturesIn (a .count) (a .kept .now)) (a .is-strict) (a .replacement .now) (a .at) (a .output .now) (l .read) (l .next) (l .output) (l .inv)
+    (c .before .before .before .before .before .before .before .before .pieces-test .taken) (c .before .before .before .before .before .before .if1 .left) (c .before .before .before .before .before .if3 .taken) (c .before .before .before .before .if4 .left))
 
 shared-slice-read-behind : tie.Need-shared-slice-read-behind Inv-pieces μ-pieces
 shared-slice-read-behind c = search needs
@@ -114,7 +114,7 @@ returns-4 c =
     let b = getD (a .replacement .now) (l .read + 1) 0 in
     let h = c .before .before .before .before .before .before .before .before .before .before .pieces-test .taken in
     let f = c .before .before .before .before .before .before .before .if3 .left in
-    replaced.piece-ended (a .subject .now) (a .place) (a .end) (capturesIn (a .count) (a .kept .now)) (a .is-51) (a .replacement .now) (a .at) (a .output .now) (l .read) (l .next) (l .output) (l .inv)
+    replaced.piece-ended (a .subject .now) (a .place) (a .end) (capturesIn (a .count) (a .kept .now)) (a .is-strict) (a .replacement .now) (a .at) (a .output .now) (l .read) (l .next) (l .output) (l .inv)
     (escaped b) (l .read + 1 + 1) (replaced.at-escape (a .replacement .now) (l .read) h (c .before .before .before .before .before .before .before .before .if1 .left) f) (omega (arith, f)) _ _ (c .before .before .before .before .add-escape .ensures) (search needs) (c .if5 .taken)
 
 pieces-less-2 : tie.Need-pieces-less-2 Inv-pieces μ-pieces
@@ -127,7 +127,7 @@ pieces-again-2 c =
     let b = getD (a .replacement .now) (l .read + 1) 0 in
     let h = c .before .before .before .before .before .before .before .before .before .before .pieces-test .taken in
     let f = c .before .before .before .before .before .before .before .if3 .left in
-    replaced.piece-done (a .subject .now) (a .place) (a .end) (capturesIn (a .count) (a .kept .now)) (a .is-51) (a .replacement .now) (a .at) (a .output .now) (l .read) (l .next) (l .output) (l .inv)
+    replaced.piece-done (a .subject .now) (a .place) (a .end) (capturesIn (a .count) (a .kept .now)) (a .is-strict) (a .replacement .now) (a .at) (a .output .now) (l .read) (l .next) (l .output) (l .inv)
     (escaped b) (l .read + 1 + 1) (replaced.at-escape (a .replacement .now) (l .read) h (c .before .before .before .before .before .before .before .before .if1 .left) f) (omega (arith, f)) _ _ (c .before .before .before .before .add-escape .ensures) (search needs) (c .if5 .left)
 
 same-length-5 : tie.Need-same-length-5 Inv-pieces μ-pieces
@@ -139,7 +139,7 @@ returns-5 c =
     let a = c .before .before .before .before .before .args in
     outputs.stays (a .at) (a .output .now) (l .next) (l .output) (l .inv .upto) 0 0 _
     (outputs.is-wrote (record { at = l .next; number = 0; kind = 0 }) (take (l .next) (l .output)) refl
-    ∙ replaced.all-pieces (a .subject .now) (a .place) (a .end) (capturesIn (a .count) (a .kept .now)) (a .is-51) (a .replacement .now) (a .at) (a .output .now) (l .read) (l .next) (l .output) (l .inv) (c .pieces-test .left))
+    ∙ replaced.all-pieces (a .subject .now) (a .place) (a .end) (capturesIn (a .count) (a .kept .now)) (a .is-strict) (a .replacement .now) (a .at) (a .output .now) (l .read) (l .next) (l .output) (l .inv) (c .pieces-test .left))
 
 pub add-pieces-spec : {M : Type 1} → statement M
 add-pieces-spec =
@@ -155,9 +155,9 @@ add-pieces-spec =
     returns
     pieces-less
     pieces-again
-    append-byte-requires-2
     same-length-2
     returns-2
+    append-byte-requires-2
     same-length-3
     returns-3
     shared-slice-read-behind

@@ -5,7 +5,7 @@ use lib.ListN.{List·getD-eq-default}
 use borrow.Author.Needs.{needs}
 use borrow.Author.Tests.{eq-eqb, ne-eqb}
 use Rattle.luck_text.specs.Bytes.{if_then_else_}
-use Rattle.luck_pattern.specs.Pattern.{firstMember}
+use Rattle.luck_pattern.specs.Reading.{firstMember}
 use Rattle.luck_pattern.proofs.pattern.first_member.Statement.{statement}
 use Rattle.luck_pattern.proofs.pattern.first_member.Tie as tie
 

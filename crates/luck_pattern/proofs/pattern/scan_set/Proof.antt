@@ -7,7 +7,8 @@ use Prim.Native.Nat.{_-_, _≤_, _<_}
 use native.Mathlib.Omega.{arith}
 use lib.Dec.{eqb}
 use lib.ListN.{length}
-use Rattle.luck_pattern.specs.Pattern.{setEnd, isEmptySet}
+use Rattle.luck_pattern.specs.Reading.{setEnd}
+use Rattle.luck_pattern.specs.Pattern.{isEmptySet}
 use Rattle.luck_pattern.proofs.Patterns.{
   members,
   set-begins,

@@ -15,8 +15,8 @@ use Rattle.luck_text.proofs.Cases.{by-test, if-true, if-false, and-left, and-ri
 use Rattle.luck_token.specs.Version.{isVersion, rulesOf}
 use Rattle.luck_utf8.specs.Utf8.{illFormed}
 use Rattle.luck_answer.specs.Answer.{Answer, accepted, refused, afterVersion, afterUtf8, checkText}
-use Rattle.luck_pattern.specs.Replacement.{isStrict, Piece, literal, digit, percent, other, lone, pieces, allowsDigit, piecesWalk, checkReplacement}
-use Rattle.luck_pattern.specs.Counts.{
+use Rattle.luck_replacement.specs.Replacement.{isStrict, Piece, literal, digit, percent, other, lone, pieces, allowsDigit, piecesWalk, checkReplacement}
+use Rattle.luck_replacement.specs.Counts.{
   Counts,
   unknown,
   from-to,

@@ -1,7 +1,7 @@
 // The check of a gsub replacement.
 ghost use mathlib.Core.Path.{_≡_};
 ghost use Rattle.luck_answer.specs.Answer.{walkedOf, answerOf};
-ghost use Rattle.luck_pattern.specs.Replacement.{countOf, pieces, allowsDigit, piecesWalk, checkReplacement};
+ghost use Rattle.luck_replacement.specs.Replacement.{countOf, pieces, allowsDigit, piecesWalk, checkReplacement};
 use luck_answer::format_pattern;
 use luck_answer::format_pattern::Checked;
 use luck_answer::format_pattern::PatternError;

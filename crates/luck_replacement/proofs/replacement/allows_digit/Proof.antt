@@ -1,12 +1,12 @@
--- `luck_pattern::replacement::allows_digit` meets its contract. Assumes nothing.
+-- `luck_replacement::replacement::allows_digit` meets its contract. Assumes nothing.
 use mathlib.Core.Path.{_≡_, sym, ap, _∙_}
 use Prim.Native.Nat.{_-_, max}
 use native.Mathlib.Omega.{arith}
 use lib.Dec.{leb}
-use Rattle.luck_pattern.specs.Replacement.{countOf, allowsDigit}
+use Rattle.luck_replacement.specs.Replacement.{countOf, allowsDigit}
 use borrow.Author.Needs.{needs}
-use Rattle.luck_pattern.proofs.replacement.allows_digit.Statement.{statement}
-use Rattle.luck_pattern.proofs.replacement.allows_digit.Tie as tie
+use Rattle.luck_replacement.proofs.replacement.allows_digit.Statement.{statement}
+use Rattle.luck_replacement.proofs.replacement.allows_digit.Tie as tie
 
 enum-known-captures : tie.Need-enum-known-captures
 enum-known-captures c = search needs

@@ -10,8 +10,8 @@ use Rattle.luck_text.specs.Bytes.{if_then_else_, isDigit}
 use Rattle.luck_token.specs.Version.{rulesOf}
 use Rattle.luck_token.specs.declared.version.Rules.{Rules}
 use Rattle.luck_answer.specs.Answer.{Answer, accepted, refused, checkText}
-use Rattle.luck_pattern.specs.declared.replacement.Captures.{Captures}
-use Rattle.luck_pattern.specs.declared.replacement.Captures.the-variants.{Known, Unknown}
+use Rattle.luck_replacement.specs.declared.replacement.Captures.{Captures}
+use Rattle.luck_replacement.specs.declared.replacement.Captures.the-variants.{Known, Unknown}
 
 -- the row "strict replacement, checked date" of document 01
 abbrev pub isStrict : Rules → Bool

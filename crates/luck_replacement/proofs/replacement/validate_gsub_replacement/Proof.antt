@@ -1,11 +1,11 @@
--- `luck_pattern::replacement::validate_gsub_replacement` meets its contract. Assumes nothing.
+-- `luck_replacement::replacement::validate_gsub_replacement` meets its contract. Assumes nothing.
 use mathlib.Core.Path.{sym, ap, _∙_}
 use Rattle.luck_answer.specs.Answer.{textAnswer}
 use Rattle.luck_token.specs.Version.{rulesOf}
-use Rattle.luck_pattern.specs.Replacement.{countOf, pieces, piecesWalk, checkReplacement}
+use Rattle.luck_replacement.specs.Replacement.{countOf, pieces, piecesWalk, checkReplacement}
 use borrow.Author.Needs.{needs}
-use Rattle.luck_pattern.proofs.replacement.validate_gsub_replacement.Statement.{statement}
-use Rattle.luck_pattern.proofs.replacement.validate_gsub_replacement.Tie as tie
+use Rattle.luck_replacement.proofs.replacement.validate_gsub_replacement.Statement.{statement}
+use Rattle.luck_replacement.proofs.replacement.validate_gsub_replacement.Tie as tie
 
 read-text-requires : tie.Need-read-text-requires
 read-text-requires c κs = search needs

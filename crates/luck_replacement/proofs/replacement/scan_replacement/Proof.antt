@@ -1,4 +1,4 @@
--- `luck_pattern::replacement::scan_replacement` meets its contract. The invariant: the walk over the pieces from here is the whole answer. Assumes nothing.
+-- `luck_replacement::replacement::scan_replacement` meets its contract. The invariant: the walk over the pieces from here is the whole answer. Assumes nothing.
 use mathlib.Core.Path.{_≡_, refl, sym, _∙_}
 use Prim.Native.Nat.{_+_, _-_, _≤_}
 use native.Mathlib.Omega.{arith}
@@ -7,11 +7,11 @@ use lib.ListN.{length}
 use borrow.Author.Tests.{not-true, not-false}
 use Rattle.luck_text.specs.Bytes.{byteAt, isDigit}
 use Rattle.luck_text.proofs.Bytes.{within, below, above}
-use Rattle.luck_pattern.specs.Replacement.{countOf, pieces, piecesWalk}
-use Rattle.luck_pattern.proofs.Replacements as laws
+use Rattle.luck_replacement.specs.Replacement.{countOf, pieces, piecesWalk}
+use Rattle.luck_replacement.proofs.Replacements as laws
 use borrow.Author.Needs.{needs}
-use Rattle.luck_pattern.proofs.replacement.scan_replacement.Statement.{statement}
-use Rattle.luck_pattern.proofs.replacement.scan_replacement.Tie as tie
+use Rattle.luck_replacement.proofs.replacement.scan_replacement.Statement.{statement}
+use Rattle.luck_replacement.proofs.replacement.scan_replacement.Tie as tie
 
 abbrev Inv-loop : tie.InvT-loop
 Inv-loop text captures is-strict at₀ at = (at ≤ length text) × (laws.on is-strict (countOf captures) text at ≡ piecesWalk is-strict (countOf captures) (pieces text) 0)

@@ -14,9 +14,9 @@ use Rattle.luck_text.proofs.Cases.{by-test, if-true, and-left, and-right}
 use Rattle.luck_token.specs.Version.{isVersion, versions, has, rulesOf}
 use Rattle.luck_utf8.specs.Utf8.{illFormed}
 use Rattle.luck_answer.specs.Answer.{Answer, accepted, afterVersion, afterUtf8, checkText}
-use Rattle.luck_pattern.specs.Replacement.{isStrict, Piece, literal, digit, percent, other, lone, escaped, pieces, allowsDigit, piecesWalk, checkReplacement}
-use Rattle.luck_pattern.specs.Counts.{from-to, for-every, checkRanged, largestDigit}
-use Rattle.luck_pattern.proofs.Counts.{accepted-for-every}
+use Rattle.luck_replacement.specs.Replacement.{isStrict, Piece, literal, digit, percent, other, lone, escaped, pieces, allowsDigit, piecesWalk, checkReplacement}
+use Rattle.luck_replacement.specs.Counts.{from-to, for-every, checkRanged, largestDigit}
+use Rattle.luck_replacement.proofs.Counts.{accepted-for-every}
 
 -- no digit of a text is above 9
 escaped-nine : (c : ℕ) (ps : List Piece) → largestDigit ps ≤ 9 → largestDigit (escaped c ∷ ps) ≤ 9

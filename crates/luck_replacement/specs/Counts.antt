@@ -9,7 +9,7 @@ use lib.Dec.{eqb, leb, ltb}
 use Rattle.luck_text.specs.Bytes.{if_then_else_}
 use Rattle.luck_token.specs.Version.{isVersion}
 use Rattle.luck_answer.specs.Answer.{Answer, accepted, refused}
-use Rattle.luck_pattern.specs.Replacement.{Piece, literal, digit, percent, other, lone, checkReplacement}
+use Rattle.luck_replacement.specs.Replacement.{Piece, literal, digit, percent, other, lone, checkReplacement}
 
 -- what is known of the count of captures: nothing, or its lowest and its highest number
 pub data Counts : Type 0 where

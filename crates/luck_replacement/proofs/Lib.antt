@@ -1,0 +1,3 @@
+pub mod Replacements
+pub mod Counts
+pub mod Unread

@@ -1,0 +1,2 @@
+pub mod Replacement
+pub mod Counts
