@@ -12,7 +12,7 @@ use borrow.Author.Tests.{ltb-false}
 use Rattle.luck_text.specs.Bytes.{if_then_else_, byteAt, among}
 use Rattle.luck_text.proofs.Cases.{by-test}
 use Rattle.luck_answer.specs.Answer.{Answer, refused}
-use Rattle.luck_pattern.specs.Replacement.{allowsDigit}
+use Rattle.luck_replacement.specs.Replacement.{allowsDigit}
 use Rattle.luck_linter.specs.Checks.{Check, pattern, format, date, replacement, pack, answer, numbers}
 use Rattle.luck_text.proofs.Among.{Every, every-among}
 use Rattle.luck_linter.proofs.Refusals.{refusals, counts}

@@ -8,7 +8,7 @@ use luck_answer::answer;
 use luck_answer::answer::Answer;
 use luck_linter::checks;
 use luck_linter::checks::Named;
-use luck_pattern::replacement::Captures;
+use luck_replacement::replacement::Captures;
 use luck_text::scan;
 use luck_text::scan::Class;
 

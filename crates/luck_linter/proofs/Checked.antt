@@ -11,7 +11,7 @@ use Rattle.luck_token.specs.declared.version.Rules.{Rules}
 use Rattle.luck_answer.specs.Answer.{Answer, textAnswer, checkText}
 use Rattle.luck_answer.specs.declared.format_pattern.Text.{Text}
 use Rattle.luck_pattern.specs.Pattern.{checkPatternAs, checkPattern}
-use Rattle.luck_pattern.specs.Replacement.{isStrict, checkReplacement}
+use Rattle.luck_replacement.specs.Replacement.{isStrict, checkReplacement}
 use Rattle.luck_format.specs.Format.{checkFormat}
 use Rattle.luck_format.specs.Date.{checksDates, hasDateOptions, checkDate}
 use Rattle.luck_pack.specs.Pack.{checkPack}

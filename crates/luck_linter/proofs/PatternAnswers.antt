@@ -16,54 +16,9 @@ use Rattle.luck_answer.specs.Answer.{Answer}
 use Rattle.luck_linter.specs.Checks.{pattern, numbers}
 use Rattle.luck_answer.proofs.Answers.{Stops, walk-every}
 use Rattle.luck_linter.proofs.Counts.{Counts, walk-counts, Bounded}
-use Rattle.luck_pattern.specs.Captures.{closeHere, closeLatest, isClosed, allClosed}
-use Rattle.luck_pattern.specs.Pattern.{
-  Head,
-  at-open,
-  at-close,
-  at-percent,
-  at-set,
-  at-other,
-  headOf,
-  Escape,
-  esc-digit,
-  esc-balance,
-  esc-frontier,
-  esc-other,
-  esc-end,
-  escapeAt,
-  Member,
-  closing-bracket,
-  escaped-member,
-  cut-escape,
-  byte-member,
-  memberAt,
-  SetEnd,
-  closes-at,
-  cut-at,
-  unclosed,
-  memberBy,
-  memberTurn,
-  membersEnd,
-  firstMember,
-  setEnd,
-  isEmptySet,
-  Read,
-  past,
-  fault,
-  closedAs,
-  reversedOf,
-  setAs,
-  setRead,
-  escapeAs,
-  escapeRead,
-  onward,
-  afterClose,
-  headTurn,
-  patternTurn,
-  patternEnd,
-  patternWalk,
-}
+use Rattle.luck_pattern.specs.Captures.{latestOpen, closeAt, closeLatest, isClosed, allClosed}
+use Rattle.luck_pattern.specs.Reading.{Head, at-open, at-close, at-percent, at-set, at-other, headOf, Escape, esc-digit, esc-balance, esc-frontier, esc-other, esc-end, escapeAt, Member, closing-bracket, escaped-member, cut-escape, byte-member, memberAt, SetEnd, closes-at, cut-at, unclosed, memberBy, memberTurn, membersEnd, firstMember, setEnd}
+use Rattle.luck_pattern.specs.Pattern.{isEmptySet, Read, past, fault, closedAs, reversedOf, setAs, setRead, escapeAs, escapeRead, onward, afterClose, headTurn, patternTurn, patternEnd, patternWalk}
 
 abbrev AnswerIn : ℕ → Answer → Type 0
 AnswerIn len answer = Bounded len (numbers pattern) answer

@@ -13,7 +13,7 @@ use Rattle.luck_text.specs.Bytes.{among, isDigit}
 use Rattle.luck_text.proofs.Cases.{by-test, and-right}
 use Rattle.luck_answer.specs.Answer.{Answer, refused}
 use Rattle.luck_linter.specs.Checks.{replacement, numbers}
-use Rattle.luck_pattern.specs.Replacement.{Piece, literal, digit, percent, other, lone, escaped, pieces, allowsDigit, piecesWalk}
+use Rattle.luck_replacement.specs.Replacement.{Piece, literal, digit, percent, other, lone, escaped, pieces, allowsDigit, piecesWalk}
 use Rattle.luck_linter.proofs.Counts.{Bounded}
 
 -- ---- The pieces are as long as their text

@@ -11,7 +11,7 @@ use Rattle.luck_text.specs.Bytes.{if_then_else_}
 use Rattle.luck_token.specs.declared.version.Rules.{Rules}
 use Rattle.luck_answer.specs.Answer.{Answer}
 use Rattle.luck_pattern.specs.Pattern.{patternWalk, checkPattern}
-use Rattle.luck_pattern.specs.Replacement.{countOf, isStrict, pieces, allowsDigit, piecesWalk, checkReplacement}
+use Rattle.luck_replacement.specs.Replacement.{countOf, isStrict, pieces, allowsDigit, piecesWalk, checkReplacement}
 use Rattle.luck_format.specs.Format.{formatWalk, checkFormat}
 use Rattle.luck_format.specs.Date.{checksDates, hasDateOptions, dateWalk, checkDate}
 use Rattle.luck_pack.specs.Pack.{packWalk, checkPack}

@@ -13,8 +13,9 @@ use Rattle.luck_token.specs.Literal.{isShort}
 use Rattle.luck_utf8.specs.Utf8.{rfc3629, tailsOf, follow, widthBy, sequence, sequenceAt, noneIllFormed, illFormed}
 use Rattle.luck_answer.specs.Answer.{Answer, afterVersion, afterUtf8, checkText}
 use Rattle.luck_pattern.specs.Captures.{closeLatest, isClosed, allClosed}
-use Rattle.luck_pattern.specs.Pattern.{headOf, escapeOf, escapeAt, memberAt, memberBy, memberTurn, membersEnd, firstMember, setEnd, isEmptySet, closedAs, reversedOf, setAs, setRead, escapeAs, escapeRead, onward, afterClose, headTurn, patternTurn, patternEnd, patternWalk, checkPatternAs, checkPattern}
-use Rattle.luck_pattern.specs.Replacement.{escaped, pieces, allowsDigit, piecesWalk, checkReplacement}
+use Rattle.luck_pattern.specs.Reading.{headOf, escapeOf, escapeAt, memberAt, memberBy, memberTurn, membersEnd, firstMember, setEnd}
+use Rattle.luck_pattern.specs.Pattern.{isEmptySet, closedAs, reversedOf, setAs, setRead, escapeAs, escapeRead, onward, afterClose, headTurn, patternTurn, patternEnd, patternWalk, checkPatternAs, checkPattern}
+use Rattle.luck_replacement.specs.Replacement.{escaped, pieces, allowsDigit, piecesWalk, checkReplacement}
 use Rattle.luck_format.specs.Format.{isFlag, isModifier, getFormat, scanPrecision, scanWidth, scanFormat, modifiersAt, isConversion, flagsFor, flagsRun, takesPrecision, afterTwoDigits, goodModifiers, conversionTurn, specifierTurn, percentTurn, formatTurn, formatEnd, formatWalk, checkFormat}
 use Rattle.luck_format.specs.Date.{secondBytes, isPair, singleWidth, pairWidth, conversionWidth, dateTurn, dateEnd, isStarT, isTable, conversionsWalk, dateWalk, checkDate}
 use Rattle.luck_pack.specs.Pack.{getnumlimit, fixedString, numberedOption, getoption, kindOf, numberOr, luckSizeof, luckSize, maxalign, isPowerOfTwo, isMisaligned, aligned, variable, alignBy, alignmentOf, alignToNext, kindTurn, optionTurn, packTurn, packEnd, packWalk, checkPack}

@@ -1,7 +1,7 @@
 // The checks of a body, and the kind letters that name them.
 ghost use mathlib.Core.Path.{_≡_};
 ghost use Rattle.luck_answer.specs.Answer.{walkedOf, answerOf};
-ghost use Rattle.luck_pattern.specs.Replacement.{countOf};
+ghost use Rattle.luck_replacement.specs.Replacement.{countOf};
 ghost use Rattle.luck_linter.specs.Checks.{checkOf, walkOf, answer, checkMeant, checkNamed};
 use luck_answer::format_pattern;
 use luck_answer::format_pattern::Checked;
@@ -11,8 +11,8 @@ use luck_format::date;
 use luck_format::format;
 use luck_pack::pack;
 use luck_pattern::pattern;
-use luck_pattern::replacement;
-use luck_pattern::replacement::Captures;
+use luck_replacement::replacement;
+use luck_replacement::replacement::Captures;
 use luck_token::version;
 use luck_token::version::Rules;
 

@@ -8,7 +8,7 @@ use luck_linter::checks;
 use luck_linter::checks::Check;
 use luck_linter::rules::format_string;
 use luck_linter::rules::format_string::Literal;
-use luck_pattern::replacement::Captures;
+use luck_replacement::replacement::Captures;
 use stored_records::bytes;
 
 pub struct Question {

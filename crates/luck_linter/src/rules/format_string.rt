@@ -4,7 +4,7 @@ ghost use mathlib.Core.Bool.{true};
 ghost use Prim.Native.Nat.{_+_, min};
 ghost use Rattle.luck_token.specs.Span.{u32-max};
 ghost use Rattle.luck_answer.specs.Answer.{checkAnswer};
-ghost use Rattle.luck_pattern.specs.Replacement.{countOf};
+ghost use Rattle.luck_replacement.specs.Replacement.{countOf};
 ghost use mathlib.Core.Option.{some};
 ghost use Rattle.luck_linter.specs.Checks.{checkMeant, checkNamed};
 ghost use Rattle.luck_linter.specs.StringLiteral.{
@@ -27,7 +27,7 @@ use luck_answer::answer;
 use luck_answer::answer::Answer;
 use luck_answer::format_pattern;
 use luck_answer::format_pattern::Text;
-use luck_pattern::replacement::Captures;
+use luck_replacement::replacement::Captures;
 use luck_text::scan;
 use luck_text::scan::Class;
 use luck_token::span::Span;
