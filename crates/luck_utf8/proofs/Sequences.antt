@@ -9,14 +9,14 @@ use mathlib.Core.Option.{Option, none, some}
 use Prim.Native.Nat.{ℕ, zero, suc, _+_, _*_, _-_, _<_, _≤_}
 use native.Mathlib.Nat.{add-zero}
 use native.Mathlib.Omega.{arith}
-use lib.ListN.{length, take, drop, length-drop}
-use lib.Seq.{length-take-le, getD-take, getD-drop}
+use lib.ListN.{length, take, drop}
 use lib.Dec.{leb, ltb}
 use borrow.Author.Tests.{lt-ltb, le-ltb, le-leb, lt-leb, ne-eqb, ltb-true, leb-true, not-true, not-false}
 use Rattle.luck_text.specs.Bytes.{if_then_else_, byteAt}
 use Rattle.luck_text.specs.Walk.{walkFrom}
 use Rattle.luck_utf8.specs.Utf8.{Range, Row, tail, rfc3629, inRange, tailsOf, follow, widthBy, sequence, sequenceAt, noneIllFormed, codePoint, charAt}
 use Rattle.luck_text.proofs.Cases.{if-true, if-false, and-left, and-right, second-false, order, present}
+use Rattle.luck_text.proofs.Bytes.{all-of-part}
 use Rattle.luck_text.proofs.Walk.{walk-stop, walk-goes}
 
 -- The row of a first byte.
@@ -292,16 +292,7 @@ module _ (text : List ℕ) where
   pub part-low : (at size high : ℕ) → at + size ≤ length text
       → ((k : ℕ) → k < length (take (at + size - at) (drop at text)) → byteAt (take (at + size - at) (drop at text)) k ≤ high)
       → high < 0x80 → (k : ℕ) → at ≤ k → k < at + size → byteAt text k < 0x80
-  part-low at size high h g l k m n =
-      let e : at + size - at ≡ size = omega arith in
-      let d = length-drop at text in
-      let t = length-take-le size (drop at text) (omega arith) in
-      let b : byteAt (take (at + size - at) (drop at text)) (k - at) ≤ high = g (k - at) (rw e (omega arith)) in
-      let b′ : byteAt (take size (drop at text)) (k - at) ≤ high = rw e at b in
-      let q : at + (k - at) ≡ k = omega arith in
-      let same : byteAt (take size (drop at text)) (k - at) ≡ byteAt text k =
-      getD-take size (drop at text) (k - at) 0 (omega arith) ∙ getD-drop at text (k - at) 0 ∙ ap (byteAt text) q in
-      omega arith
+  part-low at size high h g l = all-of-part (λ (b : ℕ). b < 0x80) text at size h (λ k m. omega (arith, g k m))
 
 -- The character at a place.
 module _ (text : List ℕ) (p w : ℕ) (e : w ≡ sequence text p) where
