@@ -5,3 +5,4 @@ pub mod Items
 pub mod Replacement
 pub mod Counts
 pub mod Inner
+pub mod Computed
