@@ -1,3 +1,4 @@
 pub mod StringLiteral
 pub mod Checks
+pub mod Computed
 pub mod Examples
