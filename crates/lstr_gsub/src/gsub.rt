@@ -15,7 +15,8 @@ use lstr_class::class;
 use lstr_write::replace;
 use luck_token::version;
 
-// Number 0 is done; a kind from 1 to 10 goes with 29, and 0 with every other number.
+// luck_trial of include/luck.h. Number 0 is done; a kind from 1 to 10 goes with 29, and 0 with every other number.
+#[repr(C)]
 pub struct Trial {
     pub number: u32,
     pub kind: u32,

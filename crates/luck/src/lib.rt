@@ -4,15 +4,19 @@ ghost use mathlib.Core.Path.{_≡_};
 ghost use mathlib.Core.Bool.{true, false};
 ghost use lib.ListN.{length};
 ghost use Rattle.luck_token.specs.Decode.{decodeString, answerOf, outputOf};
+ghost use Rattle.luck_answer.specs.Answer.{checkAnswer};
 ghost use Rattle.luck_format.specs.Date.{checkDate};
 ghost use Rattle.luck_format.specs.Format.{checkFormat};
 ghost use Rattle.luck_pack.specs.Pack.{checkPack};
 ghost use Rattle.luck_pattern.specs.Pattern.{checkPattern};
 ghost use Rattle.luck_replacement.specs.Replacement.{countOf, checkReplacement};
 ghost use Rattle.luck_linter.specs.StringLiteral.{checkLiteral};
-ghost use Rattle.lstr_gsub.specs.Gsub.{report, outputAfter, gsub};
-ghost use Rattle.luck_structs.specs.Answers.{checkAnswer, literalAnswer, decodedAnswer, trialReport, countIf};
+ghost use Rattle.lstr_gsub.specs.Gsub.{report, reportOf, outputAfter, gsub};
+ghost use Rattle.luck_structs.specs.Answers.{literalAnswer, decodedAnswer, countIf};
 use lstr_gsub::gsub;
+use lstr_gsub::gsub::Trial;
+use luck_answer::answer;
+use luck_answer::answer::Answer;
 use luck_format::date;
 use luck_format::format;
 use luck_linter::rules::format_string;
@@ -20,14 +24,10 @@ use luck_pack::pack;
 use luck_pattern::pattern;
 use luck_replacement::replacement;
 use luck_replacement::replacement::Captures;
-use luck_structs::answer;
-use luck_structs::answer::Answer;
 use luck_structs::decoded;
 use luck_structs::decoded::Decoded;
 use luck_structs::literal;
 use luck_structs::literal::Literal;
-use luck_structs::trial;
-use luck_structs::trial::Trial;
 use luck_token::string;
 
 // Accepted with how many arguments the specifiers take.
@@ -131,12 +131,11 @@ pub extern "C" fn luck_gsub_trial(
     output: &mut [u8],
 ) -> Trial
     ensures answer { λ r. ⌜
-        trialReport r ≡ report (gsub version (now (pattern .entry)) (now (replacement .entry)) (now (subject .entry)) budget (length (now (output .entry))))
+        reportOf r ≡ report (gsub version (now (pattern .entry)) (now (replacement .entry)) (now (subject .entry)) budget (length (now (output .entry))))
         ⌝ }
     ensures output { λ r. ⌜
         now (output .exit) ≡ outputAfter (now (output .entry)) (gsub version (now (pattern .entry)) (now (replacement .entry)) (now (subject .entry)) budget (length (now (output .entry))))
         ⌝ }
 {
-    let done = gsub::gsub(version, pattern, replacement, subject, budget, output);
-    trial::of_trial(done)
+    gsub::gsub(version, pattern, replacement, subject, budget, output)
 }

@@ -6,6 +6,7 @@ use mathlib.Core.Option.{Option, none, some}
 use Rattle.luck_text.specs.Bytes.{if_then_else_}
 use Rattle.luck_token.specs.Version.{isVersion}
 use Rattle.luck_utf8.specs.Utf8.{illFormed}
+use Rattle.luck_answer.specs.declared.answer.Answer.{Answer as AnswerStruct}
 use Rattle.luck_answer.specs.declared.format_pattern.PatternError.{PatternError}
 use Rattle.luck_answer.specs.declared.format_pattern.PatternError.the-variants as error
 use Rattle.luck_answer.specs.declared.format_pattern.Text.{Text}
@@ -22,6 +23,10 @@ pub record Answer : Type 0 where
   pub first : ℕ
   pub second : ℕ
   pub count : ℕ
+
+-- the struct luck_answer of include/luck.h
+abbrev pub checkAnswer : AnswerStruct → Answer
+checkAnswer a = record { number = a .number; offset = a .offset; first = a .first; second = a .second; count = a .count }
 
 abbrev pub accepted : ℕ → Answer
 accepted n = record { number = 0; offset = 0; first = 0; second = 0; count = n }

@@ -1,12 +1,12 @@
 // A row of the listing.
 ghost use mathlib.Core.Path.{_≡_};
 ghost use Prim.Native.Nat.{_+_, _%_, _<_};
-ghost use Rattle.luck_answer.specs.Answer.{answerOf};
+ghost use Rattle.luck_answer.specs.Answer.{checkAnswer};
 ghost use Rattle.luck_line.specs.Line.{lineAnswerOf};
 ghost use Rattle.luck_line.specs.Row.{column, row, answerRow};
 use crate::line::LineChecked;
-use luck_answer::format_pattern;
-use luck_answer::format_pattern::Checked;
+use luck_answer::answer;
+use luck_answer::answer::Answer;
 
 // The digit at a power of ten, or a blank in the place of a leading zero.
 fn column(power: u64, n: u64) -> u8
@@ -52,27 +52,22 @@ fn row_of(number: u64, offset: u64, count: u64) -> [u8; 19]
     ]
 }
 
-fn of_body(checked: Checked) -> [u8; 19]
-    ensures { λ r. ⌜ r ≡ answerRow (answerOf checked) ⌝ }
+fn of_answer(answer: Answer) -> [u8; 19]
+    ensures { λ r. ⌜ r ≡ answerRow (checkAnswer answer) ⌝ }
 {
-    match checked {
-        Checked::Accepted(count) => row_of(0, 0, count as u64),
-        Checked::Refused(fault) => row_of(
-            format_pattern::number(fault) as u64,
-            format_pattern::offset(fault) as u64,
-            0,
-        ),
-        Checked::NotUtf8(place) => row_of(23, place as u64, 0),
-        Checked::UnknownVersion => row_of(25, 0, 0),
-    }
+    row_of(
+        answer.number as u64,
+        answer.offset as u64,
+        answer.count as u64,
+    )
 }
 
 pub fn of_line(checked: LineChecked) -> [u8; 19]
     ensures { λ r. ⌜ r ≡ answerRow (lineAnswerOf checked) ⌝ }
 {
     match checked {
-        LineChecked::TooLong => row_of(31, 0, 0),
-        LineChecked::Misfit => row_of(30, 0, 0),
-        LineChecked::Body(answer) => of_body(answer),
+        LineChecked::TooLong => of_answer(answer::refused(31, 0)),
+        LineChecked::Misfit => of_answer(answer::refused(30, 0)),
+        LineChecked::Body(body) => of_answer(answer::of_checked(body)),
     }
 }

@@ -1,5 +1,3 @@
-// The structs of include/luck.h, made from what the checks, the decoding and the trial answer.
-pub mod answer;
+// The structs of include/luck.h that no crate below has: the answers of the literal check and of decoding.
 pub mod decoded;
 pub mod literal;
-pub mod trial;

@@ -1,9 +1,10 @@
 // The answer of the check of a literal.
 ghost use mathlib.Core.Path.{_≡_};
 ghost use Rattle.luck_linter.specs.StringLiteral.{skippedAnswer, unspanned, spannedAnswer, literalAnswerOf};
-ghost use Rattle.luck_structs.specs.Answers.{checkAnswer, literalAnswer};
-use crate::answer;
-use crate::answer::Answer;
+ghost use Rattle.luck_answer.specs.Answer.{checkAnswer};
+ghost use Rattle.luck_structs.specs.Answers.{literalAnswer};
+use luck_answer::answer;
+use luck_answer::answer::Answer;
 use luck_linter::rules::format_string::LiteralChecked;
 use luck_token::span::Span;
 

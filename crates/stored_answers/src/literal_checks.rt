@@ -5,7 +5,7 @@ ghost use lib.ListN.{length};
 ghost use Rattle.stored_questions.specs.Places.{AnswerLies};
 ghost use Rattle.stored_records.specs.Tally.{Passes};
 use crate::checks;
-use luck_structs::answer::Answer;
+use luck_answer::answer::Answer;
 use luck_structs::literal;
 use luck_structs::literal::Literal;
 use stored_questions::question;

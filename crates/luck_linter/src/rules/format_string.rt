@@ -6,7 +6,7 @@ ghost use Rattle.luck_token.specs.Span.{u32-max};
 ghost use Rattle.luck_answer.specs.Answer.{walkedOf};
 ghost use Rattle.luck_replacement.specs.Replacement.{countOf};
 ghost use Rattle.luck_linter.specs.StringLiteral.{bodyWalk, isNumericEscape, hasNumericEscape, spanAt, checkBody, checkShort, checkLiteral, literalAnswerOf};
-use luck_answer::format_pattern;
+use luck_answer::answer;
 use luck_answer::format_pattern::PatternError;
 use luck_answer::format_pattern::Walked;
 use luck_format::date;
@@ -125,7 +125,8 @@ fn check_body(kind: u8, rules: Rules, captures: Captures, start: u32, body: &[u8
     match walked {
         Walked::Accepted(count) => LiteralChecked::Accepted(count),
         Walked::Refused(fault) => {
-            let span = span_at(start, body, format_pattern::offset(fault));
+            let offset = answer::of_fault(fault).offset;
+            let span = span_at(start, body, offset);
             LiteralChecked::Refused(fault, span)
         }
     }

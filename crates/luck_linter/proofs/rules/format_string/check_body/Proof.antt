@@ -23,8 +23,8 @@ enum-known-walked c = search needs
 enum-known-walked-2 : tie.Need-enum-known-walked-2
 enum-known-walked-2 c = search needs
 
-offset-requires : tie.Need-offset-requires
-offset-requires c κs = search needs
+of-fault-requires : tie.Need-of-fault-requires
+of-fault-requires c κs = search needs
 
 span-at-requires : tie.Need-span-at-requires
 span-at-requires c κs = search needs
@@ -33,7 +33,7 @@ returns-2 : tie.Need-returns-2
 returns-2 c = laws.body-accepted (c .before .before .before .before .before .before .before .args .kind) (c .before .before .before .before .before .before .before .args .rules) (countOf (c .before .before .before .before .before .before .before .args .captures)) (c .before .before .before .before .before .before .before .args .start) (c .before .before .before .before .before .before .before .args .body .now) (sym (c .before .before .before .before .before .has-numeric-escape .ensures) ∙ c .before .before .before .before .if1 .left) (c .before .walked .given .0 .0) (sym (ap walkedOf (c .before .walked .given .1)) ∙ c .before .before .before .scan-body .ensures)
 
 returns-3 : tie.Need-returns-3
-returns-3 c = laws.body-refused (c .before .before .before .before .before .before .before .before .before .args .kind) (c .before .before .before .before .before .before .before .before .before .args .rules) (countOf (c .before .before .before .before .before .before .before .before .before .args .captures)) (c .before .before .before .before .before .before .before .before .before .args .start) (c .before .before .before .before .before .before .before .before .before .args .body .now) (sym (c .before .before .before .before .before .before .before .has-numeric-escape .ensures) ∙ c .before .before .before .before .before .before .if1 .left) (c .before .before .before .walked2 .given .0 .0) (c .span-at .result) (sym (ap walkedOf (c .before .before .before .walked2 .given .1)) ∙ c .before .before .before .before .before .scan-body .ensures) (c .span-at .ensures ∙ ap (spanAt (c .before .before .before .before .before .before .before .before .before .args .start) (c .before .before .before .before .before .before .before .before .before .args .body .now)) (c .before .offset .ensures))
+returns-3 c = laws.body-refused (c .before .before .before .before .before .before .before .before .before .args .kind) (c .before .before .before .before .before .before .before .before .before .args .rules) (countOf (c .before .before .before .before .before .before .before .before .before .args .captures)) (c .before .before .before .before .before .before .before .before .before .args .start) (c .before .before .before .before .before .before .before .before .before .args .body .now) (sym (c .before .before .before .before .before .before .before .has-numeric-escape .ensures) ∙ c .before .before .before .before .before .before .if1 .left) (c .before .before .before .walked2 .given .0 .0) (c .span-at .result) (sym (ap walkedOf (c .before .before .before .walked2 .given .1)) ∙ c .before .before .before .before .before .scan-body .ensures) (c .span-at .ensures ∙ ap (spanAt (c .before .before .before .before .before .before .before .before .before .args .start) (c .before .before .before .before .before .before .before .before .before .args .body .now)) (ap (λ a. a .offset) (c .before .of-fault .ensures)))
 
 pub check-body-spec : {M : Type 1} → statement M
 check-body-spec =
@@ -44,7 +44,7 @@ check-body-spec =
     scan-body-requires
     enum-known-walked
     enum-known-walked-2
-    offset-requires
+    of-fault-requires
     span-at-requires
     returns-2
     returns-3)

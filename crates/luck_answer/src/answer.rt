@@ -1,11 +1,11 @@
-// The answer of a check of a body.
+// What a check answers in the numbers of the table of refusals, which stands here alone.
 ghost use mathlib.Core.Path.{_≡_};
-ghost use Rattle.luck_answer.specs.Answer.{accepted, refused, refusedWith, refusedBoth, refusal, answerOf};
-ghost use Rattle.luck_structs.specs.Answers.{checkAnswer};
-use luck_answer::format_pattern::Checked;
-use luck_answer::format_pattern::PatternError;
+ghost use Rattle.luck_answer.specs.Answer.{checkAnswer, accepted, refused, refusedWith, refusedBoth, refusal, walkedOf, answerOf};
+use crate::format_pattern::Checked;
+use crate::format_pattern::PatternError;
+use crate::format_pattern::Walked;
 
-// luck_answer
+// luck_answer of include/luck.h.
 #[repr(C)]
 pub struct Answer {
     pub number: u32,
@@ -13,6 +13,15 @@ pub struct Answer {
     pub second: u32,
     pub offset: usize,
     pub count: usize,
+}
+
+pub fn of_walked(walked: Walked) -> Answer
+    ensures { λ r. ⌜ checkAnswer r ≡ walkedOf walked ⌝ }
+{
+    match walked {
+        Walked::Accepted(count) => accepted(count),
+        Walked::Refused(fault) => of_fault(fault),
+    }
 }
 
 pub fn of_checked(checked: Checked) -> Answer
@@ -62,7 +71,7 @@ pub fn refused(number: u32, offset: usize) -> Answer
     refused_both(number, offset, 0, 0)
 }
 
-// The numbers of the faults.
+// The faults by their numbers.
 pub fn of_fault(fault: PatternError) -> Answer
     ensures { λ r. ⌜ checkAnswer r ≡ refusal fault ⌝ }
 {
