@@ -4,7 +4,7 @@
 use Prim.Native.Nat.{ℕ, zero, suc, _+_, _-_, _≤_, _<_}
 use native.Mathlib.Omega.{arith}
 use mathlib.Core.Path.{_≡_}
-use mathlib.Core.Bool.{true}
+use mathlib.Core.Bool.{true, _&&_}
 use mathlib.Core.List.{List}
 use mathlib.Core.Option.{Option, none, some}
 use lib.ListN.{length}
@@ -14,7 +14,7 @@ use Rattle.luck_text.proofs.Cases.{by-test}
 use Rattle.luck_token.specs.Version.{isVersion}
 use Rattle.luck_utf8.specs.Utf8.{illFormed}
 use Rattle.luck_answer.specs.Answer.{Answer, afterVersion, afterUtf8, checkText}
-use Rattle.luck_answer.proofs.Answers.{check-fits}
+use Rattle.luck_answer.proofs.Answers.{isWhole, check-fits}
 
 -- ---- A walk
 
@@ -44,9 +44,9 @@ module _ {S A : Type 0} (item : ℕ → S → Turn S A) (ends : ℕ → S → A)
 
 -- ---- A text
 
--- an answer's offset and count are at most this, and its number one of these
+-- an answer's offset and count are at most this, its fields are those of its number, and its number is one of these
 abbrev pub Bounded : ℕ → List ℕ → Answer → Type 0
-Bounded len numbers answer = (answer .offset ≤ len) × (among (answer .number) numbers ≡ true) × (answer .count ≤ len)
+Bounded len numbers answer = (answer .offset ≤ len) × ((isWhole answer && among (answer .number) numbers) ≡ true) × (answer .count ≤ len)
 
 module _ (text : List ℕ) (numbers : List ℕ) (has-23 : among 23 numbers ≡ true) (has-25 : among 25 numbers ≡ true) where
   abbrev CountIn : Answer → Type 0

@@ -3,7 +3,7 @@
 use Prim.Native.Nat.{ℕ, suc, _+_, _≤_, _<_}
 use native.Mathlib.Omega.{arith}
 use mathlib.Core.Path.{_≡_, refl, ap}
-use mathlib.Core.Bool.{Bool, true, false}
+use mathlib.Core.Bool.{Bool, true, false, _&&_}
 use mathlib.Core.List.{List, [], _∷_}
 use mathlib.Core.Option.{Option, none, some}
 use lib.Dec.{eqb, ltb}
@@ -12,9 +12,9 @@ use borrow.Author.Tests.{eqb-true}
 use Rattle.luck_text.specs.Bytes.{if_then_else_, byteAt, among}
 use Rattle.luck_text.specs.Walk.{Turn}
 use Rattle.luck_text.proofs.Cases.{by-test, present}
-use Rattle.luck_answer.specs.Answer.{Answer}
+use Rattle.luck_answer.specs.Answer.{Answer, refused}
 use Rattle.luck_linter.specs.Checks.{pattern, answer, numbers}
-use Rattle.luck_answer.proofs.Answers.{Stops, walk-every}
+use Rattle.luck_answer.proofs.Answers.{Stops, walk-every, isWhole}
 use Rattle.luck_linter.proofs.Counts.{Counts, walk-counts, Bounded, check-bounded}
 use Rattle.luck_pattern.specs.Captures.{closeHere, closeLatest, isClosed, allClosed}
 use Rattle.luck_pattern.specs.Pattern.{
@@ -118,7 +118,11 @@ module _ (text : List ℕ) where
   unfolding setAs closedAs reversedOf if_then_else_ among
   set-as-in p (closes-at e) h i = tt
   set-as-in p (cut-at e) h i = (omega arith, refl, omega arith)
-  set-as-in p unclosed h i = (omega arith, by-test (λ (n : ℕ). among n (numbers pattern) ≡ true) (isEmptySet text p) 9 8 (λ _. refl) (λ _. refl), omega arith)
+  set-as-in p unclosed h i = (
+    omega arith,
+    by-test (λ (n : ℕ). (isWhole (refused n p) && among n (numbers pattern)) ≡ true) (isEmptySet text p) 9 8 (λ _. refl) (λ _. refl),
+    omega arith,
+  )
 
   set-in : (p : ℕ) → p < length text → ReadIn (length text) (setRead false text p)
   unfolding setRead
