@@ -14,8 +14,8 @@ use Rattle.luck_text.specs.Walk.{Turn}
 use Rattle.luck_text.proofs.Cases.{by-test, present}
 use Rattle.luck_answer.specs.Answer.{Answer, refused}
 use Rattle.luck_linter.specs.Checks.{pattern, answer, numbers}
-use Rattle.luck_answer.proofs.Answers.{Stops, walk-every, isWhole}
-use Rattle.luck_linter.proofs.Counts.{Counts, walk-counts, Bounded, check-bounded}
+use Rattle.luck_answer.proofs.Answers.{Stops, walk-every}
+use Rattle.luck_linter.proofs.Counts.{Counts, walk-counts, isWalked, Walked, Bounded, check-bounded}
 use Rattle.luck_pattern.specs.Captures.{closeHere, closeLatest, isClosed, allClosed}
 use Rattle.luck_pattern.specs.Pattern.{
   Head,
@@ -68,7 +68,7 @@ use Rattle.luck_pattern.specs.Pattern.{
 }
 
 abbrev AnswerIn : ℕ → Answer → Type 0
-AnswerIn len answer = Bounded len (numbers pattern) answer
+AnswerIn len answer = Walked len (numbers pattern) answer
 
 abbrev ReadIn : ℕ → Read → Type 0
 ReadIn len (past q) = Unit {0}
@@ -120,7 +120,7 @@ module _ (text : List ℕ) where
   set-as-in p (cut-at e) h i = (omega arith, refl, omega arith)
   set-as-in p unclosed h i = (
     omega arith,
-    by-test (λ (n : ℕ). (isWhole (refused n p) && among n (numbers pattern)) ≡ true) (isEmptySet text p) 9 8 (λ _. refl) (λ _. refl),
+    by-test (λ (n : ℕ). (isWalked (refused n p) && among n (numbers pattern)) ≡ true) (isEmptySet text p) 9 8 (λ _. refl) (λ _. refl),
     omega arith,
   )
 
@@ -172,7 +172,7 @@ module _ (text : List ℕ) where
   unfolding patternEnd among
   last-in p captures h = by-test (AnswerIn (length text)) (allClosed captures) _ _ (λ _. (omega arith, refl, h)) (λ _. (omega arith, refl, omega arith))
 
-  pub pattern-bounded : Bounded (length text) (numbers pattern) (patternWalk false text)
+  pub pattern-bounded : Walked (length text) (numbers pattern) (patternWalk false text)
   unfolding patternWalk
   pattern-bounded = walk-counts (patternTurn false text) (patternEnd text) (length text) length (AnswerIn (length text)) (λ p captures h. turn-in p captures h) last-in [] refl
 
