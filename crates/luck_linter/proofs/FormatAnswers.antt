@@ -35,11 +35,11 @@ use Rattle.luck_format.specs.Format.{
   formatWalk,
   checkFormat,
 }
-use Rattle.luck_linter.proofs.Counts.{Counts, walk-counts, Bounded, check-bounded}
+use Rattle.luck_linter.proofs.Counts.{Counts, walk-counts, Walked, Bounded, check-bounded}
 
 module _ (text : List ℕ) where
   abbrev AnswerIn : Answer → Type 0
-  AnswerIn answer = Bounded (length text) (numbers format) answer
+  AnswerIn answer = Walked (length text) (numbers format) answer
 
   abbrev FaultIn : Modifiers → Type 0
   FaultIn (end-at e) = Unit {0}
@@ -106,7 +106,7 @@ module _ (text : List ℕ) where
   unfolding formatEnd among
   at-end p count h = (omega arith, refl, h)
 
-  pub format-bounded : (rules : Rules) → Bounded (length text) (numbers format) (formatWalk rules text)
+  pub format-bounded : (rules : Rules) → Walked (length text) (numbers format) (formatWalk rules text)
   unfolding formatWalk
   format-bounded rules = walk-counts (formatTurn rules text) formatEnd (length text) (λ n. n) AnswerIn (step rules) at-end 0 refl
 

@@ -6,4 +6,5 @@ pub mod FormatAnswers
 pub mod PackAnswers
 pub mod DateAnswers
 pub mod LiteralAnswers
+pub mod Spans
 pub mod Refusals

@@ -18,7 +18,7 @@ use Rattle.luck_format.specs.Date.{checksDates, hasDateOptions}
 use Rattle.luck_linter.specs.StringLiteral.{isKind, LiteralAnswer, unspanned, bodyWalk, withSpan, checkBody, checkShort, afterText, checkLiteral}
 use Rattle.luck_linter.specs.Checks.{Check, literal, answer, kindCheck, deciding, ownNumbers, numbers}
 use Rattle.luck_answer.proofs.Answers.{PlaceIn, place-in}
-use Rattle.luck_linter.proofs.Counts.{Bounded}
+use Rattle.luck_linter.proofs.Counts.{Walked, walked-bounded, Bounded}
 use Rattle.luck_linter.proofs.PatternAnswers.{pattern-bounded}
 use Rattle.luck_linter.proofs.FormatAnswers.{format-bounded}
 use Rattle.luck_linter.proofs.PackAnswers.{pack-bounded}
@@ -33,10 +33,10 @@ by-both P false x y u v f g = g refl
 
 module _ (kind : ℕ) (captures : Option ℕ) (start : ℕ) where
   -- the number of a body's answer is one of the check that the letter names; so are 0, 23 and 25
-  abbrev Named : ℕ → Check → Answer → Type 0
-  Named len check walked = Bounded len (ownNumbers check) walked × (among 0 (ownNumbers check) ≡ true) × (among 23 (ownNumbers check) ≡ true) × (among 25 (ownNumbers check) ≡ true)
+  abbrev pub Named : ℕ → Check → Answer → Type 0
+  Named len check walked = Walked len (ownNumbers check) walked × (among 0 (ownNumbers check) ≡ true) × (among 23 (ownNumbers check) ≡ true) × (among 25 (ownNumbers check) ≡ true)
 
-  named : (rules : Rules) (body : List ℕ) → Named (length body) (kindCheck kind captures) (bodyWalk kind rules captures body)
+  pub named : (rules : Rules) (body : List ℕ) → Named (length body) (kindCheck kind captures) (bodyWalk kind rules captures body)
   unfolding kindCheck bodyWalk among
   named rules body =
       by-both (Named (length body)) _ _ _ _ _ (λ _. (format-bounded body rules, refl, refl, refl))
@@ -60,9 +60,10 @@ module _ (kind : ℕ) (captures : Option ℕ) (start : ℕ) where
     body-length : length body ≤ length text - 2
     body-length = omega (arith, length-take (length text - 1 - 1) (drop 1 text))
 
-    span-bounded : (walked : Answer) → Bounded (length body) (ownNumbers (kindCheck kind captures)) walked → NamedIn (withSpan start body walked)
+    span-bounded : (walked : Answer) → Walked (length body) (ownNumbers (kindCheck kind captures)) walked → NamedIn (withSpan start body walked)
     unfolding withSpan
-    span-bounded walked fits =
+    span-bounded walked w =
+        let fits = walked-bounded (length body) (ownNumbers (kindCheck kind captures)) walked w in
         let h : walked .offset ≤ length text - 2 = omega (arith, fits .0, body-length) in
         let whole : Bounded (length text) (ownNumbers (kindCheck kind captures)) walked = (omega arith, fits .1, omega (arith, fits .2, body-length)) in
         by-test NamedIn _ _ _ (λ _. (whole, λ _. h)) (λ _. (whole, λ _. h))

@@ -1,4 +1,5 @@
--- For every check, version and text: the answer's number is 0 or one of the check's refusals, and its offset and its count are at most the text's length.
+-- For every check, version and text: the answer's number is 0 or one of the check's refusals, its offset and its count are at most the text's length, and its fields
+-- are those of its number.
 -- Assumes nothing.
 use Prim.Native.Nat.{ℕ, _-_, _≤_}
 use mathlib.Core.Path.{_≡_}
@@ -9,6 +10,7 @@ use lib.ListN.{length}
 use Rattle.luck_text.specs.Bytes.{among}
 use Rattle.luck_linter.specs.StringLiteral.{checkLiteral}
 use Rattle.luck_linter.specs.Checks.{Check, pattern, format, date, replacement, pack, literal, answer, numbers}
+use Rattle.luck_answer.proofs.Answers.{Whole, fits-whole, fits-numbered}
 use Rattle.luck_linter.proofs.Counts.{Bounded}
 use Rattle.luck_linter.proofs.PatternAnswers.{check-pattern}
 use Rattle.luck_linter.proofs.FormatAnswers.{check-format}
@@ -27,7 +29,12 @@ bounded (literal kind captures start) version text = check-literal kind captures
 
 pub refusals : (check : Check) (version : ℕ) (text : List ℕ)
     → (answer check version text .offset ≤ length text) × (among (answer check version text .number) (numbers check) ≡ true)
-refusals check version text = let b = bounded check version text in (b .0, b .1)
+refusals check version text =
+    let b = bounded check version text in
+    (b .0, fits-numbered (numbers check) (answer check version text) (b .1))
+
+pub wholes : (check : Check) (version : ℕ) (text : List ℕ) → Whole (answer check version text)
+wholes check version text = fits-whole (numbers check) (answer check version text) (bounded check version text .1)
 
 pub counts : (check : Check) (version : ℕ) (text : List ℕ) → answer check version text .count ≤ length text
 counts check version text = bounded check version text .2
