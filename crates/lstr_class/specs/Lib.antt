@@ -1,3 +1,4 @@
 pub mod Class
 pub mod Subject
 pub mod Inner
+pub mod Computed

@@ -1,5 +1,6 @@
 pub mod Runs
 pub mod Endings
+pub mod Room
 pub mod Writings
 pub mod Quiet
 pub mod Promises

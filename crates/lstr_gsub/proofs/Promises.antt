@@ -17,6 +17,7 @@ use Rattle.lstr_gsub.specs.Gsub.{outputAfter, strGsub, gsub}
 use Rattle.lstr_gsub.proofs.Writings.{walk-accepted, strict-accepted, writers-alike}
 use Rattle.lstr_gsub.proofs.Quiet.{quiet}
 use Rattle.lstr_gsub.proofs.Endings.{endings}
+use Rattle.lstr_gsub.proofs.Room.{trial-within}
 
 -- ---- A pattern accepted, with or without the test of ranges, under some version v with its count n, and a replacement accepted for that count under a version w other than 5.1
 
@@ -76,6 +77,14 @@ module _ (version : ℕ) (pat rep sub : List ℕ) (budget room : ℕ) where
       → (1 ≤ gsub version pat rep sub budget room .kind) × (gsub version pat rep sub budget room .kind ≤ 10)
   kind-of-raised = endings version pat rep sub budget room .ending .kinded
 
-  -- and kind 0 with any other number
+  -- kind 0 with any other number,
   pub kind-of-others : (gsub version pat rep sub budget room .number ≡ 29 → ⊥) → gsub version pat rep sub budget room .kind ≡ 0
   kind-of-others = endings version pat rep sub budget room .ending .kindless
+
+  -- and no more bytes written than there is room for,
+  pub written-within : length (gsub version pat rep sub budget room .written) ≤ room
+  written-within = trial-within budget room version pat rep sub .kept .1
+
+  -- all of it where a byte was due and the output was full
+  pub filled-exactly : gsub version pat rep sub budget room .number ≡ 26 → length (gsub version pat rep sub budget room .written) ≡ room
+  filled-exactly = trial-within budget room version pat rep sub .ending

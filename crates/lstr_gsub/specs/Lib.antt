@@ -1,3 +1,3 @@
 pub mod Gsub
 pub mod Inner
-pub mod Examples
+pub mod Computed

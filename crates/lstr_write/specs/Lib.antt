@@ -1,2 +1,3 @@
 pub mod Replace
 pub mod Inner
+pub mod Computed

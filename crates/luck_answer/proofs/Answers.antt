@@ -1,18 +1,19 @@
--- What the answers of all checks share: the offset is at most the text's length, and the number is one of a list.
+-- What the answers of all checks share: the offset is at most the text's length, the number is one of a list, and the other fields are those of the number.
 -- Assumes nothing.
 use Prim.Native.Nat.{ℕ, zero, suc, _-_, _≤_, _<_}
 use native.Mathlib.Omega.{arith}
-use mathlib.Core.Path.{_≡_, refl, sym, subst}
-use mathlib.Core.Bool.{true}
-use mathlib.Core.List.{List}
+use mathlib.Core.Path.{_≡_, refl, sym, ap, subst}
+use mathlib.Core.Bool.{Bool, true, false, not, _&&_, _||_, true≢false}
+use mathlib.Core.List.{List, [], _∷_}
 use mathlib.Core.Option.{Option, none, some}
 use lib.Dec.{eqb}
 use lib.ListN.{length}
+use borrow.Author.Tests.{eqb-true, eq-eqb, ne-eqb}
 use Rattle.luck_text.specs.Bytes.{among}
 use Rattle.luck_token.specs.Version.{isVersion}
 use Rattle.luck_utf8.specs.Utf8.{sequence, sequenceAt, noneIllFormed, illFormed}
 use Rattle.luck_text.specs.Walk.{Turn, stop, goes, walk, walkFrom}
-use Rattle.luck_text.proofs.Cases.{by-test}
+use Rattle.luck_text.proofs.Cases.{by-test, and-left, and-right}
 use Rattle.luck_answer.specs.Answer.{Answer, afterVersion, afterUtf8, checkText}
 
 -- ---- A walk
@@ -48,11 +49,66 @@ module _ {S A : Type 0} (item : ℕ → S → Turn S A) (ends : ℕ → S → A)
   unfolding walkFrom
   walk-every p s = every (len - p) 0 p s (omega arith)
 
+-- ---- An answer's fields
+
+-- accepted it has no offset and no character, refused no count; the first character comes only with 2, 3, 6, 10, 14 and 18, the second only with 6
+pub record Whole (a : Answer) : Type 0 where
+  pub accepted-bare : a .number ≡ 0 → (a .offset ≡ 0) × (a .first ≡ 0) × (a .second ≡ 0)
+  pub refused-uncounted : (a .number ≡ 0 → ⊥) → a .count ≡ 0
+  pub first-character : among (a .number) (2 ∷ 3 ∷ 6 ∷ 10 ∷ 14 ∷ 18 ∷ []) ≡ false → a .first ≡ 0
+  pub second-character : (a .number ≡ 6 → ⊥) → a .second ≡ 0
+
+-- the same as a test, which computes where the number is known
+abbrev hasCharacter : ℕ → Bool
+hasCharacter n = eqb n 2 || (eqb n 3 || (eqb n 6 || (eqb n 10 || (eqb n 14 || (eqb n 18 || false)))))
+
+abbrev pub isWhole : Answer → Bool
+isWhole a =
+    (not (eqb (a .number) 0) || (eqb (a .offset) 0 && (eqb (a .first) 0 && eqb (a .second) 0)))
+    && ((eqb (a .number) 0 || eqb (a .count) 0)
+    && ((hasCharacter (a .number) || eqb (a .first) 0) && (eqb (a .number) 6 || eqb (a .second) 0)))
+
+second-of : (a b : Bool) → (a || b) ≡ true → a ≡ false → b ≡ true
+second-of true b e f = absurd (true≢false f)
+second-of false b e f = e
+
+whole : (a : Answer) → isWhole a ≡ true → Whole a
+unfolding among
+whole a e =
+    let bare = eqb (a .offset) 0 && (eqb (a .first) 0 && eqb (a .second) 0) in
+    let alone = not (eqb (a .number) 0) || bare in
+    let uncounted = eqb (a .number) 0 || eqb (a .count) 0 in
+    let one = hasCharacter (a .number) || eqb (a .first) 0 in
+    let two = eqb (a .number) 6 || eqb (a .second) 0 in
+    let more = and-right alone (uncounted && (one && two)) e in
+    let characters = and-right uncounted (one && two) more in
+    record {
+      accepted-bare =
+          λ z. let b = second-of (not (eqb (a .number) 0)) bare (and-left alone (uncounted && (one && two)) e) (ap not (eq-eqb (a .number) 0 z)) in
+          let c = and-right (eqb (a .offset) 0) (eqb (a .first) 0 && eqb (a .second) 0) b in (
+            eqb-true (a .offset) 0 (and-left (eqb (a .offset) 0) (eqb (a .first) 0 && eqb (a .second) 0) b),
+            eqb-true (a .first) 0 (and-left (eqb (a .first) 0) (eqb (a .second) 0) c),
+            eqb-true (a .second) 0 (and-right (eqb (a .first) 0) (eqb (a .second) 0) c),
+          );
+      refused-uncounted =
+          λ n. eqb-true (a .count) 0 (second-of (eqb (a .number) 0) (eqb (a .count) 0) (and-left uncounted (one && two) more) (ne-eqb (a .number) 0 n));
+      first-character = λ f. eqb-true (a .first) 0 (second-of (hasCharacter (a .number)) (eqb (a .first) 0) (and-left one two characters) f);
+      second-character =
+          λ n. eqb-true (a .second) 0 (second-of (eqb (a .number) 6) (eqb (a .second) 0) (and-right one two characters) (ne-eqb (a .number) 6 n));
+    }
+
 -- ---- A text
 
--- an answer's offset is at most this, and its number one of these
+-- an answer's offset is at most this, its fields are those of its number, and its number is one of these
 abbrev pub Fits : ℕ → List ℕ → Answer → Type 0
-Fits len numbers answer = (answer .offset ≤ len) × (among (answer .number) numbers ≡ true)
+Fits len numbers answer = (answer .offset ≤ len) × ((isWhole answer && among (answer .number) numbers) ≡ true)
+
+module _ (numbers : List ℕ) (a : Answer) (h : (isWhole a && among (a .number) numbers) ≡ true) where
+  pub fits-whole : Whole a
+  fits-whole = whole a (and-left (isWhole a) (among (a .number) numbers) h)
+
+  pub fits-numbered : among (a .number) numbers ≡ true
+  fits-numbered = and-right (isWhole a) (among (a .number) numbers) h
 
 abbrev pub PlaceIn : ℕ → Option ℕ → Type 0
 PlaceIn len none = Unit {0}

@@ -10,13 +10,12 @@ use lib.Dec.{eqb}
 use borrow.Author.Tests.{lt-ltb, le-ltb, le-leb, lt-leb, eq-eqb, ne-eqb}
 use Rattle.luck_text.specs.Bytes.{if_then_else_, byteAt, ascii, among, isDigit, run}
 use Rattle.luck_utf8.specs.Utf8.{charAt}
-use Rattle.luck_token.specs.Version.{rulesOf}
 use Rattle.luck_text.specs.Walk.{stop, goes, walkFrom}
 use Rattle.luck_token.specs.declared.version.Rules.{Rules}
 use Rattle.luck_text.proofs.Cases.{second-false}
 use Rattle.luck_text.proofs.Bytes.{run-inside}
 use Rattle.luck_text.proofs.Walk.{walk-end, walk-stop, walk-goes}
-use Rattle.luck_answer.specs.Answer.{Answer, accepted, refused, refusedWith, refusedBoth, checkText, textAnswer}
+use Rattle.luck_answer.specs.Answer.{Answer, accepted, refused, refusedWith, refusedBoth, refusal}
 use Rattle.luck_format.specs.Format.{
   isFlag,
   isModifier,
@@ -40,13 +39,12 @@ use Rattle.luck_format.specs.Format.{
   formatTurn,
   formatEnd,
   formatWalk,
-  checkFormat,
 }
 use Rattle.luck_format.specs.Inner.{modifiersOf, EndsIn, turnOf, GoesIn}
-use Rattle.luck_answer.specs.declared.format_pattern.Text.{Text}
 use Rattle.luck_format.specs.declared.format.Modifiers.{Modifiers as Found}
 use Rattle.luck_format.specs.declared.format.Modifiers.the-variants as found
 use Rattle.luck_format.specs.declared.format.Specifier.{Specifier}
+use Rattle.luck_format.specs.declared.format.Specifier.the-variants.{Counted, Literal, Fault}
 
 -- behind the end stands no byte
 pub none-there : (text : List ℕ) (p x : ℕ) → 0 < x → length text ≤ p → byteAt text p ≡ x → ⊥
@@ -286,11 +284,17 @@ module _ (rules : Rules) (text : List ℕ) where
   unfolding formatWalk
   start = refl
 
-  -- what is known of the specifier that was read
-  pub read : (p : ℕ) {r : Specifier} (shape : Specifier) → r ≡ shape
-      → ((count : ℕ) → turnOf count r ≡ percentTurn rules text p count) × GoesIn r p (length text)
-      → ((count : ℕ) → turnOf count shape ≡ percentTurn rules text p count) × GoesIn shape p (length text)
-  read p shape e w = subst (λ (x : Specifier). ((count : ℕ) → turnOf count x ≡ percentTurn rules text p count) × GoesIn x p (length text)) e w
+  -- the walk goes on behind so many bytes
+  pub record GoesOn (p count width : ℕ) (whole : Answer) : Type 0 where
+    pub some : 0 < width
+    pub inside : p + width ≤ length text
+    pub walked : on (p + width) count ≡ whole
+
+  -- what a specifier that was read at p makes of the walk
+  abbrev pub After : ℕ → ℕ → Answer → Specifier → Type 0
+  After p count whole (Counted width) = GoesOn p (count + 1) width whole
+  After p count whole (Literal width) = GoesOn p count width whole
+  After p count whole (Fault e) = refusal e ≡ whole
 
   module _ (p count : ℕ) (whole : Answer) (w : on p count ≡ whole) where
     pub done : length text ≤ p → accepted count ≡ whole
@@ -310,18 +314,14 @@ module _ (rules : Rules) (text : List ℕ) where
         unfolding formatTurn if_then_else_
         percent-step = rw (eq-eqb (byteAt text p) 37 e)
 
-        pub turn : (width count′ : ℕ) → goes width count′ ≡ percentTurn rules text p count → 0 < width → p + width ≤ length text → on (p + width) count′ ≡ whole
-        turn width count′ s g l = sym (walk-goes (formatTurn rules text) formatEnd (length text) p count width count′ g l (percent-step ∙ sym s)) ∙ w
+        goes-on : (width count′ : ℕ) → goes width count′ ≡ percentTurn rules text p count → (0 < width) × (p + width ≤ length text) → GoesOn p count′ width whole
+        goes-on width count′ s g = record {
+          some = g .0;
+          inside = g .1;
+          walked = sym (walk-goes (formatTurn rules text) formatEnd (length text) p count width count′ (g .0) (g .1) (percent-step ∙ sym s)) ∙ w;
+        }
 
-        pub bad : (answer : Answer) → stop answer ≡ percentTurn rules text p count → answer ≡ whole
-        bad answer s = sym (walk-stop (formatTurn rules text) formatEnd (length text) p count answer h (percent-step ∙ sym s)) ∙ w
-
--- ---- The check
-
--- what a text that was read gives the check
-pub checked : (version : ℕ) (text : List ℕ) {r : Text} (shape : Text) → r ≡ shape → ((walked : Answer) → textAnswer r walked ≡ checkText version text walked)
-    → textAnswer shape (formatWalk (rulesOf version) text) ≡ checkFormat version text
-unfolding checkFormat
-checked version text shape e w =
-    let walked = formatWalk (rulesOf version) text in
-    subst (λ (x : Text). textAnswer x walked ≡ checkText version text walked) e (w walked)
+        pub after : (x : Specifier) → ((count : ℕ) → turnOf count x ≡ percentTurn rules text p count) × GoesIn x p (length text) → After p count whole x
+        after (Counted width) s = goes-on width (count + 1) (s .0 count) (s .1)
+        after (Literal width) s = goes-on width count (s .0 count) (s .1)
+        after (Fault e) s = sym (walk-stop (formatTurn rules text) formatEnd (length text) p count (refusal e) h (percent-step ∙ sym (s .0 count))) ∙ w

@@ -1,3 +1,4 @@
 pub mod Format
 pub mod Date
 pub mod Inner
+pub mod Computed

@@ -6,26 +6,16 @@ use mathlib.Core.Path.{_≡_, refl}
 use mathlib.Core.Bool.{Bool, true, _&&_}
 use mathlib.Core.List.{List, [], _∷_, _++_}
 use lib.ListN.{replicate}
-use Rattle.luck_text.specs.Bytes.{ascii, if_then_else_, among, isDigit, isXdigit, run, digitValue, numeralFrom, numeral}
-use Rattle.luck_text.specs.Walk.{walk, walkFrom}
-use Rattle.luck_token.specs.Version.{isVersion, versions, has, rulesOf}
-use Rattle.luck_utf8.specs.Utf8.{rfc3629, tailsOf, follow, widthBy, sequence, sequenceAt, noneIllFormed, illFormed, codePoint, charAt}
-use Rattle.luck_answer.specs.Answer.{refused, afterVersion, afterUtf8, checkText}
-use Rattle.luck_pattern.specs.Captures.{latestOpen, closeLatest, isClosed, allClosed}
-use Rattle.luck_pattern.specs.Reading.{headOf, escapeOf, escapeAt, memberAt, memberBy, memberTurn, membersEnd, firstMember, setEnd}
-use Rattle.luck_pattern.specs.Pattern.{isEmptySet, closedAs, reversedOf, setAs, setRead, escapeAs, escapeRead, onward, afterClose, headTurn, patternTurn, patternEnd, patternWalk, checkPatternAs, checkPattern}
-use Rattle.luck_pack.specs.Pack.{getnumlimit, fixedString, numberedOption, getoption, kindOf, numberOr, luckSizeof, luckSize, maxalign, isPowerOfTwo, isMisaligned, aligned, variable, alignBy, alignmentOf, alignToNext, kindTurn, optionTurn, packTurn, packEnd, packWalk, checkPack}
-use Rattle.luck_replacement.specs.Replacement.{escaped, pieces, allowsDigit, piecesWalk, checkReplacement}
-use Rattle.luck_format.specs.Format.{isFlag, isModifier, getFormat, scanPrecision, scanWidth, scanFormat, modifiersAt, isConversion, flagsFor, flagsRun, takesPrecision, afterTwoDigits, goodModifiers, conversionTurn, specifierTurn, percentTurn, formatTurn, formatEnd, formatWalk, checkFormat}
-use Rattle.luck_format.specs.Date.{secondBytes, isPair, singleWidth, pairWidth, conversionWidth, dateTurn, dateEnd, isStarT, isTable, conversionsWalk, dateWalk, checkDate}
-use Rattle.luck_linter.specs.Checks.{checkOf}
+use Rattle.luck_text.specs.Bytes.{ascii, if_then_else_, among}
+use Rattle.luck_answer.specs.Answer.{refused}
+use Rattle.luck_linter.specs.Computed.{computed as checksComputed}
 use Rattle.luck_line.specs.Line.{lineNumbers, twoDigits, capturesIn, checkWith, headCheck, bodyAnswer, lineAnswer}
 use Rattle.luck_line.specs.Row.{newline, column, justified, fourColumns, sevenColumns, row}
 use Rattle.luck_lines.specs.Lines.{lastLine, linesFrom, lines, rows, listing}
 
 -- what is computed
 unfoldable pub computed : Unit {0}
-unfolding if_then_else_ among isDigit isXdigit run digitValue numeralFrom numeral walk walkFrom isVersion versions has rulesOf rfc3629 tailsOf follow widthBy sequence sequenceAt noneIllFormed illFormed codePoint charAt afterVersion afterUtf8 checkText closeLatest isClosed allClosed headOf escapeOf escapeAt memberAt memberBy memberTurn membersEnd firstMember setEnd isEmptySet closedAs reversedOf setAs setRead escapeAs escapeRead onward afterClose headTurn patternTurn patternEnd patternWalk checkPatternAs checkPattern escaped pieces allowsDigit piecesWalk checkReplacement isFlag isModifier getFormat scanPrecision scanWidth scanFormat modifiersAt isConversion flagsFor flagsRun takesPrecision afterTwoDigits goodModifiers conversionTurn specifierTurn percentTurn formatTurn formatEnd formatWalk checkFormat secondBytes isPair singleWidth pairWidth conversionWidth dateTurn dateEnd isStarT isTable conversionsWalk dateWalk checkDate getnumlimit fixedString numberedOption getoption kindOf numberOr luckSizeof luckSize maxalign isPowerOfTwo isMisaligned aligned variable alignBy alignmentOf alignToNext kindTurn optionTurn packTurn packEnd packWalk checkPack checkOf twoDigits capturesIn checkWith headCheck bodyAnswer lineAnswer column justified fourColumns sevenColumns row lastLine linesFrom lines rows listing
+unfolding checksComputed twoDigits capturesIn checkWith headCheck bodyAnswer lineAnswer column justified fourColumns sevenColumns row lastLine linesFrom lines rows listing
 computed = tt
 
 abbrev line : List ℕ → List ℕ → List ℕ

@@ -16,7 +16,7 @@ use Rattle.luck_format.specs.Format.{checkFormat}
 use Rattle.luck_format.specs.Date.{checksDates, hasDateOptions, checkDate}
 use Rattle.luck_pack.specs.Pack.{checkPack}
 use Rattle.luck_linter.specs.Checks.{Check, format, pattern, date, replacement, pack, walkOf, answer, numbers}
-use Rattle.luck_linter.proofs.Counts.{Bounded, check-bounded}
+use Rattle.luck_linter.proofs.Counts.{Walked, Bounded, check-bounded}
 use Rattle.luck_linter.proofs.PatternAnswers.{pattern-bounded}
 use Rattle.luck_linter.proofs.FormatAnswers.{format-bounded}
 use Rattle.luck_linter.proofs.PackAnswers.{pack-bounded}
@@ -39,7 +39,7 @@ by-text check version text read variant a reads is e =
     let walked = walkOf check (rulesOf version) text in
     e ∙ ap (λ t. textAnswer t walked) (sym is) ∙ reads walked ∙ sym (whole-check check version text)
 
-pub walk-bounded : (check : Check) (rules : Rules) (body : List ℕ) → Bounded (length body) (numbers check) (walkOf check rules body)
+pub walk-bounded : (check : Check) (rules : Rules) (body : List ℕ) → Walked (length body) (numbers check) (walkOf check rules body)
 unfolding walkOf
 walk-bounded format rules body = format-bounded body rules
 walk-bounded pattern rules body = pattern-bounded body

@@ -3,18 +3,20 @@
 -- Assumes nothing.
 use Prim.Native.Nat.{ℕ, zero, suc, _+_, _-_, _≤_, _<_}
 use native.Mathlib.Omega.{arith}
-use mathlib.Core.Path.{_≡_}
-use mathlib.Core.Bool.{true}
-use mathlib.Core.List.{List}
+use mathlib.Core.Path.{_≡_, refl, sym}
+use mathlib.Core.Bool.{Bool, true, false, not, _&&_, _||_}
+use mathlib.Core.List.{List, [], _∷_}
 use mathlib.Core.Option.{Option, none, some}
 use lib.ListN.{length}
+use lib.Dec.{eqb}
+use borrow.Author.Tests.{ne-eqb}
 use Rattle.luck_text.specs.Bytes.{among}
 use Rattle.luck_text.specs.Walk.{Turn, stop, goes, walk, walkFrom}
-use Rattle.luck_text.proofs.Cases.{by-test}
+use Rattle.luck_text.proofs.Cases.{by-test, and-left, and-right, both-true}
 use Rattle.luck_token.specs.Version.{isVersion}
 use Rattle.luck_utf8.specs.Utf8.{illFormed}
 use Rattle.luck_answer.specs.Answer.{Answer, afterVersion, afterUtf8, checkText}
-use Rattle.luck_answer.proofs.Answers.{check-fits}
+use Rattle.luck_answer.proofs.Answers.{isWhole, check-fits}
 
 -- ---- A walk
 
@@ -44,9 +46,43 @@ module _ {S A : Type 0} (item : ℕ → S → Turn S A) (ends : ℕ → S → A)
 
 -- ---- A text
 
--- an answer's offset and count are at most this, and its number one of these
+-- an answer's offset and count are at most this, its fields are those of its number, and its number is one of these
 abbrev pub Bounded : ℕ → List ℕ → Answer → Type 0
-Bounded len numbers answer = (answer .offset ≤ len) × (among (answer .number) numbers ≡ true) × (answer .count ≤ len)
+Bounded len numbers answer = (answer .offset ≤ len) × ((isWhole answer && among (answer .number) numbers) ≡ true) × (answer .count ≤ len)
+
+own-numbers : (o p q r : Bool) → o ≡ false → (not p && (not q && not r)) ≡ true → (o || (p || (q || (r || false)))) ≡ false
+own-numbers true p q r e f = e
+own-numbers false true q r e f = sym f
+own-numbers false false true r e f = sym f
+own-numbers false false false true e f = sym f
+own-numbers false false false false e f = refl
+
+-- a walk's answer besides has none of the numbers that come before every walk
+abbrev isOwn : ℕ → Bool
+isOwn n = not (eqb n 23) && (not (eqb n 25) && not (eqb n 30))
+
+abbrev pub isWalked : Answer → Bool
+isWalked a = isOwn (a .number) && isWhole a
+
+abbrev pub Walked : ℕ → List ℕ → Answer → Type 0
+Walked len numbers answer = (answer .offset ≤ len) × ((isWalked answer && among (answer .number) numbers) ≡ true) × (answer .count ≤ len)
+
+module _ (len : ℕ) (numbers : List ℕ) (a : Answer) (h : Walked len numbers a) where
+  own : isOwn (a .number) ≡ true
+  own = and-left (isOwn (a .number)) (isWhole a) (and-left (isWalked a) (among (a .number) numbers) (h .1))
+
+  pub walked-bounded : Bounded len numbers a
+  walked-bounded = (
+    h .0,
+    both-true (isWhole a) (among (a .number) numbers) (and-right (isOwn (a .number)) (isWhole a) (and-left (isWalked a) (among (a .number) numbers) (h .1)))
+        (and-right (isWalked a) (among (a .number) numbers) (h .1)),
+    h .2,
+  )
+
+  -- so that a refusal of a body is none of 0, 23, 25 and 30
+  pub walked-own : (a .number ≡ 0 → ⊥) → among (a .number) (0 ∷ 23 ∷ 25 ∷ 30 ∷ []) ≡ false
+  unfolding among
+  walked-own n = own-numbers (eqb (a .number) 0) (eqb (a .number) 23) (eqb (a .number) 25) (eqb (a .number) 30) (ne-eqb (a .number) 0 n) own
 
 module _ (text : List ℕ) (numbers : List ℕ) (has-23 : among 23 numbers ≡ true) (has-25 : among 25 numbers ≡ true) where
   abbrev CountIn : Answer → Type 0
@@ -62,7 +98,8 @@ module _ (text : List ℕ) (numbers : List ℕ) (has-23 : among 23 numbers ≡ t
   text-counts version walked h = by-test CountIn (isVersion version) _ _ (λ _. after-counts (illFormed text) walked h) (λ _. omega arith)
 
   -- a check's answer, if its walk's is
-  pub check-bounded : (version : ℕ) (walked : Answer) → Bounded (length text) numbers walked → Bounded (length text) numbers (checkText version text walked)
-  check-bounded version walked h =
+  pub check-bounded : (version : ℕ) (walked : Answer) → Walked (length text) numbers walked → Bounded (length text) numbers (checkText version text walked)
+  check-bounded version walked w =
+      let h = walked-bounded (length text) numbers walked w in
       let fits = check-fits text numbers has-23 has-25 version walked (h .0, h .1) in
       (fits .0, fits .1, text-counts version walked (h .2))

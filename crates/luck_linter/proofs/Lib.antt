@@ -7,4 +7,5 @@ pub mod PackAnswers
 pub mod DateAnswers
 pub mod Checked
 pub mod LiteralAnswers
+pub mod Spans
 pub mod Refusals

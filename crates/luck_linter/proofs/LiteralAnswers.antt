@@ -14,7 +14,7 @@ use Rattle.luck_text.proofs.Cases.{by-test}
 use Rattle.luck_answer.specs.Answer.{Answer, accepted, checkText}
 use Rattle.luck_linter.specs.Checks.{Check, checkOf, walkOf, numbers, namedNumbers}
 use Rattle.luck_linter.specs.StringLiteral.{LiteralAnswer, withSpan, bodyOf, checkBody, checkShort, checkNamedLiteral, checkLiteral}
-use Rattle.luck_linter.proofs.Counts.{Bounded, check-bounded}
+use Rattle.luck_linter.proofs.Counts.{Walked, walked-bounded, Bounded, check-bounded}
 use Rattle.luck_linter.proofs.Checked.{walk-bounded, has-each}
 
 module _ (start : ℕ) (text : List ℕ) where
@@ -32,9 +32,10 @@ module _ (start : ℕ) (text : List ℕ) where
     zero-bounded : Bounded (length text) (numbers check) (accepted 0)
     zero-bounded = (omega arith, has-each check .0, omega arith)
 
-    span-bounded : (walked : Answer) → Bounded (length (bodyOf text)) (numbers check) walked → CheckedIn (withSpan start (bodyOf text) walked)
+    span-bounded : (walked : Answer) → Walked (length (bodyOf text)) (numbers check) walked → CheckedIn (withSpan start (bodyOf text) walked)
     unfolding withSpan
-    span-bounded walked fits =
+    span-bounded walked w =
+        let fits = walked-bounded (length (bodyOf text)) (numbers check) walked w in
         let h : walked .offset ≤ length text - 2 = omega (arith, fits .0, body-length) in
         let whole : Bounded (length text) (numbers check) walked = (omega arith, fits .1, omega (arith, fits .2, body-length)) in
         by-test CheckedIn _ _ _ (λ _. (whole, λ _. h)) (λ _. (whole, λ _. h))

@@ -3,7 +3,7 @@
 use Prim.Native.Nat.{ℕ, suc, _+_, _≤_, _<_}
 use native.Mathlib.Omega.{arith}
 use mathlib.Core.Path.{_≡_, refl, ap}
-use mathlib.Core.Bool.{Bool, true, false}
+use mathlib.Core.Bool.{Bool, true, false, _&&_}
 use mathlib.Core.List.{List, [], _∷_}
 use mathlib.Core.Option.{Option, none, some}
 use lib.Dec.{eqb, ltb}
@@ -12,16 +12,16 @@ use borrow.Author.Tests.{eqb-true}
 use Rattle.luck_text.specs.Bytes.{if_then_else_, byteAt, among}
 use Rattle.luck_text.specs.Walk.{Turn}
 use Rattle.luck_text.proofs.Cases.{by-test, present}
-use Rattle.luck_answer.specs.Answer.{Answer}
+use Rattle.luck_answer.specs.Answer.{Answer, refused}
 use Rattle.luck_linter.specs.Checks.{pattern, numbers}
 use Rattle.luck_answer.proofs.Answers.{Stops, walk-every}
-use Rattle.luck_linter.proofs.Counts.{Counts, walk-counts, Bounded}
+use Rattle.luck_linter.proofs.Counts.{Counts, walk-counts, isWalked, Walked}
 use Rattle.luck_pattern.specs.Captures.{latestOpen, closeAt, closeLatest, isClosed, allClosed}
 use Rattle.luck_pattern.specs.Reading.{Head, at-open, at-close, at-percent, at-set, at-other, headOf, Escape, esc-digit, esc-balance, esc-frontier, esc-other, esc-end, escapeAt, Member, closing-bracket, escaped-member, cut-escape, byte-member, memberAt, SetEnd, closes-at, cut-at, unclosed, memberBy, memberTurn, membersEnd, firstMember, setEnd}
 use Rattle.luck_pattern.specs.Pattern.{isEmptySet, Read, past, fault, closedAs, reversedOf, setAs, setRead, escapeAs, escapeRead, onward, afterClose, headTurn, patternTurn, patternEnd, patternWalk}
 
 abbrev AnswerIn : ℕ → Answer → Type 0
-AnswerIn len answer = Bounded len (numbers pattern) answer
+AnswerIn len answer = Walked len (numbers pattern) answer
 
 abbrev ReadIn : ℕ → Read → Type 0
 ReadIn len (past q) = Unit {0}
@@ -69,7 +69,11 @@ module _ (text : List ℕ) where
   unfolding setAs closedAs reversedOf if_then_else_ among
   set-as-in p (closes-at e) h i = tt
   set-as-in p (cut-at e) h i = (omega arith, refl, omega arith)
-  set-as-in p unclosed h i = (omega arith, by-test (λ (n : ℕ). among n (numbers pattern) ≡ true) (isEmptySet text p) 9 8 (λ _. refl) (λ _. refl), omega arith)
+  set-as-in p unclosed h i = (
+    omega arith,
+    by-test (λ (n : ℕ). (isWalked (refused n p) && among n (numbers pattern)) ≡ true) (isEmptySet text p) 9 8 (λ _. refl) (λ _. refl),
+    omega arith,
+  )
 
   set-in : (p : ℕ) → p < length text → ReadIn (length text) (setRead false text p)
   unfolding setRead
@@ -119,6 +123,6 @@ module _ (text : List ℕ) where
   unfolding patternEnd among
   last-in p captures h = by-test (AnswerIn (length text)) (allClosed captures) _ _ (λ _. (omega arith, refl, h)) (λ _. (omega arith, refl, omega arith))
 
-  pub pattern-bounded : Bounded (length text) (numbers pattern) (patternWalk false text)
+  pub pattern-bounded : Walked (length text) (numbers pattern) (patternWalk false text)
   unfolding patternWalk
   pattern-bounded = walk-counts (patternTurn false text) (patternEnd text) (length text) length (AnswerIn (length text)) (λ p captures h. turn-in p captures h) last-in [] refl

@@ -14,7 +14,7 @@ use Rattle.luck_text.proofs.Cases.{by-test, and-right}
 use Rattle.luck_answer.specs.Answer.{Answer, refused}
 use Rattle.luck_linter.specs.Checks.{replacement, numbers}
 use Rattle.luck_replacement.specs.Replacement.{Piece, literal, digit, percent, other, lone, escaped, pieces, allowsDigit, piecesWalk}
-use Rattle.luck_linter.proofs.Counts.{Bounded}
+use Rattle.luck_linter.proofs.Counts.{Walked}
 
 -- ---- The pieces are as long as their text
 
@@ -83,7 +83,7 @@ too-large captures d h f =
 
 module _ (strict : Bool) (captures : Option ℕ) (len : ℕ) where
   abbrev AnswerIn : Answer → Type 0
-  AnswerIn answer = Bounded len (numbers (replacement captures)) answer
+  AnswerIn answer = Walked len (numbers (replacement captures)) answer
 
   walk-bounded : (all : List Piece) (p : ℕ) → SmallDigits all → p + widths all ≤ len → AnswerIn (piecesWalk strict captures all p)
   unfolding piecesWalk widths width among
@@ -101,5 +101,5 @@ module _ (strict : Bool) (captures : Option ℕ) (len : ℕ) where
       by-test AnswerIn strict (refused 19 p) (piecesWalk strict captures more (p + 1)) (λ _. (omega arith, refl, omega arith)) (λ _. rest)
 
 module _ (captures : Option ℕ) (text : List ℕ) where
-  pub replacement-bounded : (strict : Bool) → Bounded (length text) (numbers (replacement captures)) (piecesWalk strict captures (pieces text) 0)
+  pub replacement-bounded : (strict : Bool) → Walked (length text) (numbers (replacement captures)) (piecesWalk strict captures (pieces text) 0)
   replacement-bounded strict = walk-bounded strict captures (length text) (pieces text) 0 (pieces-small text) (omega (arith, pieces-width text))

@@ -6,21 +6,11 @@ use mathlib.Core.Path.{_≡_, refl}
 use mathlib.Core.Bool.{true, false}
 use mathlib.Core.List.{List, [], _∷_, _++_}
 use mathlib.Core.Option.{Option, none, some}
-use Rattle.luck_text.specs.Bytes.{ascii, if_then_else_, among, isDigit, run, digitValue, numeralFrom, numeral}
-use Rattle.luck_text.specs.Walk.{walk, walkFrom}
-use Rattle.luck_token.specs.Version.{isVersion, versions, has, rulesOf}
-use Rattle.luck_token.specs.Literal.{isShort}
-use Rattle.luck_utf8.specs.Utf8.{rfc3629, tailsOf, follow, widthBy, sequence, sequenceAt, noneIllFormed, illFormed}
-use Rattle.luck_answer.specs.Answer.{Answer, afterVersion, afterUtf8, checkText}
-use Rattle.luck_pattern.specs.Captures.{closeLatest, isClosed, allClosed}
-use Rattle.luck_pattern.specs.Reading.{headOf, escapeOf, escapeAt, memberAt, memberBy, memberTurn, membersEnd, firstMember, setEnd}
-use Rattle.luck_pattern.specs.Pattern.{isEmptySet, closedAs, reversedOf, setAs, setRead, escapeAs, escapeRead, onward, afterClose, headTurn, patternTurn, patternEnd, patternWalk, checkPatternAs, checkPattern}
-use Rattle.luck_replacement.specs.Replacement.{escaped, pieces, allowsDigit, piecesWalk, checkReplacement}
-use Rattle.luck_format.specs.Format.{isFlag, isModifier, getFormat, scanPrecision, scanWidth, scanFormat, modifiersAt, isConversion, flagsFor, flagsRun, takesPrecision, afterTwoDigits, goodModifiers, conversionTurn, specifierTurn, percentTurn, formatTurn, formatEnd, formatWalk, checkFormat}
-use Rattle.luck_format.specs.Date.{secondBytes, isPair, singleWidth, pairWidth, conversionWidth, dateTurn, dateEnd, isStarT, isTable, conversionsWalk, dateWalk, checkDate}
-use Rattle.luck_pack.specs.Pack.{getnumlimit, fixedString, numberedOption, getoption, kindOf, numberOr, luckSizeof, luckSize, maxalign, isPowerOfTwo, isMisaligned, aligned, variable, alignBy, alignmentOf, alignToNext, kindTurn, optionTurn, packTurn, packEnd, packWalk, checkPack}
-use Rattle.luck_linter.specs.Checks.{Check, pattern, format, date, replacement, pack, checkOf, walkOf, answer, numbers, namedNumbers}
-use Rattle.luck_linter.specs.StringLiteral.{isNumericEscape, hasNumericEscape, withSpan, checkBody, checkShort, checkNamedLiteral, checkLiteral}
+use Rattle.luck_text.specs.Bytes.{ascii}
+use Rattle.luck_answer.specs.Answer.{Answer}
+use Rattle.luck_linter.specs.Checks.{Check, pattern, format, date, replacement, pack, checkOf, answer, numbers, namedNumbers}
+use Rattle.luck_linter.specs.StringLiteral.{checkLiteral}
+use Rattle.luck_linter.specs.Computed.{computed}
 
 -- ---- Texts
 
@@ -117,11 +107,6 @@ named (gives version text number ∷ more) = number ∷ named more
 abbrev pub Each : {A : Type 0} → (A → List Example → Type 0) → List (A × List Example) → Type 0
 Each P [] = Unit {0}
 Each P (of ∷ more) = P (of .0) (of .1) × Each P more
-
--- what is computed
-unfoldable pub computed : Unit {0}
-unfolding if_then_else_ among isDigit run digitValue numeralFrom numeral walk walkFrom isVersion versions has rulesOf isShort rfc3629 tailsOf follow widthBy sequence sequenceAt noneIllFormed illFormed afterVersion afterUtf8 checkText closeLatest isClosed allClosed headOf escapeOf escapeAt memberAt memberBy memberTurn membersEnd firstMember setEnd isEmptySet closedAs reversedOf setAs setRead escapeAs escapeRead onward afterClose headTurn patternTurn patternEnd patternWalk checkPatternAs checkPattern escaped pieces allowsDigit piecesWalk checkReplacement isFlag isModifier getFormat scanPrecision scanWidth scanFormat modifiersAt isConversion flagsFor flagsRun takesPrecision afterTwoDigits goodModifiers conversionTurn specifierTurn percentTurn formatTurn formatEnd formatWalk checkFormat secondBytes isPair singleWidth pairWidth conversionWidth dateTurn dateEnd isStarT isTable conversionsWalk dateWalk checkDate getnumlimit fixedString numberedOption getoption kindOf numberOr luckSizeof luckSize maxalign isPowerOfTwo isMisaligned aligned variable alignBy alignmentOf alignToNext kindTurn optionTurn packTurn packEnd packWalk checkPack checkOf walkOf isNumericEscape hasNumericEscape withSpan checkBody checkShort checkNamedLiteral checkLiteral
-computed = tt
 
 -- each text gives its number
 pub examples-hold : Each (λ check list. answers (answer check) list ≡ named list) examples

@@ -1,3 +1,4 @@
 pub mod Checks
 pub mod StringLiteral
+pub mod Computed
 pub mod Examples

@@ -196,35 +196,26 @@ module _ (text : List ℕ) (p count : ℕ) (digits : count ≡ run isDigit (drop
 pub back : (p : ℕ) → p + 1 - 1 ≡ p
 back p = omega arith
 
--- what is made of the number behind each letter
-pub makes-number : (b : ℕ) → among b (ascii "iI") ≡ true → Makes Sized 4 b
-unfolding kept keptAs kindOf luckSize luckSizeof among if_then_else_
-makes-number b = every-among (Makes Sized 4) (ascii "iI") ((λ number. refl), ((λ number. refl), tt)) b
-
-pub makes-string : (b : ℕ) → b ≡ code "s" → Makes Counted 4 b
-unfolding kept keptAs kindOf luckSize luckSizeof among if_then_else_
-makes-string b e = subst (Makes Counted 4) (sym e) (λ number. refl)
-
-pub makes-alignment : (b : ℕ) → b ≡ code "!" → Makes SetMaxAlignment 8 b
-unfolding kept keptAs kindOf among if_then_else_
-makes-alignment b e = subst (Makes SetMaxAlignment 8) (sym e) (λ number. refl)
+-- the letter at p is one of a number from 1 to 16, with this default, and this is made of the number
+pub record Limited (text : List ℕ) (p : ℕ) (make : ℕ → PackOption) (default : ℕ) : Type 0 where
+  pub makes : Makes make default (byteAt text p)
+  pub limited : among (byteAt text p) limitedLetters ≡ true
 
 module _ (text : List ℕ) (p : ℕ) where
-  limited : among (byteAt text p) limitedLetters ≡ true → keptRead (getnumlimit (byteAt text p) text (p + 1)) ≡ keptRead (numberedOption text p)
-  unfolding numberedOption
-  limited e = ap keptRead (sym (if-true _ _ _ e))
+  pub number-letter : among (byteAt text p) (ascii "iI") ≡ true → Limited text p Sized 4
+  unfolding kept keptAs kindOf luckSize luckSizeof among if_then_else_
+  number-letter e = record {
+    makes = every-among (Makes Sized 4) (ascii "iI") ((λ number. refl), ((λ number. refl), tt)) (byteAt text p) e;
+    limited = every-among (λ x. among x limitedLetters ≡ true) (ascii "iI") (refl, (refl, tt)) (byteAt text p) e;
+  }
 
-  pub sized-number : among (byteAt text p) (ascii "iI") ≡ true → keptRead (getnumlimit (byteAt text p) text (p + 1)) ≡ keptRead (numberedOption text p)
-  unfolding among
-  sized-number e = limited (every-among (λ x. among x limitedLetters ≡ true) (ascii "iI") (refl, (refl, tt)) (byteAt text p) e)
+  pub string-letter : byteAt text p ≡ code "s" → Limited text p Counted 4
+  unfolding kept keptAs kindOf luckSize luckSizeof among if_then_else_
+  string-letter e = record { makes = subst (Makes Counted 4) (sym e) (λ number. refl); limited = rw e }
 
-  pub sized-string : byteAt text p ≡ code "s" → keptRead (getnumlimit (byteAt text p) text (p + 1)) ≡ keptRead (numberedOption text p)
-  unfolding among
-  sized-string e = limited (rw e)
-
-  pub largest-alignment : byteAt text p ≡ code "!" → keptRead (getnumlimit (byteAt text p) text (p + 1)) ≡ keptRead (numberedOption text p)
-  unfolding among
-  largest-alignment e = limited (rw e)
+  pub alignment-letter : byteAt text p ≡ code "!" → Limited text p SetMaxAlignment 8
+  unfolding kept keptAs kindOf among if_then_else_
+  alignment-letter e = record { makes = subst (Makes SetMaxAlignment 8) (sym e) (λ number. refl); limited = rw e }
 
   module _ (no-number : among (byteAt text p) (ascii "iI") ≡ false) (no-string : byteAt text p ≡ code "s" → ⊥) (no-largest : byteAt text p ≡ code "!" → ⊥) where
     unlimited : among (byteAt text p) limitedLetters ≡ false
@@ -240,17 +231,21 @@ module _ (text : List ℕ) (p : ℕ) where
     unfolding numberedOption keptRead if_then_else_
     unknown-option e = rw (unlimited, ne-eqb (byteAt text p) (code "c") e)
 
-  -- a number that was found for the option at p
-  module _ (make : ℕ → PackOption) (wanted : Kept) (s : Size) (is : sizeRead make s ≡ wanted) (inside : SizeIn s (p + 1) (length text)) (whole : wanted ≡ keptRead (numberedOption text p)) where
-    pub of-size : (n width : ℕ) → s ≡ size.Of n width
-        → (optionRead (found.Option (make n) width) ≡ keptRead (numberedOption text p)) × OptionIn (found.Option (make n) width) p (length text)
-    of-size n width e =
-        let i = subst (λ (x : Size). SizeIn x (p + 1) (length text)) e inside in
-        (ap (sizeRead make) (sym e) ∙ is ∙ whole, (i .0, omega (arith, i .1)))
+  -- the option at p with a size that was read for it
+  abbrev pub WithSize : (ℕ → PackOption) → Size → Type 0
+  WithSize make (size.Of n width) = (keeps (make n) width ≡ keptRead (numberedOption text p)) × ((0 < width) × (p + width ≤ length text))
+  WithSize make (size.Fault e) = (faults (refusal e) ≡ keptRead (numberedOption text p)) × Unit {0}
 
-    pub of-fault : (refusing : PatternError) → s ≡ size.Fault refusing
-        → (optionRead (found.Fault refusing) ≡ keptRead (numberedOption text p)) × OptionIn (found.Fault refusing) p (length text)
-    of-fault refusing e = (ap (sizeRead make) (sym e) ∙ is ∙ whole, tt)
+  module _ {make : ℕ → PackOption} {default : ℕ} (l : Limited text p make default) where
+    read-size : (s : Size) → sizeRead make s ≡ keptRead (getnumlimit (byteAt text p) text (p + 1)) → SizeIn s (p + 1) (length text) → WithSize make s
+    unfolding numberedOption
+    read-size (size.Of n width) is inside = (is ∙ ap keptRead (sym (if-true _ _ _ (l .limited))), (inside .0, omega (arith, inside .1)))
+    read-size (size.Fault e) is inside = (is ∙ ap keptRead (sym (if-true _ _ _ (l .limited))), tt)
+
+    pub with-size : {s x : Size}
+        → ((letter : ℕ) (make : ℕ → PackOption) → Makes make default letter → sizeRead make s ≡ keptRead (getnumlimit letter text (p + 1))) × SizeIn s (p + 1) (length text)
+        → s ≡ x → WithSize make x
+    with-size {s} w e = subst (WithSize make) e (read-size s (w .0 (byteAt text p) make (l .makes)) (w .1))
 
   -- ---- The option at p
 

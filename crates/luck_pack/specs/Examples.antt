@@ -5,8 +5,10 @@ use Prim.Native.Char.{code}
 use mathlib.Core.Path.{_≡_, refl}
 use mathlib.Core.List.{List, [], _∷_}
 use mathlib.Core.Option.{some}
-use Rattle.luck_text.specs.Bytes.{ascii, if_then_else_, among, isDigit, run, digitValue, numeralFrom, numeral}
-use Rattle.luck_pack.specs.Pack.{KOption, Kint, Kuint, Kfloat, Knumber, Kdouble, Kchar, Kstring, Kzstr, Kpadding, Kpaddalign, Knop, packOption, option, fixedString, numberedOption, getoption, kindOf, luckSizeof}
+use Rattle.luck_text.specs.Bytes.{ascii}
+use Rattle.luck_pack.specs.Pack.{KOption, Kint, Kuint, Kfloat, Knumber, Kdouble, Kchar, Kstring, Kzstr, Kpadding, Kpaddalign, Knop}
+use Rattle.luck_pack.specs.Pack.{packOption, option, getoption, kindOf, luckSizeof}
+use Rattle.luck_pack.specs.Computed.{computed}
 
 abbrev pub kinds : List ℕ → List KOption
 kinds [] = []
@@ -17,21 +19,21 @@ sizes [] = []
 sizes (letter ∷ letters) = luckSizeof letter ∷ sizes letters
 
 pub whole-numbers : kinds (ascii "bhljiBHLJTI") ≡ Kint ∷ Kint ∷ Kint ∷ Kint ∷ Kint ∷ Kuint ∷ Kuint ∷ Kuint ∷ Kuint ∷ Kuint ∷ Kuint ∷ []
-unfolding kindOf if_then_else_ among
+unfolding computed
 whole-numbers = refl
 
 pub others : kinds (ascii "fndscz") ≡ Kfloat ∷ Knumber ∷ Kdouble ∷ Kstring ∷ Kchar ∷ Kzstr ∷ []
-unfolding kindOf if_then_else_ among
+unfolding computed
 others = refl
 
 pub without-value : kinds (ascii "xX !<>=") ≡ Kpadding ∷ Kpaddalign ∷ Knop ∷ Knop ∷ Knop ∷ Knop ∷ Knop ∷ []
-unfolding kindOf if_then_else_ among
+unfolding computed
 without-value = refl
 
 pub unsized : sizes (ascii "czxX !<>=") ≡ 0 ∷ 0 ∷ 0 ∷ 0 ∷ 0 ∷ 0 ∷ 0 ∷ 0 ∷ 0 ∷ []
-unfolding luckSizeof if_then_else_ among
+unfolding computed
 unsized = refl
 
 pub fixed-string : getoption (ascii "c10") 0 ≡ option (packOption (code "c") (some 10)) 3
-unfolding getoption numberedOption fixedString if_then_else_ among isDigit run digitValue numeralFrom numeral
+unfolding computed
 fixed-string = refl

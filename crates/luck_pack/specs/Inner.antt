@@ -51,7 +51,7 @@ keptRead (pack.option o width) = keeps (kept o) width
 keptRead (pack.fault answer) = faults answer
 
 -- what it does with that
-unfoldable pub keptAlignment : PackOption → Option ℕ
+abbrev pub keptAlignment : PackOption → Option ℕ
 keptAlignment (option.Sized n) = some n
 keptAlignment (option.Counted n) = some n
 keptAlignment option.ZeroTerminated = none

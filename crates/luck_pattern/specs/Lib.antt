@@ -4,3 +4,4 @@ pub mod Elements
 pub mod Pattern
 pub mod Items
 pub mod Inner
+pub mod Computed

@@ -1,2 +1,3 @@
 pub mod Replacement
 pub mod Counts
+pub mod Computed

@@ -6,12 +6,12 @@ use native.Mathlib.Numerals.{add-one}
 use native.Mathlib.Omega.{arith}
 use mathlib.Core.Path.{_≡_, refl, sym, ap, subst, _∙_}
 use mathlib.Core.Logic.{_⊎_, inl, inr, ⊎-elim}
-use mathlib.Core.Bool.{Bool, true, false, _||_}
+use mathlib.Core.Bool.{Bool, true, false, _||_, not}
 use mathlib.Core.List.{List, [], _∷_}
 use lib.ListN.{length, drop, length-drop, drop-of-length-le}
 use lib.Seq.{drop-cons, take-nil, getD-take, getD-drop, length-take-le}
 use lib.Dec.{leb}
-use borrow.Author.Tests.{le-leb, lt-leb, leb-true, leb-false, eq-eqb, ne-eqb}
+use borrow.Author.Tests.{le-leb, lt-leb, leb-true, leb-false, eq-eqb, ne-eqb, not-true, not-false}
 use Rattle.luck_text.specs.Bytes.{if_then_else_, byteAt, part, between, among, isDigit, isXdigit, run, digitValue, numeralFrom}
 use Rattle.luck_text.specs.Scan.{most, grown}
 use Rattle.luck_text.proofs.Cases.{by-test, order, and-right, second-false}
@@ -53,6 +53,11 @@ all-of-part P text p size h f k l m =
     let n = length-take-le (p + size - p) (drop p text) (omega (arith, length-drop p text)) in
     let q : p + (k - p) ≡ k = omega arith in
     subst P (getD-take (p + size - p) (drop p text) (k - p) 0 (omega arith) ∙ getD-drop p text (k - p) 0 ∙ ap (byteAt text) q) (f (k - p) (omega arith))
+
+-- what holds from a place to a second, and from there to a third
+pub all-between : (P : ℕ → Type 0) (from at to : ℕ) → ((k : ℕ) → from ≤ k → k < at → P k) → ((k : ℕ) → at ≤ k → k < to → P k)
+    → (k : ℕ) → from ≤ k → k < to → P k
+all-between P from at to f g k l m = ⊎-elim (λ h. f k l h) (λ h. g k h m) (order k at)
 
 -- ---- A run
 
@@ -99,6 +104,27 @@ module _ (test : ℕ → Bool) where
   -- a run lies in the text
   pub run-inside : (text : List ℕ) (p : ℕ) → p ≤ length text → p + run test (drop p text) ≤ length text
   run-inside text p h = omega (arith, run-length (drop p text), length-drop p text)
+
+-- the bytes from `at` to `end` are of a run
+pub record InRun (test : ℕ → Bool) (text : List ℕ) (at end : ℕ) : Type 0 where
+  pub behind : at ≤ end
+  pub so-far : run test (drop at text) ≡ end - at + run test (drop end text)
+
+pub run-begins : (test : ℕ → Bool) (text : List ℕ) (at : ℕ) → InRun test text at at
+run-begins test text at = record { behind = omega arith; so-far = omega arith }
+
+module _ {test : ℕ → Bool} {text : List ℕ} {at end : ℕ} (i : InRun test text at end) where
+  pub run-ended : length text ≤ end → end - at ≡ run test (drop at text)
+  run-ended h = omega (arith, run-end test text end h)
+
+  -- by a test of the next byte
+  module _ (h : end < length text) {b : Bool} (e : b ≡ test (byteAt text end)) where
+    pub run-stopped : not b ≡ true → end - at ≡ run test (drop at text)
+    run-stopped t = omega (arith, run-stop test text end h (sym e ∙ not-true b t))
+
+    pub run-goes-on : not b ≡ false → InRun test text at (end + 1)
+    run-goes-on t =
+        record { behind = omega arith; so-far = omega (arith, run-more test text end h (sym e ∙ not-false b t)) }
 
 -- ---- A number
 

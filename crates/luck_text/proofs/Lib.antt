@@ -3,3 +3,4 @@ pub mod Walk
 pub mod Bytes
 pub mod Among
 pub mod Neither
+pub mod Keeps

@@ -1,3 +1,5 @@
 pub mod Breaks
 pub mod Literals
 pub mod Values
+pub mod Bounds
+pub mod Promises

@@ -4,3 +4,4 @@ pub mod Literal
 pub mod Decode
 pub mod Inner
 pub mod Span
+pub mod Computed

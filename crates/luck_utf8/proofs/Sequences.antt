@@ -3,20 +3,20 @@
 -- Assumes nothing.
 use mathlib.Core.Path.{_≡_, refl, sym, ap, _∙_}
 use mathlib.Core.Logic.{⊎-elim}
-use mathlib.Core.Bool.{Bool, true, false, _&&_}
+use mathlib.Core.Bool.{Bool, true, false, _&&_, not}
 use mathlib.Core.List.{List, [], _∷_}
 use mathlib.Core.Option.{Option, none, some}
 use Prim.Native.Nat.{ℕ, zero, suc, _+_, _*_, _-_, _<_, _≤_}
 use native.Mathlib.Nat.{add-zero}
 use native.Mathlib.Omega.{arith}
-use lib.ListN.{length, take, drop, length-drop}
-use lib.Seq.{length-take-le, getD-take, getD-drop}
+use lib.ListN.{length, take, drop}
 use lib.Dec.{leb, ltb}
-use borrow.Author.Tests.{lt-ltb, le-ltb, le-leb, lt-leb, ne-eqb, ltb-true, leb-true}
+use borrow.Author.Tests.{lt-ltb, le-ltb, le-leb, lt-leb, ne-eqb, ltb-true, leb-true, not-true, not-false}
 use Rattle.luck_text.specs.Bytes.{if_then_else_, byteAt}
 use Rattle.luck_text.specs.Walk.{walkFrom}
 use Rattle.luck_utf8.specs.Utf8.{Range, Row, tail, rfc3629, inRange, tailsOf, follow, widthBy, sequence, sequenceAt, noneIllFormed, codePoint, charAt}
 use Rattle.luck_text.proofs.Cases.{if-true, if-false, and-left, and-right, second-false, order, present}
+use Rattle.luck_text.proofs.Bytes.{all-of-part}
 use Rattle.luck_text.proofs.Walk.{walk-stop, walk-goes}
 
 -- The row of a first byte.
@@ -126,6 +126,35 @@ module _ (text : List ℕ) where
     pub sequence-ascii : p < length text → byteAt text p < 0x80 → sequence text p ≡ 1
     unfolding rfc3629
     sequence-ascii h l = sequence-accepted [] h (row-holds (byteAt text p) _ _ (omega arith) (omega arith)) (follow-end (p + 1))
+
+-- What is left of the sequence at p: the bytes before p + k fit its row, those from there on have to fit the ranges, and then it has n bytes.
+pub record Left (text : List ℕ) (p k n : ℕ) (ranges : List Range) : Type 0 where
+  pub whole : sequence text p ≡ (if follow text (p + k) ranges then n else 0)
+
+module _ {text : List ℕ} {p : ℕ} where
+  pub left-row : {tails : List Range} → p < length text → tailsOf rfc3629 (byteAt text p) ≡ some tails → Left text p 1 (suc (length tails)) tails
+  unfolding widthBy
+  left-row h e = record { whole = there text p h ∙ ap (widthBy text p) e }
+
+  module _ {k n : ℕ} where
+    left-false : {ranges : List Range} → Left text p k n ranges → follow text (p + k) ranges ≡ false → 0 ≡ sequence text p
+    left-false {ranges} l f = sym (l .whole ∙ if-false (follow text (p + k) ranges) _ _ f)
+
+    pub left-end : Left text p k n [] → n ≡ sequence text p
+    left-end l = sym (l .whole ∙ if-true (follow text (p + k) []) _ _ (follow-end text (p + k)))
+
+    module _ {r : Range} {ranges : List Range} (l : Left text p k n (r ∷ ranges)) where
+      pub left-short : length text < p + k + suc (length ranges) → 0 ≡ sequence text p
+      left-short h = left-false l (follow-short text r ranges (p + k) h)
+
+      -- by a test of the next byte
+      module _ {b : Bool} (e : b ≡ inRange r (byteAt text (p + k))) where
+        pub left-out : not b ≡ true → 0 ≡ sequence text p
+        left-out t = left-false l (follow-out text p k r ranges (sym e ∙ not-true b t))
+
+        pub left-in : not b ≡ false → p + k < length text → Left text p (k + 1) n ranges
+        left-in t h =
+            record { whole = l .whole ∙ ap (λ (f : Bool). if f then n else 0) (follow-in text p k r ranges h (sym e ∙ not-false b t)) }
 
 -- What a well-formed sequence says of its bytes.
 
@@ -263,16 +292,7 @@ module _ (text : List ℕ) where
   pub part-low : (at size high : ℕ) → at + size ≤ length text
       → ((k : ℕ) → k < length (take (at + size - at) (drop at text)) → byteAt (take (at + size - at) (drop at text)) k ≤ high)
       → high < 0x80 → (k : ℕ) → at ≤ k → k < at + size → byteAt text k < 0x80
-  part-low at size high h g l k m n =
-      let e : at + size - at ≡ size = omega arith in
-      let d = length-drop at text in
-      let t = length-take-le size (drop at text) (omega arith) in
-      let b : byteAt (take (at + size - at) (drop at text)) (k - at) ≤ high = g (k - at) (rw e (omega arith)) in
-      let b′ : byteAt (take size (drop at text)) (k - at) ≤ high = rw e at b in
-      let q : at + (k - at) ≡ k = omega arith in
-      let same : byteAt (take size (drop at text)) (k - at) ≡ byteAt text k =
-      getD-take size (drop at text) (k - at) 0 (omega arith) ∙ getD-drop at text (k - at) 0 ∙ ap (byteAt text) q in
-      omega arith
+  part-low at size high h g l = all-of-part (λ (b : ℕ). b < 0x80) text at size h (λ k m. omega (arith, g k m))
 
 -- The character at a place.
 module _ (text : List ℕ) (p w : ℕ) (e : w ≡ sequence text p) where

@@ -1,11 +1,10 @@
 -- `luck_format::format::scan_format_string` meets its contract. The invariant: from here the walk gives the whole answer. Assumes nothing.
-use mathlib.Core.Path.{_≡_}
+use mathlib.Core.Path.{_≡_, subst}
 use native.Mathlib.Omega.{arith}
-use Prim.Native.Nat.{_+_, _-_, _≤_}
+use Prim.Native.Nat.{_-_, _≤_}
 use lib.ListN.{length}
-use Rattle.luck_answer.specs.Answer.{refusal}
 use Rattle.luck_format.specs.Format.{formatWalk}
-use Rattle.luck_format.specs.declared.format.Specifier.the-variants.{Counted, Literal, Fault}
+use Rattle.luck_format.specs.declared.format.Specifier.{Specifier}
 use Rattle.luck_format.proofs.Formats as formats
 use borrow.Author.Needs.{needs}
 use Rattle.luck_format.proofs.format.scan_format_string.Statement.{
@@ -37,6 +36,16 @@ loop-again c =
     let l = c .before .before .before .loop in
     (omega arith, omega arith, formats.plain-turn (a .rules) (a .text .now) (l .at) (l .count) _ (l .inv .2) (c .before .before .loop-test .taken) (c .if1 .taken))
 
+-- what the specifier that was read makes of the walk
+after : (c : tie.After-scan-specifier Inv-loop μ-loop) {x : Specifier} → c .scan-specifier .result ≡ x
+    → formats.After (c .before .before .before .before .before .before .args .rules) (c .before .before .before .before .before .before .args .text .now) (c .before .before .before .before .loop .at) (c .before .before .before .before .loop .count)
+    (formatWalk (c .before .before .before .before .before .before .args .rules) (c .before .before .before .before .before .before .args .text .now)) x
+after c e =
+    let a = c .before .before .before .before .before .before .args in
+    let l = c .before .before .before .before .loop in
+    subst (formats.After (a .rules) (a .text .now) (l .at) (l .count) _) e
+    (formats.after (a .rules) (a .text .now) (l .at) (l .count) _ (l .inv .2) (c .before .before .before .loop-test .taken) (c .before .if1 .left) (c .scan-specifier .result) (c .scan-specifier .ensures))
+
 scan-specifier-requires : tie.Need-scan-specifier-requires Inv-loop μ-loop
 scan-specifier-requires c κs = search needs
 
@@ -47,66 +56,31 @@ add-count : tie.Need-add-count Inv-loop μ-loop
 add-count c = omega arith
 
 add-at-2 : tie.Need-add-at-2 Inv-loop μ-loop
-add-at-2 c =
-    let a = c .before .before .before .before .before .before .before .before .before .args in
-    let l = c .before .before .before .before .before .before .before .loop in
-    let v = c .before .specifier .given in
-    let s = formats.read (a .rules) (a .text .now) (l .at) (Counted (v .0 .0)) (v .1) (c .before .before .before .scan-specifier .ensures) in
-    omega (arith, s .1)
+add-at-2 c = omega (arith, after (c .before .before .before) (c .before .specifier .given .1))
 
 loop-less-2 : tie.Need-loop-less-2 Inv-loop μ-loop
-loop-less-2 c =
-    let a = c .before .before .before .before .before .before .before .before .before .args in
-    let l = c .before .before .before .before .before .before .before .loop in
-    let v = c .before .specifier .given in
-    let s = formats.read (a .rules) (a .text .now) (l .at) (Counted (v .0 .0)) (v .1) (c .before .before .before .scan-specifier .ensures) in
-    omega (arith, s .1)
+loop-less-2 c = omega (arith, after (c .before .before .before) (c .before .specifier .given .1))
 
 loop-again-2 : tie.Need-loop-again-2 Inv-loop μ-loop
-loop-again-2 c =
-    let a = c .before .before .before .before .before .before .before .before .before .args in
-    let l = c .before .before .before .before .before .before .before .loop in
-    let v = c .before .specifier .given in
-    let s = formats.read (a .rules) (a .text .now) (l .at) (Counted (v .0 .0)) (v .1) (c .before .before .before .scan-specifier .ensures) in
-    (omega (arith, s .1), omega (arith, s .1), formats.turn (a .rules) (a .text .now) (l .at) (l .count) _ (l .inv .2) (c .before .before .before .before .before .before .loop-test .taken) (c .before .before .before .before .if1 .left) (v .0 .0) (l .count + 1) (s .0 (l .count)) (s .1 .0) (s .1 .1))
+loop-again-2 c = let on = after (c .before .before .before) (c .before .specifier .given .1) in (omega arith, on .inside, on .walked)
 
 enum-known-specifier-2 : tie.Need-enum-known-specifier-2 Inv-loop μ-loop
 enum-known-specifier-2 c = search needs
 
 add-at-3 : tie.Need-add-at-3 Inv-loop μ-loop
-add-at-3 c =
-    let a = c .before .before .before .before .before .before .before .before .before .args in
-    let l = c .before .before .before .before .before .before .before .loop in
-    let v = c .before .specifier2 .given in
-    let s = formats.read (a .rules) (a .text .now) (l .at) (Literal (v .0 .0)) (v .1) (c .before .before .before .scan-specifier .ensures) in
-    omega (arith, s .1)
+add-at-3 c = omega (arith, after (c .before .before .before) (c .before .specifier2 .given .1))
 
 loop-less-3 : tie.Need-loop-less-3 Inv-loop μ-loop
-loop-less-3 c =
-    let a = c .before .before .before .before .before .before .before .before .before .args in
-    let l = c .before .before .before .before .before .before .before .loop in
-    let v = c .before .specifier2 .given in
-    let s = formats.read (a .rules) (a .text .now) (l .at) (Literal (v .0 .0)) (v .1) (c .before .before .before .scan-specifier .ensures) in
-    omega (arith, s .1)
+loop-less-3 c = omega (arith, after (c .before .before .before) (c .before .specifier2 .given .1))
 
 loop-again-3 : tie.Need-loop-again-3 Inv-loop μ-loop
-loop-again-3 c =
-    let a = c .before .before .before .before .before .before .before .before .before .args in
-    let l = c .before .before .before .before .before .before .before .loop in
-    let v = c .before .specifier2 .given in
-    let s = formats.read (a .rules) (a .text .now) (l .at) (Literal (v .0 .0)) (v .1) (c .before .before .before .scan-specifier .ensures) in
-    (omega (arith, s .1), omega (arith, s .1), formats.turn (a .rules) (a .text .now) (l .at) (l .count) _ (l .inv .2) (c .before .before .before .before .before .before .loop-test .taken) (c .before .before .before .before .if1 .left) (v .0 .0) (l .count) (s .0 (l .count)) (s .1 .0) (s .1 .1))
+loop-again-3 c = let on = after (c .before .before .before) (c .before .specifier2 .given .1) in (omega arith, on .inside, on .walked)
 
 enum-known-specifier-3 : tie.Need-enum-known-specifier-3 Inv-loop μ-loop
 enum-known-specifier-3 c = search needs
 
 returns : tie.Need-returns Inv-loop μ-loop
-returns c =
-    let a = c .before .before .before .before .before .before .before .before .before .args in
-    let l = c .before .before .before .before .before .before .before .loop in
-    let v = c .before .specifier3 .given in
-    let s = formats.read (a .rules) (a .text .now) (l .at) (Fault (v .0 .0)) (v .1) (c .before .before .before .scan-specifier .ensures) in
-    formats.bad (a .rules) (a .text .now) (l .at) (l .count) _ (l .inv .2) (c .before .before .before .before .before .before .loop-test .taken) (c .before .before .before .before .if1 .left) (refusal (v .0 .0)) (s .0 (l .count))
+returns c = after (c .before .before .before) (c .before .specifier3 .given .1)
 
 returns-2 : tie.Need-returns-2 Inv-loop μ-loop
 returns-2 c =

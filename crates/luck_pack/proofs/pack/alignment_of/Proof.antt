@@ -30,36 +30,28 @@ enum-told-6 : tie.Need-enum-told-6
 enum-told-6 c = search needs
 
 returns : tie.Need-returns
-unfolding keptAlignment
 returns c = ap keptAlignment (sym (c .before .option .given .1))
 
 returns-2 : tie.Need-returns-2
-unfolding keptAlignment
 returns-2 c = ap keptAlignment (sym (c .before .option2 .given .1))
 
 returns-3 : tie.Need-returns-3
-unfolding keptAlignment
-returns-3 c = ap keptAlignment (sym (c .enum-told .given .1))
+returns-3 c = search needs
 
 returns-4 : tie.Need-returns-4
-unfolding keptAlignment
-returns-4 c = ap keptAlignment (sym (c .enum-told2 .given .1))
+returns-4 c = search needs
 
 returns-5 : tie.Need-returns-5
-unfolding keptAlignment
-returns-5 c = ap keptAlignment (sym (c .enum-told3 .given .1))
+returns-5 c = search needs
 
 returns-6 : tie.Need-returns-6
-unfolding keptAlignment
-returns-6 c = ap keptAlignment (sym (c .enum-told4 .given .1))
+returns-6 c = search needs
 
 returns-7 : tie.Need-returns-7
-unfolding keptAlignment
-returns-7 c = ap keptAlignment (sym (c .enum-told5 .given .1))
+returns-7 c = search needs
 
 returns-8 : tie.Need-returns-8
-unfolding keptAlignment
-returns-8 c = ap keptAlignment (sym (c .enum-told6 .given .1))
+returns-8 c = search needs
 
 pub alignment-of-spec : {M : Type 1} → statement M
 alignment-of-spec =

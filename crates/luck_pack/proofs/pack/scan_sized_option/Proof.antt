@@ -2,12 +2,10 @@
 use mathlib.Core.Path.{sym, ap, subst, _∙_}
 use Prim.Native.Nat.{ℕ}
 use lib.ListN.{length}
-use Rattle.luck_text.specs.Bytes.{byteAt}
 use Rattle.luck_pack.specs.Inner.{OptionIn, faults}
 use Rattle.luck_answer.specs.Answer.{refusedWith}
-use Rattle.luck_pack.specs.declared.pack.PackOption.the-variants.{Sized, Counted, SetMaxAlignment}
 use Rattle.luck_utf8.specs.declared.utf8.Char.{Char}
-use Rattle.luck_pack.proofs.Packs.{sized-number, sized-string, largest-alignment, fixed-string, unknown-option, makes-number, makes-string, makes-alignment, of-size, of-fault, back}
+use Rattle.luck_pack.proofs.Packs.{number-letter, string-letter, alignment-letter, with-size, fixed-string, unknown-option, back}
 use borrow.Author.Needs.{needs}
 use Rattle.luck_pack.proofs.pack.scan_sized_option.Statement.{statement}
 use Rattle.luck_pack.proofs.pack.scan_sized_option.Tie as tie
@@ -35,15 +33,15 @@ enum-known-fault c = search needs
 
 returns : tie.Need-returns
 returns c =
-    of-size (c .before .before .before .before .before .before .before .before .before .args .text .now) (c .before .before .before .before .before .before .before .before .before .args .at) Sized _ (c .before .before .before .scan-limited-size .result) (c .before .before .before .scan-limited-size .ensures .0 (byteAt (c .before .before .before .before .before .before .before .before .before .args .text .now) (c .before .before .before .before .before .before .before .before .before .args .at)) Sized (makes-number (byteAt (c .before .before .before .before .before .before .before .before .before .args .text .now) (c .before .before .before .before .before .before .before .before .before .args .at)) (sym (c .before .before .before .before .before .contains .ensures) ∙ c .before .before .before .before .if1 .taken))) (c .before .before .before .scan-limited-size .ensures .1)
-    (sized-number (c .before .before .before .before .before .before .before .before .before .args .text .now) (c .before .before .before .before .before .before .before .before .before .args .at) (sym (c .before .before .before .before .before .contains .ensures) ∙ c .before .before .before .before .if1 .taken))
-    (c .before .size .given .0 .0) (c .before .size .given .0 .1 .0) (c .before .size .given .1)
+    let text = c .before .before .before .before .before .before .before .before .before .args .text .now in
+    let at = c .before .before .before .before .before .before .before .before .before .args .at in
+    with-size text at (number-letter text at (sym (c .before .before .before .before .before .contains .ensures) ∙ c .before .before .before .before .if1 .taken)) (c .before .before .before .scan-limited-size .ensures) (c .before .size .given .1)
 
 returns-2 : tie.Need-returns-2
 returns-2 c =
-    of-fault (c .before .before .before .before .before .before .before .before .before .args .text .now) (c .before .before .before .before .before .before .before .before .before .args .at) Sized _ (c .before .before .before .scan-limited-size .result) (c .before .before .before .scan-limited-size .ensures .0 (byteAt (c .before .before .before .before .before .before .before .before .before .args .text .now) (c .before .before .before .before .before .before .before .before .before .args .at)) Sized (makes-number (byteAt (c .before .before .before .before .before .before .before .before .before .args .text .now) (c .before .before .before .before .before .before .before .before .before .args .at)) (sym (c .before .before .before .before .before .contains .ensures) ∙ c .before .before .before .before .if1 .taken))) (c .before .before .before .scan-limited-size .ensures .1)
-    (sized-number (c .before .before .before .before .before .before .before .before .before .args .text .now) (c .before .before .before .before .before .before .before .before .before .args .at) (sym (c .before .before .before .before .before .contains .ensures) ∙ c .before .before .before .before .if1 .taken))
-    (c .before .fault .given .0 .0) (c .before .fault .given .1)
+    let text = c .before .before .before .before .before .before .before .before .before .args .text .now in
+    let at = c .before .before .before .before .before .before .before .before .before .args .at in
+    with-size text at (number-letter text at (sym (c .before .before .before .before .before .contains .ensures) ∙ c .before .before .before .before .if1 .taken)) (c .before .before .before .scan-limited-size .ensures) (c .before .fault .given .1)
 
 add-scan-limited-size-2 : tie.Need-add-scan-limited-size-2
 add-scan-limited-size-2 c = search needs
@@ -59,15 +57,15 @@ enum-known-fault-2 c = search needs
 
 returns-3 : tie.Need-returns-3
 returns-3 c =
-    of-size (c .before .before .before .before .before .before .before .before .before .before .args .text .now) (c .before .before .before .before .before .before .before .before .before .before .args .at) Counted _ (c .before .before .before .scan-limited-size2 .result) (c .before .before .before .scan-limited-size2 .ensures .0 (byteAt (c .before .before .before .before .before .before .before .before .before .before .args .text .now) (c .before .before .before .before .before .before .before .before .before .before .args .at)) Counted (makes-string (byteAt (c .before .before .before .before .before .before .before .before .before .before .args .text .now) (c .before .before .before .before .before .before .before .before .before .before .args .at)) (c .before .before .before .before .if2 .taken))) (c .before .before .before .scan-limited-size2 .ensures .1)
-    (sized-string (c .before .before .before .before .before .before .before .before .before .before .args .text .now) (c .before .before .before .before .before .before .before .before .before .before .args .at) (c .before .before .before .before .if2 .taken))
-    (c .before .size2 .given .0 .0) (c .before .size2 .given .0 .1 .0) (c .before .size2 .given .1)
+    let text = c .before .before .before .before .before .before .before .before .before .before .args .text .now in
+    let at = c .before .before .before .before .before .before .before .before .before .before .args .at in
+    with-size text at (string-letter text at (c .before .before .before .before .if2 .taken)) (c .before .before .before .scan-limited-size2 .ensures) (c .before .size2 .given .1)
 
 returns-4 : tie.Need-returns-4
 returns-4 c =
-    of-fault (c .before .before .before .before .before .before .before .before .before .before .args .text .now) (c .before .before .before .before .before .before .before .before .before .before .args .at) Counted _ (c .before .before .before .scan-limited-size2 .result) (c .before .before .before .scan-limited-size2 .ensures .0 (byteAt (c .before .before .before .before .before .before .before .before .before .before .args .text .now) (c .before .before .before .before .before .before .before .before .before .before .args .at)) Counted (makes-string (byteAt (c .before .before .before .before .before .before .before .before .before .before .args .text .now) (c .before .before .before .before .before .before .before .before .before .before .args .at)) (c .before .before .before .before .if2 .taken))) (c .before .before .before .scan-limited-size2 .ensures .1)
-    (sized-string (c .before .before .before .before .before .before .before .before .before .before .args .text .now) (c .before .before .before .before .before .before .before .before .before .before .args .at) (c .before .before .before .before .if2 .taken))
-    (c .before .fault2 .given .0 .0) (c .before .fault2 .given .1)
+    let text = c .before .before .before .before .before .before .before .before .before .before .args .text .now in
+    let at = c .before .before .before .before .before .before .before .before .before .before .args .at in
+    with-size text at (string-letter text at (c .before .before .before .before .if2 .taken)) (c .before .before .before .scan-limited-size2 .ensures) (c .before .fault2 .given .1)
 
 add-scan-limited-size-3 : tie.Need-add-scan-limited-size-3
 add-scan-limited-size-3 c = search needs
@@ -83,15 +81,15 @@ enum-known-fault-3 c = search needs
 
 returns-5 : tie.Need-returns-5
 returns-5 c =
-    of-size (c .before .before .before .before .before .before .before .before .before .before .before .args .text .now) (c .before .before .before .before .before .before .before .before .before .before .before .args .at) SetMaxAlignment _ (c .before .before .before .scan-limited-size3 .result) (c .before .before .before .scan-limited-size3 .ensures .0 (byteAt (c .before .before .before .before .before .before .before .before .before .before .before .args .text .now) (c .before .before .before .before .before .before .before .before .before .before .before .args .at)) SetMaxAlignment (makes-alignment (byteAt (c .before .before .before .before .before .before .before .before .before .before .before .args .text .now) (c .before .before .before .before .before .before .before .before .before .before .before .args .at)) (c .before .before .before .before .if3 .taken))) (c .before .before .before .scan-limited-size3 .ensures .1)
-    (largest-alignment (c .before .before .before .before .before .before .before .before .before .before .before .args .text .now) (c .before .before .before .before .before .before .before .before .before .before .before .args .at) (c .before .before .before .before .if3 .taken))
-    (c .before .size3 .given .0 .0) (c .before .size3 .given .0 .1 .0) (c .before .size3 .given .1)
+    let text = c .before .before .before .before .before .before .before .before .before .before .before .args .text .now in
+    let at = c .before .before .before .before .before .before .before .before .before .before .before .args .at in
+    with-size text at (alignment-letter text at (c .before .before .before .before .if3 .taken)) (c .before .before .before .scan-limited-size3 .ensures) (c .before .size3 .given .1)
 
 returns-6 : tie.Need-returns-6
 returns-6 c =
-    of-fault (c .before .before .before .before .before .before .before .before .before .before .before .args .text .now) (c .before .before .before .before .before .before .before .before .before .before .before .args .at) SetMaxAlignment _ (c .before .before .before .scan-limited-size3 .result) (c .before .before .before .scan-limited-size3 .ensures .0 (byteAt (c .before .before .before .before .before .before .before .before .before .before .before .args .text .now) (c .before .before .before .before .before .before .before .before .before .before .before .args .at)) SetMaxAlignment (makes-alignment (byteAt (c .before .before .before .before .before .before .before .before .before .before .before .args .text .now) (c .before .before .before .before .before .before .before .before .before .before .before .args .at)) (c .before .before .before .before .if3 .taken))) (c .before .before .before .scan-limited-size3 .ensures .1)
-    (largest-alignment (c .before .before .before .before .before .before .before .before .before .before .before .args .text .now) (c .before .before .before .before .before .before .before .before .before .before .before .args .at) (c .before .before .before .before .if3 .taken))
-    (c .before .fault3 .given .0 .0) (c .before .fault3 .given .1)
+    let text = c .before .before .before .before .before .before .before .before .before .before .before .args .text .now in
+    let at = c .before .before .before .before .before .before .before .before .before .before .before .args .at in
+    with-size text at (alignment-letter text at (c .before .before .before .before .if3 .taken)) (c .before .before .before .scan-limited-size3 .ensures) (c .before .fault3 .given .1)
 
 add-scan-fixed-string : tie.Need-add-scan-fixed-string
 add-scan-fixed-string c = search needs
@@ -100,13 +98,23 @@ scan-fixed-string-requires : tie.Need-scan-fixed-string-requires
 scan-fixed-string-requires c κs = search needs
 
 returns-7 : tie.Need-returns-7
-returns-7 c = (c .scan-fixed-string .ensures .0 ∙ fixed-string (c .before .before .before .before .before .before .before .before .before .args .text .now) (c .before .before .before .before .before .before .before .before .before .args .at) (sym (c .before .before .before .before .before .contains .ensures) ∙ c .before .before .before .before .if1 .left) (c .before .before .before .if2 .left) (c .before .before .if3 .left) (c .before .if4 .taken), subst (λ (p : ℕ). OptionIn (c .scan-fixed-string .result) p (length (c .before .before .before .before .before .before .before .before .before .args .text .now))) (back (c .before .before .before .before .before .before .before .before .before .args .at)) (c .scan-fixed-string .ensures .1))
+returns-7 c =
+    let text = c .before .before .before .before .before .before .before .before .before .args .text .now in
+    let at = c .before .before .before .before .before .before .before .before .before .args .at in
+    let none = sym (c .before .before .before .before .before .contains .ensures) ∙ c .before .before .before .before .if1 .left in (
+      c .scan-fixed-string .ensures .0 ∙ fixed-string text at none (c .before .before .before .if2 .left) (c .before .before .if3 .left) (c .before .if4 .taken),
+      subst (λ (p : ℕ). OptionIn (c .scan-fixed-string .result) p (length text)) (back at) (c .scan-fixed-string .ensures .1),
+    )
 
 char-at-requires : tie.Need-char-at-requires
 char-at-requires c κs = search needs
 
 returns-8 : tie.Need-returns-8
-returns-8 c = (ap (λ (x : Char). faults (refusedWith 14 (c .before .before .before .before .before .before .before .before .before .args .at) (x .code))) (c .char-at .ensures) ∙ unknown-option (c .before .before .before .before .before .before .before .before .before .args .text .now) (c .before .before .before .before .before .before .before .before .before .args .at) (sym (c .before .before .before .before .before .contains .ensures) ∙ c .before .before .before .before .if1 .left) (c .before .before .before .if2 .left) (c .before .before .if3 .left) (c .before .if4 .left), tt)
+returns-8 c =
+    let text = c .before .before .before .before .before .before .before .before .before .args .text .now in
+    let at = c .before .before .before .before .before .before .before .before .before .args .at in
+    let none = sym (c .before .before .before .before .before .contains .ensures) ∙ c .before .before .before .before .if1 .left in
+    (ap (λ (x : Char). faults (refusedWith 14 at (x .code))) (c .char-at .ensures) ∙ unknown-option text at none (c .before .before .before .if2 .left) (c .before .before .if3 .left) (c .before .if4 .left), tt)
 
 pub scan-sized-option-spec : {M : Type 1} → statement M
 scan-sized-option-spec =

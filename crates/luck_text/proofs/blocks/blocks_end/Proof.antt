@@ -2,13 +2,11 @@
 use mathlib.Core.Path.{_≡_}
 use Prim.Native.Nat.{ℕ, _≤_, _<_, _-_}
 use native.Mathlib.Omega.{arith}
-use mathlib.Core.Logic.{⊎-elim}
 use mathlib.Core.Bool.{true}
 use lib.ListN.{length}
 use Rattle.luck_text.specs.Bytes.{byteAt}
 use Rattle.luck_text.specs.Scan.{neither}
-use Rattle.luck_text.proofs.Cases.{order}
-use Rattle.luck_text.proofs.Bytes.{all-of-part}
+use Rattle.luck_text.proofs.Bytes.{all-of-part, all-between}
 use borrow.Author.Needs.{needs}
 use Rattle.luck_text.proofs.blocks.blocks_end.Statement.{statement}
 use Rattle.luck_text.proofs.blocks.blocks_end.Tie as tie
@@ -52,12 +50,10 @@ loop-less c = search needs
 loop-again : tie.Need-loop-again Inv-loop μ-loop
 loop-again c =
     let l = c .before .before .before .before .loop in
-    let a = c .before .before .before .before .before .before .args in (
-      omega arith,
-      omega arith,
-      λ k m n. ⊎-elim (λ b. l .inv .2 k m b)
-          (λ b. all-of-part (λ (x : ℕ). neither (a .a) (a .b) x ≡ true) (a .text .now) (l .end) 16 (omega arith) (c .before .has-either .ensures (c .if1 .left)) k b n) (order k (l .end)),
-    )
+    let a = c .before .before .before .before .before .before .args in
+    let free : ℕ → Type 0 = λ x. neither (a .a) (a .b) x ≡ true in
+    let block = all-of-part free (a .text .now) (l .end) 16 (omega arith) (c .before .has-either .ensures (c .if1 .left)) in
+    (omega arith, omega arith, all-between (λ (k : ℕ). free (byteAt (a .text .now) k)) _ (l .end) _ (l .inv .2) block)
 
 returns-2 : tie.Need-returns-2 Inv-loop μ-loop
 returns-2 c = c .before .loop .inv

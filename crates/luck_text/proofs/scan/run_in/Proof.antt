@@ -1,23 +1,20 @@
 -- `luck_text::scan::run_in` meets its contract. Assumes nothing.
-use mathlib.Core.Path.{_≡_, sym, _∙_}
-use Prim.Native.Nat.{_+_, _-_, _≤_}
-use native.Mathlib.Omega.{arith}
-use lib.ListN.{length, drop}
-use borrow.Author.Tests.{not-true, not-false}
-use Rattle.luck_text.specs.Bytes.{among, run}
-use Rattle.luck_text.proofs.Bytes as bytes
+use Prim.Native.Nat.{_-_}
+use lib.ListN.{length}
+use Rattle.luck_text.specs.Bytes.{among}
+use Rattle.luck_text.proofs.Bytes.{InRun, run-begins, run-stopped, run-goes-on, run-ended}
 use borrow.Author.Needs.{needs}
 use Rattle.luck_text.proofs.scan.run_in.Statement.{statement}
 use Rattle.luck_text.proofs.scan.run_in.Tie as tie
 
 abbrev Inv-loop : tie.InvT-loop
-Inv-loop text at set end₀ end = (at ≤ end) × (run (λ b. among b set) (drop at text) ≡ end - at + run (λ b. among b set) (drop end text))
+Inv-loop text at set end₀ end = InRun (λ b. among b set) text at end
 
 abbrev μ-loop : tie.MeasureT-loop
 μ-loop text at set end₀ end = length text - end
 
 loop-holds : tie.Need-loop-holds Inv-loop μ-loop
-loop-holds c = (omega arith, omega arith)
+loop-holds c = run-begins _ _ _
 
 shared-slice-read-contains : tie.Need-shared-slice-read-contains Inv-loop μ-loop
 shared-slice-read-contains c = search needs
@@ -29,8 +26,7 @@ sub-result : tie.Need-sub-result Inv-loop μ-loop
 sub-result c = search needs
 
 returns : tie.Need-returns Inv-loop μ-loop
-returns c =
-    omega (arith, c .before .before .before .before .loop .inv .1, bytes.run-stop (λ b. among b (c .before .before .before .before .before .before .before .args .set .now)) (c .before .before .before .before .before .before .before .args .text .now) (c .before .before .before .before .loop .end) (c .before .before .before .loop-test .taken) (sym (c .before .contains .ensures) ∙ not-true _ (c .if1 .taken)))
+returns c = run-stopped (c .before .before .before .before .loop .inv) (c .before .before .before .loop-test .taken) (c .before .contains .ensures) (c .if1 .taken)
 
 add-end : tie.Need-add-end Inv-loop μ-loop
 add-end c = search needs
@@ -39,17 +35,13 @@ loop-less : tie.Need-loop-less Inv-loop μ-loop
 loop-less c = search needs
 
 loop-again : tie.Need-loop-again Inv-loop μ-loop
-loop-again c = (
-  omega arith,
-  omega (arith, c .before .before .before .before .loop .inv .1, bytes.run-more (λ b. among b (c .before .before .before .before .before .before .before .args .set .now)) (c .before .before .before .before .before .before .before .args .text .now) (c .before .before .before .before .loop .end) (c .before .before .before .loop-test .taken) (sym (c .before .contains .ensures) ∙ not-false _ (c .if1 .left))),
-)
+loop-again c = run-goes-on (c .before .before .before .before .loop .inv) (c .before .before .before .loop-test .taken) (c .before .contains .ensures) (c .if1 .left)
 
 sub-result-2 : tie.Need-sub-result-2 Inv-loop μ-loop
 sub-result-2 c = search needs
 
 returns-2 : tie.Need-returns-2 Inv-loop μ-loop
-returns-2 c =
-    omega (arith, c .before .loop .inv .1, bytes.run-end (λ b. among b (c .before .before .before .before .args .set .now)) (c .before .before .before .before .args .text .now) (c .before .loop .end) (c .loop-test .left))
+returns-2 c = run-ended (c .before .loop .inv) (c .loop-test .left)
 
 pub run-in-spec : {M : Type 1} → statement M
 run-in-spec =

@@ -1,13 +1,14 @@
 -- `luck_token::string::write` meets its contract. The invariant has the bytes so far, which the output holds if they fit. A turn that passes over blocks may leave `at` where
 -- it was, but sets `singles`; any other turn moves `at` on. Assumes nothing.
 use mathlib.Core.Path.{_≡_, refl, sym, subst, _∙_}
-use Prim.Native.Nat.{_+_, _*_, _-_}
+use Prim.Native.Nat.{ℕ, _+_, _*_, _-_, _≤_}
 use native.Mathlib.Omega.{arith}
-use mathlib.Core.List.{[], _∷_}
+use mathlib.Core.List.{List, []}
 use lib.ListN.{length}
-use Rattle.luck_text.specs.Bytes.{byteAt}
-use Rattle.luck_utf8.specs.Utf8.{utf8Bytes}
-use Rattle.luck_token.specs.declared.string.Piece.the-variants.{Byte, Character, Nothing, Malformed}
+use Rattle.luck_output.specs.Output.{stores}
+use Rattle.luck_token.specs.Literal.{piece, pieceAt}
+use Rattle.luck_token.specs.Inner.{IsPiece, Lies}
+use Rattle.luck_token.specs.declared.string.Piece.{Piece}
 use Rattle.luck_token.proofs.Values as values
 use borrow.Author.Needs.{needs}
 use Rattle.luck_token.proofs.string.write.Statement.{statement}
@@ -21,6 +22,20 @@ abbrev μ-loop : tie.MeasureT-loop
 
 loop-holds : tie.Need-loop-holds Inv-loop μ-loop
 loop-holds c = ([], refl, omega arith, omega arith, values.start _ _ _, record { same = refl; front = λ _. refl })
+
+-- ---- A turn
+
+-- a piece whose bytes are put behind those so far
+piece-put : (l : tie.At-loop Inv-loop μ-loop) (bytes new : List ℕ) (width m : ℕ) → m ≡ length bytes
+    → piece bytes width ≡ pieceAt (l .before .before .before .args .long) (l .before .before .before .args .rules) (l .before .before .before .args .body .now) (l .loop .at)
+    → Lies 1 width (l .loop .at) (length (l .before .before .before .args .body .now)) → m ≤ width → new ≡ stores (l .loop .output) (l .loop .size) bytes
+    → values.Kept (l .before .before .before .args .long) (l .before .before .before .args .rules) (l .before .before .before .args .body .now) (l .before .before .before .args .output .now) new (l .loop .at + width) (l .loop .size + m)
+piece-put l = let a = l .before .before .before .args in values.kept-piece (a .long) (a .rules) (a .body .now) (a .output .now) (l .loop .output) (l .loop .at) (l .loop .size) (l .loop .inv)
+
+-- what is known of the piece that was found
+seen : (c : tie.After-piece-at Inv-loop μ-loop) {x : Piece} → c .piece-at .result ≡ x
+    → IsPiece (pieceAt (c .before .before .before .before .before .before .before .before .before .args .long) (c .before .before .before .before .before .before .before .before .before .args .rules) (c .before .before .before .before .before .before .before .before .before .args .body .now) (c .before .before .before .before .before .before .loop .at)) (c .before .before .before .before .before .before .before .before .before .args .body .now) (c .before .before .before .before .before .before .loop .at) x
+seen c e = let a = c .before .before .before .before .before .before .before .before .before .args in values.seen (a .long) (a .rules) (a .body .now) _ e (c .piece-at .ensures)
 
 -- ---- Blocks
 
@@ -76,12 +91,10 @@ loop-less-2 c = omega (arith, c .before .before .before .before .before .before 
 
 loop-again-2 : tie.Need-loop-again-2 Inv-loop μ-loop
 loop-again-2 c =
-    let l = c .before .before .before .before .before .before .before .before .before .loop in
-    let a = c .before .before .before .before .before .before .before .before .before .before .before .before .args in
+    let l = c .before .before .before .before .before .before .before .before .before in
     let plain = sym (c .before .before .before .before .before .is-plain .ensures) ∙ c .before .before .before .before .if2 .taken in
-    let is = values.plain-piece (a .long) (a .rules) (a .body .now) (l .at) plain in
-    values.kept-piece (a .long) (a .rules) (a .body .now) (a .output .now) (l .output) (l .at) (l .size) (l .inv) (byteAt (a .body .now) (l .at) ∷ []) _ 1 1 refl is
-    (omega arith, omega (arith, c .before .before .before .before .before .before .before .before .loop-test .taken)) (omega arith) (c .before .before .put-byte .ensures)
+    let is = values.plain-piece (l .before .before .before .args .long) (l .before .before .before .args .rules) (l .before .before .before .args .body .now) (l .loop .at) plain in
+    piece-put l _ _ 1 1 refl is (omega arith, omega (arith, c .before .before .before .before .before .before .before .before .loop-test .taken)) (omega arith) (c .before .before .put-byte .ensures)
 
 -- ---- Pieces
 
@@ -98,93 +111,55 @@ add-size-3 : tie.Need-add-size-3 Inv-loop μ-loop
 add-size-3 c = omega (arith, c .before .before .before .before .before .before .before .before .before .before .before .before .before .loop .inv .2, c .before .before .before .before .before .before .before .before .before .before .before .before .loop-test .taken)
 
 add-at-2 : tie.Need-add-at-2 Inv-loop μ-loop
-add-at-2 c =
-    let a = c .before .before .before .before .before .before .before .before .before .before .before .before .before .before .before .before .args in
-    let found = c .before .before .before .before .before .piece .given in
-    let t = values.seen (a .long) (a .rules) (a .body .now) (Byte (found .0 .0) (found .0 .1 .0)) (found .1) (c .before .before .before .before .before .before .before .piece-at .ensures) in
-    omega (arith, t .inside)
+add-at-2 c = omega (arith, seen (c .before .before .before .before .before .before .before) (c .before .before .before .before .before .piece .given .1) .inside)
 
 loop-less-3 : tie.Need-loop-less-3 Inv-loop μ-loop
-loop-less-3 c =
-    let a = c .before .before .before .before .before .before .before .before .before .before .before .before .before .before .before .before .args in
-    let found = c .before .before .before .before .before .piece .given in
-    let t = values.seen (a .long) (a .rules) (a .body .now) (Byte (found .0 .0) (found .0 .1 .0)) (found .1) (c .before .before .before .before .before .before .before .piece-at .ensures) in
-    omega (arith, t .inside)
+loop-less-3 c = omega (arith, seen (c .before .before .before .before .before .before .before) (c .before .before .before .before .before .piece .given .1) .inside)
 
 loop-again-3 : tie.Need-loop-again-3 Inv-loop μ-loop
-loop-again-3 c =
-    let a = c .before .before .before .before .before .before .before .before .before .before .before .before .before .before .before .before .args in
-    let found = c .before .before .before .before .before .piece .given in
-    let t = values.seen (a .long) (a .rules) (a .body .now) (Byte (found .0 .0) (found .0 .1 .0)) (found .1) (c .before .before .before .before .before .before .before .piece-at .ensures) in
-    let l = c .before .before .before .before .before .before .before .before .before .before .before .before .before .loop in
-    values.kept-piece (a .long) (a .rules) (a .body .now) (a .output .now) (l .output) (l .at) (l .size) (l .inv) (found .0 .0 ∷ []) _ (found .0 .1 .0) 1 refl (t .is) (t .inside) (t .inside .0) (c .before .before .put-byte2 .ensures)
+loop-again-3 c = let t = seen (c .before .before .before .before .before .before .before) (c .before .before .before .before .before .piece .given .1) in piece-put (c .before .before .before .before .before .before .before .before .before .before .before .before .before) _ _ _ 1 refl (t .is) (t .inside) (t .inside .0) (c .before .before .put-byte2 .ensures)
 
 enum-known-piece-2 : tie.Need-enum-known-piece-2 Inv-loop μ-loop
 enum-known-piece-2 c = search needs
 
 put-char-requires : tie.Need-put-char-requires Inv-loop μ-loop
-put-char-requires c κs =
-    let a = c .before .before .before .before .before .before .before .before .before .before .before .before .before .args in
-    let found = c .before .before .piece2 .given in
-    let t = values.seen (a .long) (a .rules) (a .body .now) (Character (found .0 .0) (found .0 .1 .0)) (found .1) (c .before .before .before .before .piece-at .ensures) in
-    t .inside .0
+put-char-requires c κs = seen (c .before .before .before .before) (c .before .before .piece2 .given .1) .inside .0
 
 add-size-4 : tie.Need-add-size-4 Inv-loop μ-loop
 add-size-4 c =
-    let a = c .before .before .before .before .before .before .before .before .before .before .before .before .before .before .before .before .args in
-    let found = c .before .before .before .before .before .piece2 .given in
-    let t = values.seen (a .long) (a .rules) (a .body .now) (Character (found .0 .0) (found .0 .1 .0)) (found .1) (c .before .before .before .before .before .before .before .piece-at .ensures) in
-    omega (arith, c .before .before .before .before .before .before .before .before .before .before .before .before .before .loop .inv .2, t .inside, c .before .before .put-char .ensures .0, values.four-bytes (found .0 .0))
+    let t = seen (c .before .before .before .before .before .before .before) (c .before .before .before .before .before .piece2 .given .1) in
+    omega (arith, c .before .before .before .before .before .before .before .before .before .before .before .before .before .loop .inv .2, t .inside, c .before .before .put-char .ensures .0, values.four-bytes (c .before .before .before .before .before .piece2 .given .0 .0))
 
 add-at-3 : tie.Need-add-at-3 Inv-loop μ-loop
-add-at-3 c =
-    let a = c .before .before .before .before .before .before .before .before .before .before .before .before .before .before .before .before .args in
-    let found = c .before .before .before .before .before .piece2 .given in
-    let t = values.seen (a .long) (a .rules) (a .body .now) (Character (found .0 .0) (found .0 .1 .0)) (found .1) (c .before .before .before .before .before .before .before .piece-at .ensures) in
-    omega (arith, t .inside)
+add-at-3 c = omega (arith, seen (c .before .before .before .before .before .before .before) (c .before .before .before .before .before .piece2 .given .1) .inside)
 
 loop-less-4 : tie.Need-loop-less-4 Inv-loop μ-loop
-loop-less-4 c =
-    let a = c .before .before .before .before .before .before .before .before .before .before .before .before .before .before .before .before .args in
-    let found = c .before .before .before .before .before .piece2 .given in
-    let t = values.seen (a .long) (a .rules) (a .body .now) (Character (found .0 .0) (found .0 .1 .0)) (found .1) (c .before .before .before .before .before .before .before .piece-at .ensures) in
-    omega (arith, t .inside)
+loop-less-4 c = omega (arith, seen (c .before .before .before .before .before .before .before) (c .before .before .before .before .before .piece2 .given .1) .inside)
 
 loop-again-4 : tie.Need-loop-again-4 Inv-loop μ-loop
 loop-again-4 c =
-    let a = c .before .before .before .before .before .before .before .before .before .before .before .before .before .before .before .before .args in
-    let found = c .before .before .before .before .before .piece2 .given in
-    let t = values.seen (a .long) (a .rules) (a .body .now) (Character (found .0 .0) (found .0 .1 .0)) (found .1) (c .before .before .before .before .before .before .before .piece-at .ensures) in
-    let l = c .before .before .before .before .before .before .before .before .before .before .before .before .before .loop in
+    let t = seen (c .before .before .before .before .before .before .before) (c .before .before .before .before .before .piece2 .given .1) in
     let put = c .before .before .put-char .ensures in
-    values.kept-piece (a .long) (a .rules) (a .body .now) (a .output .now) (l .output) (l .at) (l .size) (l .inv) (utf8Bytes (found .0 .0)) _ (found .0 .1 .0) (c .before .before .put-char .result) (put .0) (t .is) (omega (arith, t .inside), t .inside .1 .1) (omega (arith, put .0, values.four-bytes (found .0 .0), t .inside)) (put .1)
+    let few = values.four-bytes (c .before .before .before .before .before .piece2 .given .0 .0) in
+    piece-put (c .before .before .before .before .before .before .before .before .before .before .before .before .before) _ _ _ _ (put .0) (t .is) (omega (arith, t .inside), t .inside .1 .1) (omega (arith, put .0, few, t .inside)) (put .1)
 
 enum-known-piece-3 : tie.Need-enum-known-piece-3 Inv-loop μ-loop
 enum-known-piece-3 c = search needs
 
 add-at-4 : tie.Need-add-at-4 Inv-loop μ-loop
-add-at-4 c =
-    let a = c .before .before .before .before .before .before .before .before .before .before .before .before .args in
-    let found = c .before .piece3 .given in
-    let t = values.seen (a .long) (a .rules) (a .body .now) (Nothing (found .0 .0)) (found .1) (c .before .before .before .piece-at .ensures) in
-    omega (arith, t .inside)
+add-at-4 c = omega (arith, seen (c .before .before .before) (c .before .piece3 .given .1) .inside)
 
 loop-less-5 : tie.Need-loop-less-5 Inv-loop μ-loop
-loop-less-5 c =
-    let a = c .before .before .before .before .before .before .before .before .before .before .before .before .args in
-    let found = c .before .piece3 .given in
-    let t = values.seen (a .long) (a .rules) (a .body .now) (Nothing (found .0 .0)) (found .1) (c .before .before .before .piece-at .ensures) in
-    omega (arith, t .inside)
+loop-less-5 c = omega (arith, seen (c .before .before .before) (c .before .piece3 .given .1) .inside)
 
 loop-again-5 : tie.Need-loop-again-5 Inv-loop μ-loop
 loop-again-5 c =
-    let a = c .before .before .before .before .before .before .before .before .before .before .before .before .args in
-    let found = c .before .piece3 .given in
-    let t = values.seen (a .long) (a .rules) (a .body .now) (Nothing (found .0 .0)) (found .1) (c .before .before .before .piece-at .ensures) in
-    let l = c .before .before .before .before .before .before .before .before .before .loop in
-    let e : l .size + 0 ≡ l .size = omega arith in
-    subst (values.Kept (a .long) (a .rules) (a .body .now) (a .output .now) (l .output) (l .at + found .0 .0)) e
-    (values.kept-piece (a .long) (a .rules) (a .body .now) (a .output .now) (l .output) (l .at) (l .size) (l .inv) [] (l .output) (found .0 .0) 0 refl (t .is) (t .inside) (omega arith) (values.stores-nothing (l .output) (l .size) [] refl))
+    let t = seen (c .before .before .before) (c .before .piece3 .given .1) in
+    let l = c .before .before .before .before .before .before .before .before .before in
+    let a = l .before .before .before .args in
+    let e : l .loop .size + 0 ≡ l .loop .size = omega arith in
+    subst (values.Kept (a .long) (a .rules) (a .body .now) (a .output .now) (l .loop .output) (l .loop .at + c .before .piece3 .given .0 .0)) e
+    (piece-put l [] _ _ 0 refl (t .is) (t .inside) (omega arith) (values.stores-nothing (l .loop .output) (l .loop .size) [] refl))
 
 enum-told : tie.Need-enum-told Inv-loop μ-loop
 enum-told c = search needs
@@ -196,7 +171,7 @@ returns : tie.Need-returns Inv-loop μ-loop
 returns c =
     let l = c .before .before .before .before .before .before .before .before .loop in
     let a = c .before .before .before .before .before .before .before .before .before .before .before .args in
-    let t = values.seen (a .long) (a .rules) (a .body .now) Malformed (c .enum-told .given .1) (c .before .before .piece-at .ensures) in
+    let t = seen (c .before .before) (c .enum-told .given .1) in
     values.kept-bad (a .long) (a .rules) (a .body .now) (a .output .now) (l .output) (l .at) (l .size) (l .inv) (t .is) (c .before .before .before .before .before .before .before .loop-test .taken)
 
 same-length-2 : tie.Need-same-length-2 Inv-loop μ-loop

@@ -1,11 +1,10 @@
 -- `luck_utf8::utf8::ascii_blocks` meets its contract. The loop's invariant: every byte passed is below 80. Assumes nothing.
 use Prim.Native.Nat.{ℕ, _≤_, _<_, _-_}
 use native.Mathlib.Omega.{arith}
-use mathlib.Core.Logic.{⊎-elim}
 use borrow.Author.Needs.{needs}
 use lib.ListN.{length}
 use Rattle.luck_text.specs.Bytes.{byteAt}
-use Rattle.luck_text.proofs.Cases.{order}
+use Rattle.luck_text.proofs.Bytes.{all-between}
 use Rattle.luck_utf8.proofs.Sequences.{part-low}
 use Rattle.luck_utf8.proofs.utf8.ascii_blocks.Statement.{statement}
 use Rattle.luck_utf8.proofs.utf8.ascii_blocks.Tie as tie
@@ -50,12 +49,8 @@ loop-again : tie.Need-loop-again Inv-loop μ-loop
 loop-again c =
     let l = c .before .before .before .before .loop in
     let text = c .before .before .before .before .before .before .args .text .now in
-    let high = c .before .highest in (
-      omega arith,
-      omega arith,
-      λ k m n. ⊎-elim (λ b. l .inv .2 k m b)
-          (λ b. part-low text (l .at) 128 (high .result) (omega arith) (high .ensures) (c .if1 .left) k b n) (order k (l .at)),
-    )
+    let block = part-low text (l .at) 128 (c .before .highest .result) (omega arith) (c .before .highest .ensures) (c .if1 .left) in
+    (omega arith, omega arith, all-between (λ (k : ℕ). byteAt text k < 0x80) _ (l .at) _ (l .inv .2) block)
 
 returns-2 : tie.Need-returns-2 Inv-loop μ-loop
 returns-2 c = c .before .loop .inv

@@ -8,7 +8,7 @@ use lib.ListN.{length}
 use Rattle.luck_text.specs.Bytes.{byteAt}
 use Rattle.luck_text.specs.Walk.{walkFrom}
 use Rattle.luck_utf8.specs.Utf8.{sequenceAt, noneIllFormed, illFormed}
-use Rattle.luck_text.proofs.Cases.{order}
+use Rattle.luck_text.proofs.Bytes.{all-between}
 use Rattle.luck_text.proofs.Walk.{walk-end}
 use Rattle.luck_utf8.proofs.Sequences.{walk-ascii, walk-ill-formed, part-low}
 use Rattle.luck_utf8.proofs.utf8.validate.Statement.{statement}
@@ -57,9 +57,8 @@ loop-again c =
     let text = c .before .before .before .before .before .before .before .before .args .text .now in
     let high = c .before .before .highest in
     let on = c .ascii-blocks in
-    let low : (k : ℕ) → l .at ≤ k → k < on .result → byteAt text k < 0x80 =
-    λ k m n. ⊎-elim (λ b. part-low text (l .at) 32 (high .result) (omega arith) (high .ensures) (c .before .if2 .taken) k m b)
-    (λ b. on .ensures .2 k b n) (order k (l .at + 32)) in
+    let block = part-low text (l .at) 32 (high .result) (omega arith) (high .ensures) (c .before .if2 .taken) in
+    let low = all-between (λ (k : ℕ). byteAt text k < 0x80) (l .at) (l .at + 32) (on .result) block (on .ensures .2) in
     (on .ensures .1, sym (walk-ascii text (l .at) (on .result) (omega arith) (on .ensures .1) low) ∙ l .inv .1)
 
 add-stop : tie.Need-add-stop Inv-loop μ-loop

@@ -1,0 +1,231 @@
+-- The bounds of decoding, whatever it is given: its number, its offset, and how much it writes. A piece of a literal stands for no more bytes than it
+-- takes, so a value is no longer than its literal.
+-- Assumes nothing.
+use Prim.Native.Nat.{ℕ, _+_, _-_, _≤_, _<_}
+use native.Mathlib.Omega.{arith}
+use mathlib.Core.Path.{_≡_, refl}
+use mathlib.Core.Bool.{Bool, true, false, _&&_}
+use mathlib.Core.List.{List, [], _∷_}
+use mathlib.Core.Option.{Option, none, some}
+use lib.ListN.{length, drop, length-append, length-take, length-drop}
+use lib.Dec.{eqb, leb, ltb}
+use borrow.Author.Tests.{eqb-true, eqb-false, leb-true}
+use Rattle.luck_text.specs.Bytes.{byteAt, part, among, isXdigit, run, numeral}
+use Rattle.luck_text.proofs.Cases.{by-test, and-left, and-right, present}
+use Rattle.luck_text.proofs.Keeps.{Turns, walk-keeps}
+use Rattle.luck_utf8.specs.Utf8.{utf8Bytes, sequence, sequenceAt, noneIllFormed, illFormed}
+use Rattle.luck_token.specs.Version.{isVersion, rulesOf}
+use Rattle.luck_token.specs.Whitespace.{lineBreak, stripLineBreak}
+use Rattle.luck_token.specs.Literal.{
+  isShort,
+  bracketWidth,
+  longStringBody,
+  Piece,
+  piece,
+  malformed,
+  longPiece,
+  escapeOf,
+  lineBreakEscape,
+  hexEscape,
+  whitespaceEscape,
+  decimalEscape,
+  allowsCodePoint,
+  unicodeEscape,
+  escapeAs,
+  escapeAt,
+  shortPiece,
+  pieceAt,
+  taken,
+  wholeValue,
+  valueOf,
+  literalValue,
+}
+use Rattle.luck_token.specs.Decode.{Outcome, value, refused, withRoom, ofText, decodeString, answerOf, outputOf}
+use Rattle.luck_token.specs.declared.version.Rules.{Rules}
+use Rattle.luck_token.specs.declared.string.Escape.{Escape}
+use Rattle.luck_token.specs.declared.string.Escape.the-variants.{Simple, LineBreak, Hex, Whitespace, Decimal, Unicode, Itself, Undefined}
+
+-- ---- Pieces
+
+-- a piece at place p stands for no more bytes than it takes, and than are left
+abbrev Small : List ℕ → ℕ → Piece → Type 0
+Small body p (piece bytes width) = (length bytes ≤ width) × (p + length bytes ≤ length body)
+Small body p malformed = Unit {0}
+
+-- a code point has at most four bytes
+four-bytes : (c : ℕ) → length (utf8Bytes c) ≤ 4
+unfolding utf8Bytes
+four-bytes c =
+    by-test Four (ltb c 0x80) _ _ (λ _. omega arith)
+    (λ _. by-test Four (ltb c 0x800) _ _ (λ _. omega arith)
+    (λ _. by-test Four (ltb c 0x10000) _ _ (λ _. omega arith) (λ _. omega arith)))
+  where
+    Four : List ℕ → Type 0
+    Four bytes = length bytes ≤ 4
+
+module _ (body : List ℕ) (p : ℕ) (h : p < length body) where
+  one-byte : (b width : ℕ) → 1 ≤ width → Small body p (piece (b ∷ []) width)
+  one-byte b width w = (omega arith, omega arith)
+
+  long-small : (lfcr : Bool) → Small body p (longPiece lfcr body p)
+  unfolding longPiece
+  long-small lfcr =
+      let width = lineBreak lfcr body p in
+      by-test (Small body p) (eqb width 0) _ _ (λ _. one-byte (byteAt body p) 1 (omega arith))
+      (λ e. one-byte 10 width (omega (arith, eqb-false width 0 e)))
+
+  hex-small : Small body p (hexEscape body p)
+  unfolding hexEscape
+  hex-small = by-test (Small body p) _ _ _ (λ _. (omega arith, omega arith)) (λ _. tt)
+
+  decimal-small : Small body p (decimalEscape body p)
+  unfolding decimalEscape
+  decimal-small = by-test (Small body p) _ _ _ (λ _. (omega arith, omega arith)) (λ _. tt)
+
+  -- `\u{` and `}` are four bytes by themselves
+  unicode-small : (rules : Rules) → Small body p (unicodeEscape rules body p)
+  unfolding unicodeEscape
+  unicode-small rules =
+      let count = run isXdigit (drop (p + 3) body) in
+      let exact = numeral 16 (part body (p + 3) (p + 3 + count)) in
+      let opens = eqb (byteAt body (p + 2)) 123 in
+      let closes = eqb (byteAt body (p + 3 + count)) 125 in
+      by-test (Small body p) (opens && closes && allowsCodePoint rules count exact) _ _
+      (λ e.
+      let brace = eqb-true (byteAt body (p + 3 + count)) 125 (and-right opens closes (and-left (opens && closes) (allowsCodePoint rules count exact) e)) in
+      let there = present body (p + 3 + count) (omega arith) in
+      (omega (arith, four-bytes exact), omega (arith, four-bytes exact)))
+      (λ _. tt)
+
+  escape-small : (rules : Rules) (escape : Escape) → Small body p (escapeAs rules escape body p)
+  unfolding escapeAs lineBreakEscape whitespaceEscape
+  escape-small rules (Simple b) = one-byte b 2 (omega arith)
+  escape-small rules LineBreak = one-byte 10 _ (omega arith)
+  escape-small rules Hex = hex-small
+  escape-small rules Whitespace = (omega arith, omega arith)
+  escape-small rules Decimal = decimal-small
+  escape-small rules Unicode = unicode-small rules
+  escape-small rules Itself = one-byte (byteAt body (p + 1)) 2 (omega arith)
+  escape-small rules Undefined = tt
+
+  short-small : (rules : Rules) → Small body p (shortPiece rules body p)
+  unfolding shortPiece escapeAt
+  short-small rules =
+      by-test (Small body p) _ _ _
+      (λ _. by-test (Small body p) _ _ _ (λ _. escape-small rules (escapeOf rules (byteAt body (p + 1)))) (λ _. tt))
+      (λ _. one-byte (byteAt body p) 1 (omega arith))
+
+  piece-small : (long : Bool) (rules : Rules) → Small body p (pieceAt long rules body p)
+  unfolding pieceAt
+  piece-small true rules = long-small (rules .«lfcr_line_break»)
+  piece-small false rules = short-small rules
+
+-- ---- Values
+
+-- a value has at most this many bytes
+abbrev Most : ℕ → Option (List ℕ) → Type 0
+Most n none = Unit {0}
+Most n (some bytes) = length bytes ≤ n
+
+module _ (long : Bool) (rules : Rules) (body : List ℕ) (most : ℕ) (in-most : length body ≤ most) where
+  -- the bytes so far are no more than the bytes read
+  abbrev Read : ℕ → List ℕ → Type 0
+  Read left before = length before + left ≤ length body
+
+  taken-reads : (p : ℕ) (before : List ℕ) → p < length body → Read (length body - p) before → (q : Piece) → Small body p q
+      → Turns Read (Most most) (length body - p) (taken before q)
+  unfolding taken
+  taken-reads p before h r malformed s = tt
+  taken-reads p before h r (piece bytes width) s = omega (arith, length-append before bytes)
+
+  value-small : Most most (valueOf long rules body)
+  unfolding valueOf wholeValue
+  value-small =
+      walk-keeps (λ p before. taken before (pieceAt long rules body p)) wholeValue (length body) Read (Most most)
+      (λ p before h r. taken-reads p before h r (pieceAt long rules body p) (piece-small body p h long rules))
+      (λ p before r. omega arith) [] (omega arith)
+
+part-shorter : (text : List ℕ) (from to : ℕ) → length (part text from to) ≤ length text
+part-shorter text from to = omega (arith, length-take (to - from) (drop from text), length-drop from text)
+
+-- a literal's value is no longer than its text
+literal-small : (rules : Rules) (raw : List ℕ) → Most (length raw) (literalValue rules raw)
+unfolding literalValue longStringBody stripLineBreak
+literal-small rules raw =
+    let width = bracketWidth raw in
+    let inner = part raw width (length raw - width) in
+    let skipped = lineBreak (rules .«lfcr_line_break») inner 0 in
+    by-test (Most (length raw)) (ltb 0 width) _ _
+    (λ _. value-small true rules (drop skipped inner) (length raw) (omega (arith, length-drop skipped inner, part-shorter raw width (length raw - width))))
+    (λ _. by-test (Most (length raw)) (isShort raw) _ _
+    (λ _. value-small false rules (part raw 1 (length raw - 1)) (length raw) (part-shorter raw 1 (length raw - 1))) (λ _. tt))
+
+-- ---- Outcomes
+
+-- the first ill-formed sequence lies in the text
+abbrev pub PlaceIn : ℕ → Option ℕ → Type 0
+PlaceIn len none = Unit {0}
+PlaceIn len (some p) = p < len
+
+pub place-in : (text : List ℕ) → PlaceIn (length text) (illFormed text)
+unfolding illFormed sequenceAt noneIllFormed
+place-in text =
+    walk-keeps (sequenceAt text) noneIllFormed (length text) (λ left u. Unit {0}) (PlaceIn (length text))
+    (λ p u h _. by-test (Turns (λ left u. Unit {0}) (PlaceIn (length text)) (length text - p)) (eqb (sequence text p) 0) _ _ (λ _. h) (λ _. tt))
+    (λ p u _. tt) tt tt
+
+-- of an outcome, with a text of this length and this room
+pub record Bounded (len room : ℕ) (o : Outcome) : Type 0 where
+  pub numbered : among (answerOf o .number) (0 ∷ 23 ∷ 24 ∷ 25 ∷ 26 ∷ []) ≡ true
+  pub offset : answerOf o .offset ≤ len
+  pub offset-of-others : (answerOf o .number ≡ 23 → ⊥) → answerOf o .offset ≡ 0
+  pub in-room : answerOf o .written ≤ room
+  pub in-text : answerOf o .written ≤ len
+  pub refused-empty : (answerOf o .number ≡ 0 → ⊥) → answerOf o .written ≡ 0
+  pub refused-untouched : (answerOf o .number ≡ 0 → ⊥) → (output : List ℕ) → outputOf o output ≡ output
+
+module _ (text : List ℕ) (room : ℕ) where
+  value-bounded : (bytes : List ℕ) → length bytes ≤ room → length bytes ≤ length text → Bounded (length text) room (value bytes)
+  unfolding answerOf among
+  value-bounded bytes h s =
+      record {
+        numbered = refl;
+        offset = omega arith;
+        offset-of-others = λ _. refl;
+        in-room = h;
+        in-text = s;
+        refused-empty = λ n. absurd (n refl);
+        refused-untouched = λ n. absurd (n refl);
+      }
+
+  refusal-bounded : (number offset : ℕ) → among number (0 ∷ 23 ∷ 24 ∷ 25 ∷ 26 ∷ []) ≡ true → offset ≤ length text → ((number ≡ 23 → ⊥) → offset ≡ 0)
+      → Bounded (length text) room (refused number offset)
+  unfolding answerOf outputOf
+  refusal-bounded number offset e h z =
+      record {
+        numbered = e;
+        offset = h;
+        offset-of-others = z;
+        in-room = omega arith;
+        in-text = omega arith;
+        refused-empty = λ _. refl;
+        refused-untouched = λ _ output. refl;
+      }
+
+  room-bounded : (o : Option (List ℕ)) → Most (length text) o → Bounded (length text) room (withRoom room o)
+  unfolding withRoom among
+  room-bounded none s = refusal-bounded 24 0 refl (omega arith) (λ _. refl)
+  room-bounded (some bytes) s =
+      by-test (Bounded (length text) room) (leb (length bytes) room) _ _
+      (λ e. value-bounded bytes (leb-true (length bytes) room e) s) (λ _. refusal-bounded 26 0 refl (omega arith) (λ _. refl))
+
+  text-bounded : (version : ℕ) (place : Option ℕ) → PlaceIn (length text) place → Bounded (length text) room (ofText version room text place)
+  unfolding ofText among
+  text-bounded version none h = room-bounded (literalValue (rulesOf version) text) (literal-small (rulesOf version) text)
+  text-bounded version (some p) h = refusal-bounded 23 p refl (omega arith) (λ n. absurd (n refl))
+
+  pub decode-bounded : (version : ℕ) → Bounded (length text) room (decodeString version text room)
+  unfolding decodeString among
+  decode-bounded version =
+      by-test (Bounded (length text) room) (isVersion version) _ _
+      (λ _. text-bounded version (illFormed text) (place-in text)) (λ _. refusal-bounded 25 0 refl (omega arith) (λ _. refl))

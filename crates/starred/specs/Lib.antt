@@ -1,0 +1,3 @@
+pub mod Cases
+pub mod Starred
+pub mod Others

@@ -1,0 +1,245 @@
+-- Cases of document 01 that are not starred, and what its text says besides, whole answers by computation: the rows of its table of refusals but 30 and 31
+-- of a line (luck_lines), the places that were open, each item, each kind of single and of 29, and each way of writing once.
+-- Assumes nothing.
+use Prim.Native.Nat.{ℕ, zero, suc}
+use Prim.Native.Char.{code}
+use mathlib.Core.Path.{_≡_, refl}
+use mathlib.Core.Bool.{true, false}
+use mathlib.Core.List.{List, [], _∷_, _++_}
+use mathlib.Core.Option.{none, some}
+use Rattle.luck_text.specs.Bytes.{ascii}
+use Rattle.luck_linter.specs.Computed.{computed as checksComputed}
+use Rattle.lstr_gsub.specs.Computed.{computed as trialComputed}
+use Rattle.starred.specs.Cases.{Case, case, format, pattern, pack, packsize, date, replacement, literal, decode, trial, checked, checkedLiteral, decoded, tried, told, wanted}
+
+abbrev only : ℕ → List ℕ
+only version = version ∷ []
+
+abbrev times : ℕ → List ℕ → List ℕ
+times zero text = []
+times (suc n) text = text ++ times n text
+
+-- ---- The checks
+
+abbrev pub checks : List Case
+checks =
+    case (only 1) (format (ascii "%y")) (checked (record { number = 2; offset = 1; first = code "y"; second = 0; count = 0 }))
+    ∷ case (only 1) (format (ascii "%-----d")) (checked (record { number = 0; offset = 0; first = 0; second = 0; count = 1 }))
+    ∷ case (only 1) (format (ascii "%123d")) (checked (record { number = 4; offset = 1; first = 0; second = 0; count = 0 }))
+    ∷ case (only 1) (format (ascii "%.123d")) (checked (record { number = 5; offset = 2; first = 0; second = 0; count = 0 }))
+    ∷ case (only 4) (format (ascii "%000000000000000000000d"))
+    (checked (record { number = 7; offset = 1; first = 0; second = 0; count = 0 }))
+    ∷ case (only 6) (format (ascii "%5*")) (checked (record { number = 2; offset = 2; first = code "*"; second = 0; count = 0 }))
+    ∷ case (only 1) (pattern (ascii "a%f")) (checked (record { number = 10; offset = 1; first = code "f"; second = 0; count = 0 }))
+    ∷ case (only 1) (pattern (times 33 (ascii "("))) (checked (record { number = 12; offset = 32; first = 0; second = 0; count = 0 }))
+    ∷ case (only 1) (pattern (times 32 (ascii "()"))) (checked (record { number = 0; offset = 0; first = 0; second = 0; count = 32 }))
+    ∷ case (only 1) (pattern (ascii "[]a]")) (checked (record { number = 0; offset = 0; first = 0; second = 0; count = 0 }))
+    ∷ case (only 1) (pack (ascii "b1")) (checked (record { number = 14; offset = 1; first = code "1"; second = 0; count = 0 }))
+    ∷ case (only 1) (pack (ascii "c")) (checked (record { number = 15; offset = 1; first = 0; second = 0; count = 0 }))
+    ∷ case (only 1) (pack (ascii "i17")) (checked (record { number = 16; offset = 1; first = 0; second = 0; count = 0 }))
+    ∷ case (only 1) (pack (ascii "!5j")) (checked (record { number = 0; offset = 0; first = 0; second = 0; count = 1 }))
+    ∷ case (only 1) (packsize (ascii "bz")) (checked (record { number = 18; offset = 1; first = code "z"; second = 0; count = 0 }))
+    ∷ case (only 2) (replacement none (ascii "a%")) (checked (record { number = 19; offset = 1; first = 0; second = 0; count = 0 }))
+    ∷ case (only 2) (replacement none (ascii "%x")) (checked (record { number = 20; offset = 1; first = 0; second = 0; count = 0 }))
+    ∷ case (only 1) (replacement none (ascii "%x")) (checked (record { number = 0; offset = 0; first = 0; second = 0; count = 0 }))
+    ∷ case (only 2) (replacement (some 0) (ascii "%2")) (checked (record { number = 21; offset = 1; first = 0; second = 0; count = 0 }))
+    ∷ case (only 2) (date (ascii "%Q")) (checked (record { number = 22; offset = 1; first = 0; second = 0; count = 0 }))
+    ∷ case (only 4) (pattern (0xFF ∷ [])) (checked (record { number = 23; offset = 0; first = 0; second = 0; count = 0 }))
+    ∷ case (only 7) (pattern []) (checked (record { number = 25; offset = 0; first = 0; second = 0; count = 0 }))
+    ∷ []
+
+pub checks-hold : told checks ≡ wanted checks
+unfolding checksComputed
+checks-hold = refl
+
+-- ---- Literals: spans, with the last character one byte wide at the end and another of two bytes; skipped ones; 23 and what comes before it, without a span
+
+abbrev pub literals : List Case
+literals =
+    case (only 1) (literal (code "F") none 10 (ascii "\"trip %y\""))
+    (checkedLiteral (record {
+      skipped = false;
+      spanned = true;
+      answer = record { number = 2; offset = 6; first = code "y"; second = 0; count = 0 };
+      span = record { start = 17; end = 18 };
+    }))
+    ∷ case (only 1) (literal (code "F") none 10 (ascii "'%" ++ (0xC3 ∷ 0xA9 ∷ []) ++ ascii "'"))
+    (checkedLiteral (record {
+      skipped = false;
+      spanned = true;
+      answer = record { number = 2; offset = 1; first = 0xE9; second = 0; count = 0 };
+      span = record { start = 12; end = 14 };
+    }))
+    ∷ case (only 4) (literal (code "P") none 10 (ascii "\"(a\""))
+    (checkedLiteral (record {
+      skipped = false;
+      spanned = true;
+      answer = record { number = 11; offset = 2; first = 0; second = 0; count = 0 };
+      span = record { start = 13; end = 14 };
+    }))
+    ∷ case (only 4) (literal (code "F") none 0xFFFF_FFFE (ascii "\"a%#d\""))
+    (checkedLiteral (record {
+      skipped = false;
+      spanned = true;
+      answer = record { number = 6; offset = 2; first = code "#"; second = code "d"; count = 0 };
+      span = record { start = 0xFFFF_FFFF; end = 0xFFFF_FFFF };
+    }))
+    ∷ case (only 4) (literal (code "P") none 10 (ascii "\"(a)\""))
+    (checkedLiteral (record {
+      skipped = false;
+      spanned = false;
+      answer = record { number = 0; offset = 0; first = 0; second = 0; count = 1 };
+      span = record { start = 0; end = 0 };
+    }))
+    ∷ case (only 4) (literal (code "P") none 10 (ascii "\"(\\097\""))
+    (checkedLiteral (record {
+      skipped = true;
+      spanned = false;
+      answer = record { number = 0; offset = 0; first = 0; second = 0; count = 0 };
+      span = record { start = 0; end = 0 };
+    }))
+    ∷ case (only 4) (literal (code "P") none 10 (ascii "[[(a]]"))
+    (checkedLiteral (record {
+      skipped = true;
+      spanned = false;
+      answer = record { number = 0; offset = 0; first = 0; second = 0; count = 0 };
+      span = record { start = 0; end = 0 };
+    }))
+    ∷ case (only 4) (literal (code "P") none 10 (ascii "\"(a" ++ (0xFF ∷ []) ++ ascii "\""))
+    (checkedLiteral (record {
+      skipped = false;
+      spanned = false;
+      answer = record { number = 23; offset = 3; first = 0; second = 0; count = 0 };
+      span = record { start = 0; end = 0 };
+    }))
+    ∷ case (only 7) (literal (code "P") none 10 (0xFF ∷ []))
+    (checkedLiteral (record {
+      skipped = false;
+      spanned = false;
+      answer = record { number = 25; offset = 0; first = 0; second = 0; count = 0 };
+      span = record { start = 0; end = 0 };
+    }))
+    ∷ case (only 7) (literal (code "Q") none 10 (0xFF ∷ []))
+    (checkedLiteral (record {
+      skipped = false;
+      spanned = false;
+      answer = record { number = 30; offset = 0; first = 0; second = 0; count = 0 };
+      span = record { start = 0; end = 0 };
+    }))
+    ∷ []
+
+pub literals-hold : told literals ≡ wanted literals
+unfolding checksComputed
+literals-hold = refl
+
+-- ---- Decoding
+
+abbrev pub decodings : List Case
+decodings =
+    case (only 4) (decode (ascii "\"\\u{E9}\\z  \\065\"") (ascii "....."))
+    (decoded (record { number = 0; offset = 0; written = 3 }) (0xC3 ∷ 0xA9 ∷ ascii "A.."))
+    ∷ case (only 4) (decode (ascii "[=[" ++ (code "\r" ∷ code "\n" ∷ []) ++ ascii "a]]]=]") (ascii "....."))
+    (decoded (record { number = 0; offset = 0; written = 3 }) (ascii "a]].."))
+    ∷ case (only 2) (decode (ascii "\"\\q\"") (ascii ".....")) (decoded (record { number = 24; offset = 0; written = 0 }) (ascii "....."))
+    ∷ case (only 1) (decode (ascii "\"\\q\"") (ascii ".....")) (decoded (record { number = 0; offset = 0; written = 1 }) (ascii "q...."))
+    ∷ case (only 4) (decode (ascii "\"\\u{D800}\"") (ascii ".....")) (decoded (record { number = 24; offset = 0; written = 0 }) (ascii "....."))
+    ∷ case (only 4) (decode (ascii "'ab'") (ascii ".")) (decoded (record { number = 26; offset = 0; written = 0 }) (ascii "."))
+    ∷ case (only 4) (decode (ascii "'a" ++ (0xFF ∷ []) ++ ascii "'") (ascii "....."))
+    (decoded (record { number = 23; offset = 2; written = 0 }) (ascii "....."))
+    ∷ case (only 7) (decode (0xFF ∷ []) (ascii ".....")) (decoded (record { number = 25; offset = 0; written = 0 }) (ascii "....."))
+    ∷ []
+
+pub decodings-hold : told decodings ≡ wanted decodings
+unfolding checksComputed
+decodings-hold = refl
+
+-- ---- The trial
+
+abbrev lent : List ℕ
+lent = ascii "............"
+
+abbrev pub trials : List Case
+trials =
+    case (only 4) (trial (ascii "aaa") (ascii "a*") (ascii "x") 1000 lent)
+    (tried (record { number = 0; kind = 0; written = 1; replacements = 1; steps = 7 }) (ascii "x..........."))
+    ∷ case (only 4) (trial (ascii "aab") (ascii "a-b") (ascii "x") 1000 lent)
+    (tried (record { number = 0; kind = 0; written = 1; replacements = 1; steps = 8 }) (ascii "x..........."))
+    ∷ case (only 4) (trial (ascii "a") (ascii "a") (ascii "xx") 1000 (ascii "."))
+    (tried (record { number = 26; kind = 0; written = 1; replacements = 1; steps = 2 }) (ascii "x"))
+    ∷ case (only 4) (trial (times 200 (ascii "a")) (times 200 (ascii "a?")) (ascii "x") 200 lent)
+    (tried (record { number = 28; kind = 0; written = 0; replacements = 0; steps = 200 }) lent)
+    ∷ case (only 4) (trial (times 200 (ascii "a")) (times 200 (ascii "a?")) (ascii "x") 199 lent)
+    (tried (record { number = 27; kind = 0; written = 0; replacements = 0; steps = 199 }) lent)
+    ∷ case (only 4) (trial (ascii "a") (ascii ")") (ascii "x") 1 lent)
+    (tried (record { number = 29; kind = 5; written = 0; replacements = 0; steps = 1 }) lent)
+    ∷ case (only 4) (trial (ascii "a") (ascii ")") (ascii "x") 0 lent)
+    (tried (record { number = 27; kind = 0; written = 0; replacements = 0; steps = 0 }) lent)
+    ∷ case (only 4) (trial (times 300 (ascii "a")) (times 199 (ascii "a?") ++ ascii ")") (ascii "x") 1000 lent)
+    (tried (record { number = 29; kind = 5; written = 0; replacements = 0; steps = 200 }) lent)
+    ∷ case (only 4) (trial (times 300 (ascii "a")) (times 32 (ascii "()") ++ times 167 (ascii "a?") ++ ascii "(") (ascii "x") 1000 lent)
+    (tried (record { number = 29; kind = 8; written = 0; replacements = 0; steps = 200 }) lent)
+    ∷ case (only 4) (trial [] [] (ascii "x") 1000 lent)
+    (tried (record { number = 0; kind = 0; written = 1; replacements = 1; steps = 2 }) (ascii "x..........."))
+    ∷ case (only 4) (trial (ascii "ab") [] (ascii "x") 1000 lent)
+    (tried (record { number = 0; kind = 0; written = 5; replacements = 3; steps = 6 }) (ascii "xaxbx......."))
+    ∷ case (only 4) (trial (ascii "a]-") (ascii "[!-%%]") (ascii "x") 1000 lent)
+    (tried (record { number = 0; kind = 0; written = 3; replacements = 1; steps = 5 }) (ascii "ax-........."))
+    ∷ case (only 4) (trial (ascii "aab") (ascii "^a") (ascii "x") 1000 lent)
+    (tried (record { number = 0; kind = 0; written = 3; replacements = 1; steps = 2 }) (ascii "xab........."))
+    ∷ case (only 4) (trial (ascii "baa") (ascii "^a") (ascii "x") 1000 (ascii ".."))
+    (tried (record { number = 26; kind = 0; written = 2; replacements = 0; steps = 1 }) (ascii "ba"))
+    ∷ case (only 4) (trial (ascii "(a(b))c") (ascii "%b()") (ascii "<%0>") 1000 lent)
+    (tried (record { number = 0; kind = 0; written = 9; replacements = 1; steps = 4 }) (ascii "<(a(b))>c..."))
+    ∷ case (only 4) (trial (ascii "a.a") (ascii "%baa") (ascii "x") 1000 lent)
+    (tried (record { number = 0; kind = 0; written = 1; replacements = 1; steps = 3 }) (ascii "x..........."))
+    ∷ case (only 4) (trial (ascii "THE cat") (ascii "%f[%a]%a+") (ascii "<%0>") 1000 lent)
+    (tried (record { number = 0; kind = 0; written = 11; replacements = 2; steps = 14 }) (ascii "<THE> <cat>."))
+    ∷ case (only 4) (trial (ascii "abab") (ascii "(ab)%1") (ascii "<%1>") 1000 lent)
+    (tried (record { number = 0; kind = 0; written = 4; replacements = 1; steps = 8 }) (ascii "<ab>........"))
+    ∷ case (only 4) (trial (ascii "ab") (ascii "()%1") (ascii "x") 1000 lent)
+    (tried (record { number = 0; kind = 0; written = 2; replacements = 0; steps = 6 }) (ascii "ab.........."))
+    ∷ case (only 4) (trial (ascii "ab") (ascii "()") (ascii "%1") 1000 lent)
+    (tried (record { number = 0; kind = 0; written = 5; replacements = 3; steps = 12 }) (ascii "1a2b3......."))
+    ∷ case (only 4) (trial (ascii "ab") (ascii "(a)(b)") (ascii "%2%1") 1000 lent)
+    (tried (record { number = 0; kind = 0; written = 2; replacements = 1; steps = 9 }) (ascii "ba.........."))
+    ∷ case (only 4) (trial (ascii "ab") (ascii "a") (ascii "[%1]") 1000 lent)
+    (tried (record { number = 0; kind = 0; written = 4; replacements = 1; steps = 4 }) (ascii "[a]b........"))
+    ∷ case (only 4) (trial (ascii "ab") (ascii "a") (ascii "%2") 1000 lent)
+    (tried (record { number = 29; kind = 10; written = 0; replacements = 1; steps = 2 }) lent)
+    ∷ case (only 4) (trial (ascii "ab") (ascii "(a") (ascii "%1") 1000 lent)
+    (tried (record { number = 29; kind = 6; written = 0; replacements = 1; steps = 3 }) lent)
+    ∷ case (only 4) (trial (ascii "a") (ascii "a") (ascii "%%") 1000 lent)
+    (tried (record { number = 0; kind = 0; written = 1; replacements = 1; steps = 3 }) (ascii "%..........."))
+    ∷ case (only 4) (trial (ascii "ab-") (ascii "[^%w]") (ascii "x") 1000 lent)
+    (tried (record { number = 0; kind = 0; written = 3; replacements = 1; steps = 5 }) (ascii "abx........."))
+    ∷ case (only 4) (trial (ascii "ab") (ascii "a.") (ascii "x") 1000 lent)
+    (tried (record { number = 0; kind = 0; written = 1; replacements = 1; steps = 4 }) (ascii "x..........."))
+    ∷ case (only 1) (trial (ascii "a") (ascii "a") (ascii "%x") 1000 lent)
+    (tried (record { number = 0; kind = 0; written = 1; replacements = 1; steps = 3 }) (ascii "x..........."))
+    ∷ case (only 1) (trial (ascii "a") (ascii "a") (ascii "%") 1000 lent)
+    (tried (record { number = 0; kind = 0; written = 1; replacements = 1; steps = 3 }) (0 ∷ ascii "..........."))
+    ∷ case (only 4) (trial (ascii "a") (ascii "a") (ascii "y%") 1000 lent)
+    (tried (record { number = 29; kind = 9; written = 1; replacements = 1; steps = 2 }) (ascii "y..........."))
+    ∷ case (only 4) (trial (ascii "a") (ascii "(a%1)") (ascii "x") 1000 lent)
+    (tried (record { number = 29; kind = 7; written = 0; replacements = 0; steps = 3 }) lent)
+    ∷ case (only 4) (trial (ascii "a") (ascii "%") (ascii "x") 1000 lent)
+    (tried (record { number = 29; kind = 1; written = 0; replacements = 0; steps = 1 }) lent)
+    ∷ case (only 4) (trial (ascii "a") (ascii "[%") (ascii "x") 1000 lent)
+    (tried (record { number = 29; kind = 2; written = 0; replacements = 0; steps = 1 }) lent)
+    ∷ case (only 4) (trial (ascii "a") (ascii "%f") (ascii "x") 1000 lent)
+    (tried (record { number = 29; kind = 3; written = 0; replacements = 0; steps = 1 }) lent)
+    ∷ case (only 4) (trial (ascii "a") (ascii "%bx") (ascii "x") 1000 lent)
+    (tried (record { number = 29; kind = 4; written = 0; replacements = 0; steps = 1 }) lent)
+    ∷ case (only 4) (trial (ascii "a") (times 33 (ascii "(")) (ascii "x") 1000 lent)
+    (tried (record { number = 29; kind = 8; written = 0; replacements = 0; steps = 33 }) lent)
+    ∷ case (only 4) (trial (ascii "aab") (ascii "a+b") (ascii "x") 1000 lent)
+    (tried (record { number = 0; kind = 0; written = 1; replacements = 1; steps = 6 }) (ascii "x..........."))
+    ∷ case (only 4) (trial (ascii "ab") (ascii "b$") (ascii "x") 1000 lent)
+    (tried (record { number = 0; kind = 0; written = 2; replacements = 1; steps = 4 }) (ascii "ax.........."))
+    ∷ case (only 7) (trial (ascii "a") (ascii "a") (ascii "x") 1000 lent)
+    (tried (record { number = 25; kind = 0; written = 0; replacements = 0; steps = 0 }) lent)
+    ∷ []
+
+pub trials-hold : told trials ≡ wanted trials
+unfolding trialComputed
+trials-hold = refl
