@@ -27,33 +27,39 @@ module _ (options : Bool) (text : List ℕ) where
   unfolding dateEnd
   at-end p h = sym (walk-end (dateTurn options text) dateEnd (length text) p tt h)
 
-  module _ (p : ℕ) (h : p < length text) where
-    stops : (a : Answer) → dateTurn options text p tt ≡ stop a → a ≡ on p
-    stops a e = sym (walk-stop (dateTurn options text) dateEnd (length text) p tt a h e)
+  -- at p stands a byte, and the walk from there is the whole answer
+  pub record Here (p : ℕ) (whole : Answer) : Type 0 where
+    pub there : p < length text
+    pub walked : on p ≡ whole
 
-    passes : (w : ℕ) → 0 < w → p + w ≤ length text → dateTurn options text p tt ≡ goes w tt → on (p + w) ≡ on p
-    passes w g i e = sym (walk-goes (dateTurn options text) dateEnd (length text) p tt w tt g i e)
+module _ {options : Bool} {text : List ℕ} {p : ℕ} {whole : Answer} (here : Here options text p whole) where
+  stops : (a : Answer) → dateTurn options text p tt ≡ stop a → a ≡ whole
+  stops a e = sym (walk-stop (dateTurn options text) dateEnd (length text) p tt a (here .there) e) ∙ here .walked
 
-    pub passes-byte : (byteAt text p ≡ 37 → ⊥) → on (p + 1) ≡ on p
+  passes : (w : ℕ) → 0 < w → p + w ≤ length text → dateTurn options text p tt ≡ goes w tt → on options text (p + w) ≡ whole
+  passes w g i e = sym (walk-goes (dateTurn options text) dateEnd (length text) p tt w tt g i e) ∙ here .walked
+
+  pub passes-byte : (byteAt text p ≡ 37 → ⊥) → on options text (p + 1) ≡ whole
+  unfolding dateTurn if_then_else_
+  passes-byte n = passes 1 (omega arith) (omega arith) (rw (ne-eqb (byteAt text p) 37 n))
+
+  module _ (e : byteAt text p ≡ 37) where
+    pub lone-strict : length text ≤ p + 1 → options ≡ true → refused 19 p ≡ whole
     unfolding dateTurn if_then_else_
-    passes-byte n = passes 1 (omega arith) (omega arith) (rw (ne-eqb (byteAt text p) 37 n))
+    lone-strict l t = stops _ (rw (e, le-leb (length text) (p + 1) l, t))
 
-    module _ (e : byteAt text p ≡ 37) where
-      pub lone-strict : length text ≤ p + 1 → options ≡ true → refused 19 p ≡ on p
-      unfolding dateTurn if_then_else_
-      lone-strict l t = stops _ (rw (e, le-leb (length text) (p + 1) l, t))
+    pub lone-lenient : length text ≤ p + 1 → options ≡ false → accepted 0 ≡ whole
+    unfolding dateTurn if_then_else_
+    lone-lenient l t = at-end options text (p + 1) l ∙ passes 1 (omega arith) (omega arith) (rw (e, le-leb (length text) (p + 1) l, t))
 
-      pub lone-lenient : length text ≤ p + 1 → options ≡ false → accepted 0 ≡ on p
-      unfolding dateTurn if_then_else_
-      lone-lenient l t = at-end (p + 1) l ∙ passes 1 (omega arith) (omega arith) (rw (e, le-leb (length text) (p + 1) l, t))
+    pub no-conversion : p + 1 < length text → conversionWidth options text p ≡ 0 → refused 22 (p + 1) ≡ whole
+    unfolding dateTurn if_then_else_
+    no-conversion l w = stops _ (rw (e, lt-leb (length text) (p + 1) l, w))
 
-      pub no-conversion : p + 1 < length text → conversionWidth options text p ≡ 0 → refused 22 (p + 1) ≡ on p
-      unfolding dateTurn if_then_else_
-      no-conversion l w = stops _ (rw (e, lt-leb (length text) (p + 1) l, w))
-
-      pub passes-conversion : p + 1 < length text → (w : ℕ) → w ≡ conversionWidth options text p → (w ≡ 0 → ⊥) → p + w ≤ length text → on (p + w) ≡ on p
-      unfolding dateTurn if_then_else_
-      passes-conversion l w f n i = passes w (omega arith) i (rw (e, lt-leb (length text) (p + 1) l, ← f, ne-eqb w 0 n))
+    pub passes-conversion : p + 1 < length text → (w : ℕ) → w ≡ conversionWidth options text p → (w ≡ 0 → ⊥) → p + w ≤ length text
+        → on options text (p + w) ≡ whole
+    unfolding dateTurn if_then_else_
+    passes-conversion l w f n i = passes w (omega arith) i (rw (e, lt-leb (length text) (p + 1) l, ← f, ne-eqb w 0 n))
 
 -- ---- The width of a conversion
 

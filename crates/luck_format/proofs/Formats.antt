@@ -286,7 +286,7 @@ module _ (rules : Rules) (text : List ℕ) where
 
   -- the walk goes on behind so many bytes
   pub record GoesOn (p count width : ℕ) (whole : Answer) : Type 0 where
-    pub some : 0 < width
+    pub forward : 0 < width
     pub inside : p + width ≤ length text
     pub walked : on (p + width) count ≡ whole
 
@@ -316,7 +316,7 @@ module _ (rules : Rules) (text : List ℕ) where
 
         goes-on : (width count′ : ℕ) → goes width count′ ≡ percentTurn rules text p count → (0 < width) × (p + width ≤ length text) → GoesOn p count′ width whole
         goes-on width count′ s g = record {
-          some = g .0;
+          forward = g .0;
           inside = g .1;
           walked = sym (walk-goes (formatTurn rules text) formatEnd (length text) p count width count′ (g .0) (g .1) (percent-step ∙ sym s)) ∙ w;
         }

@@ -274,9 +274,9 @@ module _ (text : List ℕ) (p : ℕ) where
     unfolding plainBy
     sized-read e = ap plainBy e ∙ by-plain
 
--- an option that was read lies in the text
-pub option-inside : (r : Found) (o : PackOption) (width p len : ℕ) → r ≡ found.Option o width → OptionIn r p len → (0 < width) × (p + width ≤ len)
-option-inside r o width p len e i = subst (λ (x : Found). OptionIn x p len) e i
+-- what is known of an option that was read at p
+abbrev pub ReadAt : List ℕ → ℕ → Found → Type 0
+ReadAt text p x = (optionRead x ≡ keptRead (getoption text p)) × OptionIn x p (length text)
 
 -- ---- Alignment
 
@@ -404,20 +404,28 @@ module _ (packsize : Bool) (text : List ℕ) where
   unfolding packWalk
   start = refl
 
+  -- the walk goes on behind so many bytes
+  pub record GoesOn (p width : ℕ) (s : State) (whole : Answer) : Type 0 where
+    pub forward : 0 < width
+    pub inside : p + width ≤ length text
+    pub walked : on (p + width) s ≡ whole
+
+  -- what a turn at p makes of the walk
+  abbrev pub After : ℕ → ℕ → Answer → PackTurn → Type 0
+  After p values whole (packturn.Goes width has next) = GoesOn p width (withValue has values next) whole
+  After p values whole (packturn.Fault e) = refusal e ≡ whole
+
   module _ (p values largest : ℕ) (whole : Answer) (h : on p (state values largest) ≡ whole) where
-    -- what is known of a step, once its shape is
-    module _ (r : PackTurn) (is : packTurnOf values r ≡ packTurn luckSize packsize text p (state values largest)) (inside : PackGoesIn r p (length text)) where
-      pub step-inside : (width : ℕ) (has : Bool) (next : ℕ) → r ≡ packturn.Goes width has next → (0 < width) × (p + width ≤ length text)
-      step-inside width has next e = subst (λ (x : PackTurn). PackGoesIn x p (length text)) e inside
-
-      pub turn : (width : ℕ) (has : Bool) (next : ℕ) → r ≡ packturn.Goes width has next → on (p + width) (withValue has values next) ≡ whole
-      turn width has next e =
-          let i = step-inside width has next e in
-          sym (walk-goes (packTurn luckSize packsize text) packEnd (length text) p (state values largest) width (withValue has values next) (i .0) (i .1) (sym is ∙ ap (packTurnOf values) e)) ∙ h
-
-      pub stopped : (refusing : PatternError) → r ≡ packturn.Fault refusing → p < length text → refusal refusing ≡ whole
-      stopped refusing e l =
-          sym (walk-stop (packTurn luckSize packsize text) packEnd (length text) p (state values largest) (refusal refusing) l (sym is ∙ ap (packTurnOf values) e)) ∙ h
+    pub after : p < length text → (r : PackTurn) → packTurnOf values r ≡ packTurn luckSize packsize text p (state values largest) → PackGoesIn r p (length text)
+        → After p values whole r
+    after l (packturn.Goes width has next) is i = record {
+      forward = i .0;
+      inside = i .1;
+      walked =
+          sym (walk-goes (packTurn luckSize packsize text) packEnd (length text) p (state values largest) width (withValue has values next) (i .0) (i .1) (sym is))
+          ∙ h;
+    }
+    after l (packturn.Fault e) is i = sym (walk-stop (packTurn luckSize packsize text) packEnd (length text) p (state values largest) (refusal e) l (sym is)) ∙ h
 
     pub done : length text ≤ p → accepted values ≡ whole
     unfolding packEnd

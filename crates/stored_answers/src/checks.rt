@@ -3,32 +3,15 @@
 ghost use Prim.Native.Nat.{_+_, _≤_};
 ghost use lib.ListN.{length};
 ghost use Rattle.stored_questions.specs.Places.{AnswerLies};
-ghost use Rattle.stored_records.specs.Tally.{Passes};
 use luck_answer::answer;
 use luck_answer::answer::Answer;
 use luck_linter::checks;
 use luck_linter::checks::Named;
 use stored_questions::question;
-use stored_questions::question::Asked;
 use stored_questions::question::Question;
 use stored_records::bytes;
-use stored_records::tally::Turn;
 
-pub fn turn(file: &[u8], at: usize) -> Turn
-    requires { ⌜ at ≤ length (now file) ⌝ }
-    ensures { λ r. ⌜ Passes at (length (now (file .entry))) r ⌝ }
-{
-    let asked = question::question_at(file, at, 13);
-    match asked {
-        Asked::Whole(question) => Turn::Record {
-            agrees: agrees(file, question),
-            next: question.next,
-        },
-        Asked::Bad => Turn::Bad,
-    }
-}
-
-fn agrees(file: &[u8], question: Question) -> bool
+pub fn agrees(file: &[u8], question: Question) -> bool
     requires { ⌜ AnswerLies 13 (length (now file)) question ⌝ }
 {
     let captures = question.captures;

@@ -3,31 +3,14 @@
 ghost use Prim.Native.Nat.{_+_, _≤_};
 ghost use lib.ListN.{length};
 ghost use Rattle.stored_questions.specs.Places.{AnswerLies};
-ghost use Rattle.stored_records.specs.Tally.{Passes};
 use crate::checks;
 use luck_answer::answer::Answer;
 use luck_linter::rules::format_string::Literal;
 use stored_questions::question;
-use stored_questions::question::Asked;
 use stored_questions::question::Question;
 use stored_records::bytes;
-use stored_records::tally::Turn;
 
-pub fn turn(file: &[u8], at: usize) -> Turn
-    requires { ⌜ at ≤ length (now file) ⌝ }
-    ensures { λ r. ⌜ Passes at (length (now (file .entry))) r ⌝ }
-{
-    let asked = question::question_at(file, at, 27);
-    match asked {
-        Asked::Whole(question) => Turn::Record {
-            agrees: agrees(file, question),
-            next: question.next,
-        },
-        Asked::Bad => Turn::Bad,
-    }
-}
-
-fn agrees(file: &[u8], question: Question) -> bool
+pub fn agrees(file: &[u8], question: Question) -> bool
     requires { ⌜ AnswerLies 27 (length (now file)) question ⌝ }
 {
     let start = bytes::word_at(file, question.answer);

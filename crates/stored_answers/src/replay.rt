@@ -2,13 +2,12 @@
 ghost use Prim.Native.Nat.{_≤_};
 ghost use lib.ListN.{length};
 ghost use Rattle.stored_records.specs.Tally.{Passes};
-use crate::checks;
-use crate::literal_checks;
+use crate::asked;
+use crate::asked::Answers;
 use stored_files::reader;
 use stored_files::reader::Loaded;
 use stored_files::report;
 use stored_literals::literals;
-use stored_questions::real_lua;
 use stored_records::tally;
 use stored_records::tally::Replay;
 use stored_records::tally::Turn;
@@ -60,9 +59,9 @@ fn turn(format: Format, file: &[u8], at: usize) -> Turn
 {
     match format {
         Format::Literals => literals::turn(file, at),
-        Format::Checks => checks::turn(file, at),
-        Format::LiteralChecks => literal_checks::turn(file, at),
-        Format::RealLua => real_lua::turn(file, at),
+        Format::Checks => asked::turn(Answers::Checks, file, at),
+        Format::LiteralChecks => asked::turn(Answers::LiteralChecks, file, at),
+        Format::RealLua => asked::turn(Answers::RealLua, file, at),
         Format::Trials => trials::turn(file, at),
     }
 }

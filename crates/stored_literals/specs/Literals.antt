@@ -1,6 +1,7 @@
 -- Where things stand in a stored answer of decode_string: what its reader promises to those who use what it reads.
 -- Assumes nothing.
-use Prim.Native.Nat.{ℕ, _<_, _≤_}
+use Prim.Native.Nat.{ℕ, _+_, _<_, _≤_}
+use mathlib.Core.Path.{_≡_}
 use Rattle.stored_literals.specs.declared.literals.Record.{Record}
 use Rattle.stored_literals.specs.declared.literals.Read.{Read}
 use Rattle.stored_literals.specs.declared.literals.Read.the-variants.{Whole, Bad}
@@ -9,8 +10,8 @@ use Rattle.stored_literals.specs.declared.literals.Read.the-variants.{Wh
 pub record Lies (len : ℕ) (r : Record) : Type 0 where
   pub text : r .text ≤ r .answer
   pub answer : r .answer ≤ len
-  pub value : r .value ≤ r .next
-  pub next : r .next ≤ len
+  pub next : r .value + r .stored .written ≡ r .next
+  pub inside : r .next ≤ len
   pub written : r .stored .written ≤ r .room
   pub room : r .room < 65536
 

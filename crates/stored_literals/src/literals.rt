@@ -7,6 +7,7 @@ ghost use Rattle.stored_records.specs.Tally.{Passes};
 use luck_token::string;
 use luck_token::string::Decoded;
 use stored_records::bytes;
+use stored_records::output;
 use stored_records::tally::Turn;
 
 // An answer in numbers: a refusal's number and offset, or 0, 0 and how many bytes the value has.
@@ -32,12 +33,6 @@ enum Read {
     Whole(Record),
     Bad,
 }
-
-// Well-formed text has no such byte: only `\249` and `\xF9` put it into a value.
-const UNTOUCHED: u8 = 0xF9;
-
-// How many bytes behind the output are watched.
-const BEHIND: usize = 16;
 
 pub fn turn(file: &[u8], at: usize) -> Turn
     requires { ⌜ at ≤ length (now file) ⌝ }
@@ -106,8 +101,7 @@ fn agrees(file: &[u8], record: Record, output: &mut [u8]) -> bool
     requires { ⌜ Lies (length (now file)) «record» × (65551 < length (now output)) ⌝ }
 {
     let room = record.room;
-    let watched = room + BEHIND;
-    bytes::fill(output, watched, UNTOUCHED);
+    output::clear(output, room);
     let text = record.text;
     let answer = record.answer;
     let decoded = string::decode_string(record.version, &file[text..answer], &mut output[0..room]);
@@ -115,13 +109,9 @@ fn agrees(file: &[u8], record: Record, output: &mut [u8]) -> bool
     if !is_same(numbered(decoded), stored) {
         return false;
     }
-    let written = stored.written;
     let value = record.value;
     let next = record.next;
-    if !check::same(&output[0..written], &file[value..next]) {
-        return false;
-    }
-    bytes::is_filled(output, written, watched, UNTOUCHED)
+    output::holds(output, room, file, value, next)
 }
 
 fn is_same(given: Answer, stored: Answer) -> bool {

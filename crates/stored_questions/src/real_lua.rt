@@ -1,34 +1,17 @@
 // What Lua 5.1 to 5.4 do with a text. A record: a question whose version is 0, the versions that were asked in one byte, and those of them
 // that take the text in another: bit 0 is version 1, bit 3 is version 4.
-ghost use Prim.Native.Nat.{_<_, _≤_};
+ghost use Prim.Native.Nat.{_<_};
 ghost use lib.ListN.{length};
 ghost use Rattle.stored_questions.specs.Places.{AnswerLies};
-ghost use Rattle.stored_records.specs.Tally.{Passes};
 use crate::question;
-use crate::question::Asked;
 use crate::question::Question;
 use luck_answer::format_pattern::Checked;
 use luck_linter::checks;
 use luck_linter::checks::Named;
 use stored_records::bytes;
-use stored_records::tally::Turn;
-
-pub fn turn(file: &[u8], at: usize) -> Turn
-    requires { ⌜ at ≤ length (now file) ⌝ }
-    ensures { λ r. ⌜ Passes at (length (now (file .entry))) r ⌝ }
-{
-    let asked = question::question_at(file, at, 2);
-    match asked {
-        Asked::Whole(question) => Turn::Record {
-            agrees: agrees(file, question),
-            next: question.next,
-        },
-        Asked::Bad => Turn::Bad,
-    }
-}
 
 // Whether the check of each version that was asked accepts the text where that Lua takes it, and only there.
-fn agrees(file: &[u8], question: Question) -> bool
+pub fn agrees(file: &[u8], question: Question) -> bool
     requires { ⌜ AnswerLies 2 (length (now file)) question ⌝ }
 {
     let captures = question.captures;

@@ -9,6 +9,7 @@ ghost use Rattle.stored_trials.specs.Trials.{TrialLies, TrialLiesBehind,
 use lstr_gsub::gsub;
 use lstr_gsub::gsub::Trial;
 use stored_records::bytes;
+use stored_records::output;
 use stored_records::tally::Turn;
 
 // The places of the three texts; the third ends at the answer.
@@ -43,11 +44,6 @@ enum Read {
     Whole(Record),
     Bad,
 }
-
-const UNTOUCHED: u8 = 0xF9;
-
-// How many bytes after the output are watched.
-const BEHIND: usize = 16;
 
 const MOST_ROOM: usize = 4096;
 
@@ -153,71 +149,49 @@ fn agrees(file: &[u8], record: Record, output: &mut [u8]) -> bool
     true
 }
 
-// Whether as much of the answer as is known is the stored one.
+// Whether as much of the answer as is known is the stored one, and what was written is what was stored.
 fn agrees_under(file: &[u8], record: Record, version: u32, output: &mut [u8]) -> bool
     requires { ⌜ TrialLies (length (now file)) «record» × (4111 < length (now output)) ⌝ }
 {
-    if record.known / 4 % 2 == 1 {
-        return agrees_in_kind(file, record, version, output);
+    let room = record.room;
+    output::clear(output, room);
+    let trial = trial_of(file, record, version, output);
+    let stored = record.stored;
+    let known = record.known;
+    if !is_same_kind(trial, stored, known) {
+        return false;
     }
-    agrees_whole(file, record, version, output)
+    if known / 4 % 2 == 1 {
+        return true;
+    }
+    if !is_same_work(trial, stored, known) {
+        return false;
+    }
+    let value = record.value;
+    let next = record.next;
+    output::holds(output, room, file, value, next)
+}
+
+fn trial_of(file: &[u8], record: Record, version: u32, output: &mut [u8]) -> Trial
+    requires { ⌜ TrialLies (length (now file)) «record» × (4111 < length (now output)) ⌝ }
+{
+    let room = record.room;
+    let texts = record.texts;
+    let pattern = texts.pattern;
+    let replacement = texts.replacement;
+    let subject = texts.subject;
+    let answer = texts.answer;
+    gsub::gsub(
+        version,
+        &file[pattern..replacement],
+        &file[replacement..subject],
+        &file[subject..answer],
+        record.budget,
+        &mut output[0..room],
+    )
 }
 
 // Whether number and kind are the stored ones.
-fn agrees_in_kind(file: &[u8], record: Record, version: u32, output: &mut [u8]) -> bool
-    requires { ⌜ TrialLies (length (now file)) «record» × (4111 < length (now output)) ⌝ }
-{
-    let room = record.room;
-    let texts = record.texts;
-    let pattern = texts.pattern;
-    let replacement = texts.replacement;
-    let subject = texts.subject;
-    let answer = texts.answer;
-    let trial = gsub::gsub(
-        version,
-        &file[pattern..replacement],
-        &file[replacement..subject],
-        &file[subject..answer],
-        record.budget,
-        &mut output[0..room],
-    );
-    let stored = record.stored;
-    is_same_kind(trial, stored, record.known)
-}
-
-// Whether the answer and what was written are the stored ones, and no other byte of the output or after it was written.
-fn agrees_whole(file: &[u8], record: Record, version: u32, output: &mut [u8]) -> bool
-    requires { ⌜ TrialLies (length (now file)) «record» × (4111 < length (now output)) ⌝ }
-{
-    let room = record.room;
-    let watched = room + BEHIND;
-    bytes::fill(output, watched, UNTOUCHED);
-    let texts = record.texts;
-    let pattern = texts.pattern;
-    let replacement = texts.replacement;
-    let subject = texts.subject;
-    let answer = texts.answer;
-    let trial = gsub::gsub(
-        version,
-        &file[pattern..replacement],
-        &file[replacement..subject],
-        &file[subject..answer],
-        record.budget,
-        &mut output[0..room],
-    );
-    let stored = record.stored;
-    if !is_same(trial, stored, record.known) {
-        return false;
-    }
-    let written = stored.written;
-    let value = record.value;
-    let next = record.next;
-    if !check::same(&output[0..written], &file[value..next]) {
-        return false;
-    }
-    bytes::is_filled(output, written, watched, UNTOUCHED)
-}
-
 fn is_same_kind(given: Trial, stored: Answer, known: u32) -> bool {
     if given.number != stored.number {
         return false;
@@ -228,10 +202,8 @@ fn is_same_kind(given: Trial, stored: Answer, known: u32) -> bool {
     given.kind == stored.kind
 }
 
-fn is_same(given: Trial, stored: Answer, known: u32) -> bool {
-    if !is_same_kind(given, stored, known) {
-        return false;
-    }
+// Whether the replacements, the steps where they are known, and the length of what was written are the stored ones.
+fn is_same_work(given: Trial, stored: Answer, known: u32) -> bool {
     if given.replacements != stored.replacements {
         return false;
     }

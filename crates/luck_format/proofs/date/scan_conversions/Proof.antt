@@ -15,6 +15,11 @@ Inv-loop text has-options at₀ at = (at ≤ length text) × (laws.on has-option
 abbrev μ-loop : tie.MeasureT-loop
 μ-loop text has-options at₀ at = length text - at
 
+-- where a turn begins
+here : (c : tie.In-loop Inv-loop μ-loop)
+    → laws.Here (c .before .before .before .args .has-options) (c .before .before .before .args .text .now) (c .before .loop .at) (conversionsWalk (c .before .before .before .args .has-options) (c .before .before .before .args .text .now))
+here c = record { there = c .loop-test .taken; walked = c .before .loop .inv .1 }
+
 loop-holds : tie.Need-loop-holds Inv-loop μ-loop
 loop-holds c = (omega arith, laws.start _ _)
 
@@ -28,16 +33,16 @@ loop-less : tie.Need-loop-less Inv-loop μ-loop
 loop-less c = search needs
 
 loop-again : tie.Need-loop-again Inv-loop μ-loop
-loop-again c = (omega arith, laws.passes-byte (c .before .before .before .before .before .args .has-options) (c .before .before .before .before .before .args .text .now) (c .before .before .before .loop .at) (c .before .before .loop-test .taken) (c .if1 .taken) ∙ c .before .before .before .loop .inv .1)
+loop-again c = (omega arith, laws.passes-byte (here (c .before .before)) (c .if1 .taken))
 
 sub-if2 : tie.Need-sub-if2 Inv-loop μ-loop
 sub-if2 c = search needs
 
 returns : tie.Need-returns Inv-loop μ-loop
-returns c = laws.lone-strict (c .before .before .before .before .before .before .before .args .has-options) (c .before .before .before .before .before .before .before .args .text .now) (c .before .before .before .before .before .loop .at) (c .before .before .before .before .loop-test .taken) (c .before .before .if1 .left) (omega arith) (c .if3 .taken) ∙ c .before .before .before .before .before .loop .inv .1
+returns c = laws.lone-strict (here (c .before .before .before .before)) (c .before .before .if1 .left) (omega arith) (c .if3 .taken)
 
 returns-2 : tie.Need-returns-2 Inv-loop μ-loop
-returns-2 c = laws.lone-lenient (c .before .before .before .before .before .before .before .args .has-options) (c .before .before .before .before .before .before .before .args .text .now) (c .before .before .before .before .before .loop .at) (c .before .before .before .before .loop-test .taken) (c .before .before .if1 .left) (omega arith) (c .if3 .left) ∙ c .before .before .before .before .before .loop .inv .1
+returns-2 c = laws.lone-lenient (here (c .before .before .before .before)) (c .before .before .if1 .left) (omega arith) (c .if3 .left)
 
 conversion-width-requires : tie.Need-conversion-width-requires Inv-loop μ-loop
 conversion-width-requires c κs = omega arith
@@ -46,7 +51,7 @@ add-t12 : tie.Need-add-t12 Inv-loop μ-loop
 add-t12 c = search needs
 
 returns-3 : tie.Need-returns-3 Inv-loop μ-loop
-returns-3 c = laws.no-conversion (c .before .before .before .before .before .before .before .before .args .has-options) (c .before .before .before .before .before .before .before .before .args .text .now) (c .before .before .before .before .before .before .loop .at) (c .before .before .before .before .before .loop-test .taken) (c .before .before .before .if1 .left) (omega arith) (sym (c .before .conversion-width .ensures .0) ∙ c .if4 .taken) ∙ c .before .before .before .before .before .before .loop .inv .1
+returns-3 c = laws.no-conversion (here (c .before .before .before .before .before)) (c .before .before .before .if1 .left) (omega arith) (sym (c .before .conversion-width .ensures .0) ∙ c .if4 .taken)
 
 add-at-2 : tie.Need-add-at-2 Inv-loop μ-loop
 add-at-2 c = omega (arith, c .before .conversion-width .ensures .1)
@@ -55,10 +60,12 @@ loop-less-2 : tie.Need-loop-less-2 Inv-loop μ-loop
 loop-less-2 c = omega (arith, c .before .conversion-width .ensures .1)
 
 loop-again-2 : tie.Need-loop-again-2 Inv-loop μ-loop
-loop-again-2 c = (c .before .conversion-width .ensures .1, laws.passes-conversion (c .before .before .before .before .before .before .before .before .args .has-options) (c .before .before .before .before .before .before .before .before .args .text .now) (c .before .before .before .before .before .before .loop .at) (c .before .before .before .before .before .loop-test .taken) (c .before .before .before .if1 .left) (omega arith) (c .before .conversion-width .result) (c .before .conversion-width .ensures .0) (c .if4 .left) (c .before .conversion-width .ensures .1) ∙ c .before .before .before .before .before .before .loop .inv .1)
+loop-again-2 c =
+    let w = c .before .conversion-width in
+    (w .ensures .1, laws.passes-conversion (here (c .before .before .before .before .before)) (c .before .before .before .if1 .left) (omega arith) (w .result) (w .ensures .0) (c .if4 .left) (w .ensures .1))
 
 returns-4 : tie.Need-returns-4 Inv-loop μ-loop
-returns-4 c = laws.at-end (c .before .before .before .args .has-options) (c .before .before .before .args .text .now) (c .before .loop .at) (c .loop-test .left) ∙ c .before .loop .inv .1
+returns-4 c = laws.at-end _ _ (c .before .loop .at) (c .loop-test .left) ∙ c .before .loop .inv .1
 
 pub scan-conversions-spec : {M : Type 1} → statement M
 scan-conversions-spec =

@@ -12,7 +12,7 @@ contains-requires : tie.Need-contains-requires
 contains-requires c κs = search needs
 
 returns : tie.Need-returns
-returns c = byte-sized (c .before .before .before .args .byte) (sym (c .before .contains .ensures) ∙ c .if1 .taken)
+returns c = byte-sized _ (sym (c .before .contains .ensures) ∙ c .if1 .taken)
 
 slice-aggregate-contains-2 : tie.Need-slice-aggregate-contains-2
 slice-aggregate-contains-2 c = search needs
@@ -21,7 +21,7 @@ contains-requires-2 : tie.Need-contains-requires-2
 contains-requires-2 c κs = search needs
 
 returns-2 : tie.Need-returns-2
-returns-2 c = short-sized (c .before .before .before .before .before .before .args .byte) (sym (c .before .contains2 .ensures) ∙ c .if2 .taken)
+returns-2 c = short-sized _ (sym (c .before .contains2 .ensures) ∙ c .if2 .taken)
 
 slice-aggregate-contains-3 : tie.Need-slice-aggregate-contains-3
 slice-aggregate-contains-3 c = search needs
@@ -30,7 +30,7 @@ contains-requires-3 : tie.Need-contains-requires-3
 contains-requires-3 c κs = search needs
 
 returns-3 : tie.Need-returns-3
-returns-3 c = int-sized (c .before .before .before .before .before .before .before .before .before .args .byte) (sym (c .before .contains3 .ensures) ∙ c .if3 .taken)
+returns-3 c = int-sized _ (sym (c .before .contains3 .ensures) ∙ c .if3 .taken)
 
 slice-aggregate-contains-4 : tie.Need-slice-aggregate-contains-4
 slice-aggregate-contains-4 c = search needs
@@ -39,16 +39,16 @@ contains-requires-4 : tie.Need-contains-requires-4
 contains-requires-4 c κs = search needs
 
 returns-4 : tie.Need-returns-4
-returns-4 c = double-sized (c .before .before .before .before .before .before .before .before .before .before .before .before .args .byte) (sym (c .before .contains4 .ensures) ∙ c .if4 .taken)
+returns-4 c = double-sized _ (sym (c .before .contains4 .ensures) ∙ c .if4 .taken)
 
 returns-5 : tie.Need-returns-5
-returns-5 c = zero-terminated (c .before .before .before .before .before .before .before .before .before .before .before .before .before .args .byte) (c .if5 .taken)
+returns-5 c = zero-terminated _ (c .if5 .taken)
 
 returns-6 : tie.Need-returns-6
-returns-6 c = padding (c .before .before .before .before .before .before .before .before .before .before .before .before .before .before .args .byte) (c .if6 .taken)
+returns-6 c = padding _ (c .if6 .taken)
 
 returns-7 : tie.Need-returns-7
-returns-7 c = aligning (c .before .before .before .before .before .before .before .before .before .before .before .before .before .before .before .args .byte) (c .if7 .taken)
+returns-7 c = aligning _ (c .if7 .taken)
 
 slice-aggregate-contains-5 : tie.Need-slice-aggregate-contains-5
 slice-aggregate-contains-5 c = search needs
@@ -57,10 +57,10 @@ contains-requires-5 : tie.Need-contains-requires-5
 contains-requires-5 c κs = search needs
 
 returns-8 : tie.Need-returns-8
-returns-8 c = control (c .before .before .before .before .before .before .before .before .before .before .before .before .before .before .before .before .before .before .args .byte) (sym (c .before .contains5 .ensures) ∙ c .if8 .taken)
+returns-8 c = control _ (sym (c .before .contains5 .ensures) ∙ c .if8 .taken)
 
 returns-9 : tie.Need-returns-9
-returns-9 c = no-plain (c .before .before .before .before .before .before .before .before .before .before .before .before .before .before .before .before .before .before .args .byte) (sym (c .before .before .before .before .before .before .before .before .before .before .before .before .before .before .before .before .contains .ensures) ∙ c .before .before .before .before .before .before .before .before .before .before .before .before .before .before .before .if1 .left) (sym (c .before .before .before .before .before .before .before .before .before .before .before .before .before .contains2 .ensures) ∙ c .before .before .before .before .before .before .before .before .before .before .before .before .if2 .left) (sym (c .before .before .before .before .before .before .before .before .before .before .contains3 .ensures) ∙ c .before .before .before .before .before .before .before .before .before .if3 .left) (sym (c .before .before .before .before .before .before .before .contains4 .ensures) ∙ c .before .before .before .before .before .before .if4 .left) (c .before .before .before .before .before .if5 .left) (c .before .before .before .before .if6 .left) (c .before .before .before .if7 .left) (sym (c .before .contains5 .ensures) ∙ c .if8 .left)
+returns-9 c = no-plain _ (sym (c .before .before .before .before .before .before .before .before .before .before .before .before .before .before .before .before .contains .ensures) ∙ c .before .before .before .before .before .before .before .before .before .before .before .before .before .before .before .if1 .left) (sym (c .before .before .before .before .before .before .before .before .before .before .before .before .before .contains2 .ensures) ∙ c .before .before .before .before .before .before .before .before .before .before .before .before .if2 .left) (sym (c .before .before .before .before .before .before .before .before .before .before .contains3 .ensures) ∙ c .before .before .before .before .before .before .before .before .before .if3 .left) (sym (c .before .before .before .before .before .before .before .contains4 .ensures) ∙ c .before .before .before .before .before .before .if4 .left) (c .before .before .before .before .before .if5 .left) (c .before .before .before .before .if6 .left) (c .before .before .before .if7 .left) (sym (c .before .contains5 .ensures) ∙ c .if8 .left)
 
 pub plain-option-spec : {M : Type 1} → statement M
 plain-option-spec =

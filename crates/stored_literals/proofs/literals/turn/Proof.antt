@@ -29,7 +29,7 @@ returns : tie.Need-returns
 returns c =
     let args = c .before .before .before .before .before .before .before .before .args in
     let h = subst (LiesBehind (args .at) (length (args .file .now))) (c .before .before .before .before .read .given .1) (c .before .before .before .before .before .before .record-at .ensures) in
-    (h .1, h .0 .next)
+    (h .1, h .0 .inside)
 
 returns-2 : tie.Need-returns-2
 returns-2 c = search needs
