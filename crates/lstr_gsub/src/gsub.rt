@@ -63,7 +63,7 @@ fn run_rounds(
         if 1 < attempt.number {
             return Trial {
                 number: attempt.number as u32,
-                kind: attempt.more as u32,
+                kind: attempt.kind as u32,
                 written,
                 replacements,
                 steps,
@@ -79,7 +79,7 @@ fn run_rounds(
                     is_51,
                     place,
                     end,
-                    attempt.more as usize,
+                    attempt.count as usize,
                     &kept,
                     output,
                     written,
@@ -145,7 +145,7 @@ fn run_anchored(
     if 1 < attempt.number {
         return Trial {
             number: attempt.number as u32,
-            kind: attempt.more as u32,
+            kind: attempt.kind as u32,
             written: 0,
             replacements: 0,
             steps,
@@ -168,7 +168,7 @@ fn run_anchored(
         is_51,
         0,
         end,
-        attempt.more as usize,
+        attempt.count as usize,
         &kept,
         output,
         0,
