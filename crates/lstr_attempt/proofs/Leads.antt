@@ -11,35 +11,30 @@ use lib.Dec.{ltb}
 use borrow.Author.Tests.{lt-ltb, le-ltb}
 use Rattle.luck_text.specs.Bytes.{if_then_else_}
 use Rattle.luck_text.proofs.Cases.{if-true, if-false, order}
-use Rattle.luck_pattern.specs.Items.{Single, Repeat, once, star, plus, Item, start-capture, position-capture, single, items}
+use Rattle.luck_pattern.specs.Items.{Single, Repeat, once, optional, star, plus, minus, repeatWidth, Item, start-capture, position-capture, single, items}
 use Rattle.lstr_class.specs.Class.{matchClass}
-use Rattle.lstr_item.specs.Match.{Capture, opened, position, Outcome, matched, failed, stopped, Rest, due, newLevel, orElse, startCapture, passedOver, Reach, reach, reached, spent, longestFirst, maxExpand, fitsAt, expand, doItem, match}
-use Rattle.lstr_item.specs.Inner.{Then, reachOf, positional, noPair, pairsOf, capturesOf, PairIn, Sound}
-use Rattle.lstr_match.specs.Inner.{AttemptIn}
+use Rattle.lstr_item.specs.Match.{Capture, opened, position, Outcome, matched, failed, stopped, Rest, due, newLevel, orElse, startCapture, Reach, reach, reached, spent, longestFirst, maxExpand, fitsAt, expand, doItem, match}
+use Rattle.lstr_item.specs.Inner.{Then, isOnce, hasToFit, isGreedy, reachOf, capturesIn, KeptIn, positional, noPair, pairsOf, capturesOf, PairIn, Sound}
+use Rattle.lstr_match.specs.Inner.{outcomeOf, AttemptIn, MatchesAs}
 use Rattle.lstr_attempt.specs.Inner.{FailsBy, LeadsTo, GoesOn, LastIn, LeadIn}
 use Rattle.lstr_attempt.specs.declared.attempt.Lead.{Lead}
 use Rattle.lstr_item.specs.declared.capture.Captures.{Captures}
 use Rattle.lstr_item.specs.declared.capture.Pair.{Pair}
-use Rattle.lstr_match.specs.declared.matcher.Attempt.{Attempt}
+use Rattle.lstr_match.specs.declared.outcome.Attempt.{Attempt}
 use Rattle.lstr_item.specs.declared.single.Reached.{Reached}
 use Rattle.lstr_item.proofs.Items.{items-end}
 use Rattle.lstr_item.proofs.Turns as turns
 use Rattle.lstr_match.proofs.Repeats as repeats
 
-pub false-true : _≡_ {A = Bool} false true → ⊥
-false-true e = let z : _≡_ {A = ℕ} 0 1 = cc in absurd (omega arith)
-
-pub true-false : _≡_ {A = Bool} true false → ⊥
-true-false e = false-true (sym e)
-
 -- ---- A match without captures
 
-abbrev pub bare : ℕ → ℕ → Attempt
-bare e u = record { end = e; steps = u; number = 0; more = 0 }
+none-kept : (kept : List ℕ) (len : ℕ) → KeptIn len 0 kept
+none-kept kept len = record { few = omega arith; room = omega arith; each = λ i h. absurd (omega arith) }
 
-pub bare-in : (e u : ℕ) (kept : List ℕ) (len : ℕ) → e ≤ len → AttemptIn (bare e u) kept len
-bare-in e u kept len h =
-    record { end = λ z. h; captures = λ z. record { few = omega arith; room = omega arith; each = λ i l. absurd (omega arith) } }
+pub bare-match : (r : Attempt) (e u : ℕ) (kept : List ℕ) (len : ℕ) (whole : Outcome) → MatchesAs r e 0 u → e ≤ len → matched e [] u ≡ whole
+    → (outcomeOf r kept ≡ whole) × AttemptIn r kept len
+unfolding capturesIn
+bare-match r e u kept len whole w h g = repeats.kept-matched r e 0 u kept len [] whole w h (none-kept kept len) refl g
 
 -- ---- The first capture
 
@@ -119,32 +114,33 @@ module _ (sub : List ℕ) (budget : ℕ) where
       pub end-paid : r .steps < budget → matched (r .end) cs (r .steps + 1) ≡ taken
       end-paid l = end-matches (r .end) 2 cs (r .steps) l ∙ at-reach
 
-  module _ (pat : List ℕ) (p s : ℕ) (cs : List Capture) (u : ℕ) (h : u < budget) (q : ℕ) (x : Single) (last : length pat ≤ q)
-      (f : fitsAt matchClass sub x s ≡ true) where
-    rest-ends : (r : Repeat) → Then pat p (single x r) q
+  module _ (pat : List ℕ) (p s : ℕ) (cs : List Capture) (u : ℕ) (h : u < budget) (e : ℕ) (x : Single) (f : fitsAt matchClass sub x s ≡ true) where
+    rest-ends : (r : Repeat) (q : ℕ) → length pat ≤ q → Then pat p (single x r) q
         → expand matchClass sub budget x r ending s 1 cs (u + 1) ≡ match matchClass sub budget (items pat p) s 1 cs u
-    rest-ends r t =
+    rest-ends r q last t =
         ap (λ (is : List Item). expand matchClass sub budget x r (match matchClass sub budget is) s 1 cs (u + 1)) (sym (items-end pat q last))
         ∙ turns.fitting sub pat budget p s 1 cs u h q x r t f
 
-    pub last-star : Then pat p (single x star) q
-        → maxExpand (reach matchClass sub budget x (length sub - (s + 1)) (s + 1) (u + 1)) ending s 1 cs ≡ match matchClass sub budget (items pat p) s 1 cs u
-    last-star t = repeats.star-on sub budget x ending s 1 cs (u + 1) _ refl ∙ rest-ends star t
-
-    pub last-plus : Then pat p (single x plus) q
-        → maxExpand (reach matchClass sub budget x (length sub - (s + 1)) (s + 1) (u + 1)) ending (s + 1) 1 cs ≡ match matchClass sub budget (items pat p) s 1 cs u
-    last-plus t = repeats.plus-on sub budget x ending s 1 cs (u + 1) _ refl ∙ rest-ends plus t
+    -- with the least bytes that its repeat takes
+    pub last-greedy : (k : Repeat) → isGreedy k ≡ true → length pat ≤ e + 1 → Then pat p (single x k) (e + repeatWidth k)
+        → (shortest : ℕ)
+        × (shortest ≤ s + 1)
+        × (maxExpand (reach matchClass sub budget x (length sub - (s + 1)) (s + 1) (u + 1)) ending shortest 1 cs
+        ≡ match matchClass sub budget (items pat p) s 1 cs u)
+    unfolding repeatWidth
+    last-greedy once g l t = absurd (turns.false-true g)
+    last-greedy optional g l t = absurd (turns.false-true g)
+    last-greedy star g l t = (s, omega arith, repeats.star-on sub budget x ending s 1 cs (u + 1) _ refl ∙ rest-ends star (e + 1) l t)
+    last-greedy plus g l t = (s + 1, omega arith, repeats.plus-on sub budget x ending s 1 cs (u + 1) _ refl ∙ rest-ends plus (e + 1) l t)
+    last-greedy minus g l t = absurd (turns.false-true g)
 
 -- ---- The first test
 
-module _ (sub : List ℕ) (budget s l : ℕ) (cs : List Capture) (u : ℕ) (h : u < budget) (x : Single) (is : List Item) (f : fitsAt matchClass sub x s ≡ false) where
-  pub once-fails : match matchClass sub budget (single x once ∷ is) s l cs u ≡ failed (u + 1)
-  unfolding match due doItem passedOver if_then_else_
-  once-fails = rw (lt-ltb u budget h, f)
-
-  pub plus-fails : match matchClass sub budget (single x plus ∷ is) s l cs u ≡ failed (u + 1)
-  unfolding match due doItem passedOver if_then_else_
-  plus-fails = rw (lt-ltb u budget h, f)
+required-fails : (sub : List ℕ) (budget s l : ℕ) (cs : List Capture) (u : ℕ) → u < budget → (x : Single) (k : Repeat) → hasToFit k ≡ true → (is : List Item)
+    → fitsAt matchClass sub x s ≡ false → match matchClass sub budget (single x k ∷ is) s l cs u ≡ failed (u + 1)
+unfolding match due doItem
+required-fails sub budget s l cs u h x k r is f =
+    if-true _ _ _ (lt-ltb u budget h) ∙ if-false _ _ _ f ∙ sym (turns.not-passed (match matchClass sub budget is) s l cs (u + 1) k r)
 
 module _ (pat : List ℕ) where
   pub no-lead : (x : Lead) → x .steps ≡ 0 → x .«goes_on» ≡ false → x .«is_last» ≡ false → x .«is_skipped» ≡ false → LeadIn pat x
@@ -152,46 +148,37 @@ module _ (pat : List ℕ) where
       record {
         single = λ h. absurd (omega arith);
         fails = λ h. absurd (omega arith);
-        skips = λ e. absurd (false-true (sym k ∙ e));
-        goes = λ e. absurd (false-true (sym g ∙ e));
-        last = λ e. absurd (false-true (sym l ∙ e));
+        skips = λ e. absurd (turns.false-true (sym k ∙ e));
+        goes = λ e. absurd (turns.false-true (sym g ∙ e));
+        last = λ e. absurd (turns.false-true (sym l ∙ e));
       }
 
   -- the single stands first
-  module _ (x : Single) (q : ℕ) where
-    pub first-once : Then pat 0 (single x once) q → FailsBy pat 1 x
-    first-once t sub budget s u h f =
-        ap (λ (i : List Item). match matchClass sub budget i s 1 [] u) (t .is) ∙ once-fails sub budget s 1 [] u (omega arith) x (items pat q) f
+  module _ (x : Single) (e : ℕ) (k : Repeat) (at : Then pat 0 (single x k) (e + repeatWidth k)) where
+    pub first-required : hasToFit k ≡ true → FailsBy pat 1 x
+    first-required r sub budget s u h f =
+        ap (λ (i : List Item). match matchClass sub budget i s 1 [] u) (at .is)
+        ∙ required-fails sub budget s 1 [] u (omega arith) x k r (items pat (e + repeatWidth k)) f
 
-    pub first-plus : Then pat 0 (single x plus) q → FailsBy pat 1 x
-    first-plus t sub budget s u h f =
-        ap (λ (i : List Item). match matchClass sub budget i s 1 [] u) (t .is) ∙ plus-fails sub budget s 1 [] u (omega arith) x (items pat q) f
-
-    pub first-passed : Then pat 0 (single x once) q → GoesOn pat x true q 1
-    first-passed at =
+    pub first-passed : isOnce k ≡ true → GoesOn pat x true e 1
+    first-passed o =
         record {
-          inside = at .inside;
-          on = λ sub budget s t u e h f.
-              ap (λ (y : ℕ). match matchClass sub budget (items pat q) y 1 [] (u + 1)) e
-              ∙ repeats.once-on sub budget x (match matchClass sub budget (items pat q)) s 1 [] (u + 1)
-              ∙ turns.fitting sub pat budget 0 s 1 [] u h q x once at f;
+          inside = turns.behind-once pat 0 e x k at o .1;
+          on = λ sub budget s t u z h f.
+              ap (λ (y : ℕ). match matchClass sub budget (items pat e) y 1 [] (u + 1)) z ∙ turns.fit-once sub pat budget 0 s 1 [] u h e x k at o f;
         }
 
-    pub first-skipped : Then pat 0 (single x star) q → GoesOn pat x false q 0
-    unfolding passedOver
-    first-skipped at =
+    pub first-skipped : hasToFit k ≡ false → GoesOn pat x false (e + 1) 0
+    first-skipped r =
         record {
-          inside = at .inside;
-          on = λ sub budget s t u e h f.
-              let z : t ≡ s = omega arith in
-              ap (λ (y : ℕ). match matchClass sub budget (items pat q) y 1 [] (u + 1)) z ∙ turns.unfitting sub pat budget 0 s 1 [] u h q x star at f;
+          inside = turns.behind-repeat pat 0 e x k at (turns.passed-repeats k r) .1;
+          on = λ sub budget s t u z h f.
+              let y : t ≡ s = omega arith in
+              ap (λ (n : ℕ). match matchClass sub budget (items pat (e + 1)) n 1 [] (u + 1)) y ∙ turns.unfit-passed sub pat budget 0 s 1 [] u h e x k at r f;
         }
 
-    pub only-star : Then pat 0 (single x star) q → length pat ≤ q → LastIn pat x
-    only-star t l sub budget s u h f = (s, omega arith, last-star sub budget pat 0 s [] u h q x l f t)
-
-    pub only-plus : Then pat 0 (single x plus) q → length pat ≤ q → LastIn pat x
-    only-plus t l sub budget s u h f = (s + 1, omega arith, last-plus sub budget pat 0 s [] u h q x l f t)
+    pub only-greedy : isGreedy k ≡ true → length pat ≤ e + 1 → LastIn pat x
+    only-greedy g l sub budget s u h f = last-greedy sub budget pat 0 s [] u h e x f k g l at
 
   -- a capture stands before it
   module _ (q : ℕ) (sub : List ℕ) (budget s u : ℕ) (h : u < budget) where
@@ -209,17 +196,10 @@ module _ (pat : List ℕ) where
       (on : (sub : List ℕ) (budget s u : ℕ) → u < budget
       → match matchClass sub budget (items pat 0) s 1 [] u ≡ match matchClass sub budget (items pat q) s 2 (c s ∷ []) (u + 1)) where
     leads-behind : LeadsTo pat q 2
-    leads-behind =
-        record {
-          once = λ x is e sub budget s u h f.
-              on sub budget s u (omega arith)
-              ∙ ap (λ (i : List Item). match matchClass sub budget i s 2 (c s ∷ []) (u + 1)) e
-              ∙ once-fails sub budget s 2 (c s ∷ []) (u + 1) (omega arith) x is f ∙ ap failed (omega arith);
-          plus = λ x is e sub budget s u h f.
-              on sub budget s u (omega arith)
-              ∙ ap (λ (i : List Item). match matchClass sub budget i s 2 (c s ∷ []) (u + 1)) e
-              ∙ plus-fails sub budget s 2 (c s ∷ []) (u + 1) (omega arith) x is f ∙ ap failed (omega arith);
-        }
+    leads-behind x k is r e sub budget s u h f =
+        on sub budget s u (omega arith)
+        ∙ ap (λ (i : List Item). match matchClass sub budget i s 2 (c s ∷ []) (u + 1)) e
+        ∙ required-fails sub budget s 2 (c s ∷ []) (u + 1) (omega arith) x k r is f ∙ ap failed (omega arith)
 
   pub leads-start : (q : ℕ) → Then pat 0 start-capture q → LeadsTo pat q 2
   leads-start q t = leads-behind q opened (λ sub budget s u h. behind-start q sub budget s u h t)

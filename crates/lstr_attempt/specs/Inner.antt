@@ -5,11 +5,11 @@ use mathlib.Core.Path.{_≡_}
 use mathlib.Core.Bool.{Bool, true, false}
 use mathlib.Core.List.{List, [], _∷_}
 use lib.ListN.{length}
-use Rattle.luck_pattern.specs.Items.{Single, once, plus, Item, single, items}
+use Rattle.luck_pattern.specs.Items.{Single, Repeat, Item, single, items}
 use Rattle.lstr_class.specs.Class.{matchClass}
 use Rattle.lstr_item.specs.Match.{failed, fitsAt, maxExpand, reach, match}
 use Rattle.lstr_attempt.specs.declared.attempt.Lead.{Lead}
-use Rattle.lstr_item.specs.Inner.{singleOf, SingleIn}
+use Rattle.lstr_item.specs.Inner.{singleOf, SingleIn, hasToFit}
 
 -- ---- Leads
 
@@ -19,10 +19,10 @@ FailsBy pat steps x =
     (sub : List ℕ) (budget s u : ℕ) → u + steps ≤ budget → fitsAt matchClass sub x s ≡ false
     → match matchClass sub budget (items pat 0) s 1 [] u ≡ failed (u + steps)
 
--- an attempt fails by these steps where a needed single from place p on does not fit
-pub record LeadsTo (pat : List ℕ) (p steps : ℕ) : Type 0 where
-  pub once : (x : Single) (is : List Item) → items pat p ≡ single x once ∷ is → FailsBy pat steps x
-  pub plus : (x : Single) (is : List Item) → items pat p ≡ single x plus ∷ is → FailsBy pat steps x
+-- an attempt fails by these steps where a single from place p on that has to fit does not
+abbrev pub LeadsTo : List ℕ → ℕ → ℕ → Type 0
+LeadsTo pat p steps =
+    (x : Single) (k : Repeat) (is : List Item) → hasToFit k ≡ true → items pat p ≡ single x k ∷ is → FailsBy pat steps x
 
 -- where the single fits or does not, an attempt goes on from place q of the pattern and n bytes further
 pub record GoesOn (pat : List ℕ) (x : Single) (fit : Bool) (q n : ℕ) : Type 0 where

@@ -18,7 +18,8 @@ use lstr_item::item;
 use lstr_item::item::Item;
 use lstr_item::single;
 use lstr_match::matcher;
-use lstr_match::matcher::Attempt;
+use lstr_match::outcome;
+use lstr_match::outcome::Attempt;
 
 fn no_captures() -> Captures
     ensures { λ r. ⌜ r .count ≡ 0 ⌝ }
@@ -58,12 +59,7 @@ fn first_level(
         no_captures(),
         kept,
     );
-    Attempt {
-        end: r.end,
-        steps: r.steps,
-        number: r.number,
-        more: r.more,
-    }
+    outcome::answer(r)
 }
 
 // One capture, open or a position by its length. The other pairs are not looked at.
@@ -108,12 +104,7 @@ fn first_capture(
         one_capture(place, len),
         kept,
     );
-    Attempt {
-        end: r.end,
-        steps: r.steps,
-        number: r.number,
-        more: r.more,
-    }
+    outcome::answer(r)
 }
 
 // A repeat that ends the pattern, once its single has fitted at `place`: it goes as far as it can, and the pattern's end, which takes the last step,
@@ -138,27 +129,12 @@ fn last_repeat(
 {
     let reach = single::reach(masks, subject, pattern, at, end, place + 1, budget, used);
     if reach.is_spent {
-        return Attempt {
-            end: 0,
-            steps: reach.steps,
-            number: 27,
-            more: 0,
-        };
+        return outcome::spent(reach.steps);
     }
     if budget <= reach.steps {
-        return Attempt {
-            end: 0,
-            steps: reach.steps,
-            number: 27,
-            more: 0,
-        };
+        return outcome::spent(reach.steps);
     }
-    Attempt {
-        end: reach.end,
-        steps: reach.steps + 1,
-        number: 0,
-        more: 0,
-    }
+    outcome::matched(reach.end, 0, reach.steps + 1)
 }
 
 // An attempt: a loop over the items, as do_match's, up to the first capture, or to an item that asks for a new level that can fail. Such an item is
@@ -184,89 +160,43 @@ pub fn attempt(
     let mut steps = used;
     'items: loop {
         if budget <= steps {
-            return Attempt {
-                end: 0,
-                steps,
-                number: 27,
-                more: 0,
-            };
+            return outcome::spent(steps);
         }
         let begun = steps + 1;
         let item = item::read(pattern, at);
         match item {
             Item::End => {
-                return Attempt {
-                    end: place,
-                    steps: begun,
-                    number: 0,
-                    more: 0,
-                };
+                return outcome::matched(place, 0, begun);
             }
             Item::EndAnchor => {
                 if place == subject.len() {
-                    return Attempt {
-                        end: place,
-                        steps: begun,
-                        number: 0,
-                        more: 0,
-                    };
+                    return outcome::matched(place, 0, begun);
                 }
-                return Attempt {
-                    end: 0,
-                    steps: begun,
-                    number: 1,
-                    more: 0,
-                };
+                return outcome::failed(begun);
             }
-            Item::Once(end) => {
+            Item::Single(end, repeat) => {
                 if !single::fits(masks, subject, pattern, at, end, place) {
-                    return Attempt {
-                        end: 0,
-                        steps: begun,
-                        number: 1,
-                        more: 0,
-                    };
+                    if item::has_to_fit(repeat) {
+                        return outcome::failed(begun);
+                    }
+                    steps = begun;
+                    at = end + 1;
+                    continue 'items;
                 }
-                steps = begun;
-                place += 1;
-                at = end;
-            }
-            Item::Star(end) => {
-                let next = end + 1;
-                if next < pattern.len() {
-                    break 'items;
-                }
-                if single::fits(masks, subject, pattern, at, end, place) {
-                    let r = last_repeat(masks, subject, pattern, at, end, place, budget, begun);
-                    return Attempt {
-                        end: r.end,
-                        steps: r.steps,
-                        number: r.number,
-                        more: r.more,
-                    };
-                }
-                steps = begun;
-                at = next;
-            }
-            Item::Plus(end) => {
-                if !single::fits(masks, subject, pattern, at, end, place) {
-                    return Attempt {
-                        end: 0,
-                        steps: begun,
-                        number: 1,
-                        more: 0,
-                    };
+                if item::is_once(repeat) {
+                    steps = begun;
+                    place += 1;
+                    at = end;
+                    continue 'items;
                 }
                 if end + 1 < pattern.len() {
                     break 'items;
                 }
+                if !item::is_greedy(repeat) {
+                    break 'items;
+                }
                 let r = last_repeat(masks, subject, pattern, at, end, place, budget, begun);
-                return Attempt {
-                    end: r.end,
-                    steps: r.steps,
-                    number: r.number,
-                    more: r.more,
-                };
+                return outcome::answer(r);
             }
             Item::StartCapture(next) => {
                 let r = first_capture(
@@ -280,12 +210,7 @@ pub fn attempt(
                     capture::UNFINISHED,
                     kept,
                 );
-                return Attempt {
-                    end: r.end,
-                    steps: r.steps,
-                    number: r.number,
-                    more: r.more,
-                };
+                return outcome::answer(r);
             }
             Item::PositionCapture(next) => {
                 let r = first_capture(
@@ -299,12 +224,7 @@ pub fn attempt(
                     capture::POSITION,
                     kept,
                 );
-                return Attempt {
-                    end: r.end,
-                    steps: r.steps,
-                    number: r.number,
-                    more: r.more,
-                };
+                return outcome::answer(r);
             }
             _ => {
                 break 'items;
@@ -312,12 +232,7 @@ pub fn attempt(
         }
     }
     let r = first_level(masks, subject, pattern, at, place, budget, steps, kept);
-    Attempt {
-        end: r.end,
-        steps: r.steps,
-        number: r.number,
-        more: r.more,
-    }
+    outcome::answer(r)
 }
 
 // What every attempt of a pattern tests first: the single from `at` to `end`, whose failure takes `steps`; 0 where the pattern begins otherwise.
@@ -354,22 +269,19 @@ fn lead_behind(pattern: &[u8], at: usize) -> Lead
 {
     let item = item::read(pattern, at);
     match item {
-        Item::Once(end) => Lead {
-            steps: 2,
-            at,
-            end,
-            goes_on: false,
-            is_last: false,
-            is_skipped: false,
-        },
-        Item::Plus(end) => Lead {
-            steps: 2,
-            at,
-            end,
-            goes_on: false,
-            is_last: false,
-            is_skipped: false,
-        },
+        Item::Single(end, repeat) => {
+            if !item::has_to_fit(repeat) {
+                return no_lead();
+            }
+            Lead {
+                steps: 2,
+                at,
+                end,
+                goes_on: false,
+                is_last: false,
+                is_skipped: false,
+            }
+        }
         _ => no_lead(),
     }
 }
@@ -380,30 +292,20 @@ pub fn lead_of(pattern: &[u8]) -> Lead
 {
     let item = item::read(pattern, 0);
     match item {
-        Item::Once(end) => Lead {
-            steps: 1,
-            at: 0,
-            end,
-            goes_on: true,
-            is_last: false,
-            is_skipped: false,
-        },
-        Item::Plus(end) => Lead {
-            steps: 1,
-            at: 0,
-            end,
-            goes_on: false,
-            is_last: pattern.len() <= end + 1,
-            is_skipped: false,
-        },
-        Item::Star(end) => Lead {
-            steps: 1,
-            at: 0,
-            end,
-            goes_on: false,
-            is_last: pattern.len() <= end + 1,
-            is_skipped: true,
-        },
+        Item::Single(end, repeat) => {
+            let mut is_last = false;
+            if item::is_greedy(repeat) {
+                is_last = pattern.len() <= end + 1;
+            }
+            Lead {
+                steps: 1,
+                at: 0,
+                end,
+                goes_on: item::is_once(repeat),
+                is_last,
+                is_skipped: !item::has_to_fit(repeat),
+            }
+        }
         Item::StartCapture(next) => lead_behind(pattern, next),
         Item::PositionCapture(next) => lead_behind(pattern, next),
         _ => no_lead(),
@@ -429,21 +331,11 @@ fn attempt_from(
 {
     if pattern.len() <= at {
         if used < budget {
-            return Attempt {
-                end: place,
-                steps: used + 1,
-                number: 0,
-                more: 0,
-            };
+            return outcome::matched(place, 0, used + 1);
         }
     }
     let r = attempt(masks, subject, pattern, at, place, budget, used, kept);
-    Attempt {
-        end: r.end,
-        steps: r.steps,
-        number: r.number,
-        more: r.more,
-    }
+    outcome::answer(r)
 }
 
 // An attempt whose first single fits at its place, with a step left for it.
@@ -478,12 +370,7 @@ fn attempt_fitting(
             budget,
             begun,
         );
-        return Attempt {
-            end: r.end,
-            steps: r.steps,
-            number: r.number,
-            more: r.more,
-        };
+        return outcome::answer(r);
     }
     if lead.goes_on {
         let r = attempt_from(
@@ -496,20 +383,10 @@ fn attempt_fitting(
             begun,
             kept,
         );
-        return Attempt {
-            end: r.end,
-            steps: r.steps,
-            number: r.number,
-            more: r.more,
-        };
+        return outcome::answer(r);
     }
     let r = attempt(masks, subject, pattern, 0, place, budget, used, kept);
-    Attempt {
-        end: r.end,
-        steps: r.steps,
-        number: r.number,
-        more: r.more,
-    }
+    outcome::answer(r)
 }
 
 // An attempt at a place of the subject: most fail by the first test, whose steps are counted at once.
@@ -534,12 +411,7 @@ pub fn attempt_at(
         if steps <= budget - used {
             if single::fits(masks, subject, pattern, lead.at, lead.end, place) {
                 let r = attempt_fitting(masks, subject, pattern, lead, place, budget, used, kept);
-                return Attempt {
-                    end: r.end,
-                    steps: r.steps,
-                    number: r.number,
-                    more: r.more,
-                };
+                return outcome::answer(r);
             }
             if lead.is_skipped {
                 let r = attempt_from(
@@ -552,26 +424,11 @@ pub fn attempt_at(
                     used + 1,
                     kept,
                 );
-                return Attempt {
-                    end: r.end,
-                    steps: r.steps,
-                    number: r.number,
-                    more: r.more,
-                };
+                return outcome::answer(r);
             }
-            return Attempt {
-                end: 0,
-                steps: used + steps,
-                number: 1,
-                more: 0,
-            };
+            return outcome::failed(used + steps);
         }
     }
     let r = attempt_from(masks, subject, pattern, 0, place, budget, used, kept);
-    Attempt {
-        end: r.end,
-        steps: r.steps,
-        number: r.number,
-        more: r.more,
-    }
+    outcome::answer(r)
 }

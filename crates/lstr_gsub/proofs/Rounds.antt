@@ -26,7 +26,7 @@ use Rattle.lstr_item.specs.Inner.{capturesIn}
 use Rattle.lstr_match.specs.Inner.{outcomeBy, outcomeOf}
 use Rattle.lstr_write.specs.Inner.{wroteOf, WroteAs}
 use Rattle.lstr_gsub.specs.Inner.{Reported, writerBy}
-use Rattle.lstr_match.specs.declared.matcher.Attempt.{Attempt}
+use Rattle.lstr_match.specs.declared.outcome.Attempt.{Attempt}
 use Rattle.lstr_write.specs.declared.replace.Wrote.{Wrote as Written}
 use Rattle.lstr_gsub.proofs.Runs.{WroteFine, append-fine}
 use Rattle.lstr_laws.proofs.Forward.{Onward, onward}
@@ -80,7 +80,7 @@ module _ (inClass : ℕ → ℕ → Bool) (sub : List ℕ) (budget room : ℕ) (
 -- ---- An attempt of the code
 
 module _ (r : Attempt) (kept : List ℕ) where
-  pub is-match : r .number ≡ 0 → outcomeOf r kept ≡ matched (r .end) (capturesIn (r .more) kept) (r .steps)
+  pub is-match : r .number ≡ 0 → outcomeOf r kept ≡ matched (r .end) (capturesIn (r .count) kept) (r .steps)
   unfolding outcomeOf outcomeBy
   is-match z = rw (eq-eqb (r .number) 0 z)
 
@@ -90,7 +90,7 @@ module _ (r : Attempt) (kept : List ℕ) where
       let n : r .number ≡ 0 → ⊥ = λ e. omega arith in
       rw (ne-eqb (r .number) 0 n, eq-eqb (r .number) 1 z)
 
-  pub is-stop : 1 < r .number → outcomeOf r kept ≡ stopped (r .number) (r .more) (r .steps)
+  pub is-stop : 1 < r .number → outcomeOf r kept ≡ stopped (r .number) (r .kind) (r .steps)
   unfolding outcomeOf outcomeBy
   is-stop h =
       let n : r .number ≡ 0 → ⊥ = λ e. omega arith in
@@ -163,11 +163,11 @@ module _ (sub : List ℕ) (budget : ℕ) (strict : Bool) (rep : List ℕ) (is : 
         ap (λ (x : Outcome). round sub (length entry) write all x place (lastOf after) out n) o
         ∙ sym (one-round matchClass sub budget (length entry) write is place (lastOf after) out n u) ∙ going .answers
 
-    pub stopping : 1 < r .number → answer (r .number) (r .more) out n (r .steps) ≡ whole
+    pub stopping : 1 < r .number → answer (r .number) (r .kind) out n (r .steps) ≡ whole
     unfolding round
     stopping h = sym (ap (λ (x : Outcome). round sub (length entry) write all x place (lastOf after) out n) (is-stop r kept h)) ∙ turn
 
-    on-match : (z : r .number ≡ 0) → Onward matchClass sub budget place (u + 1) (matched (r .end) (capturesIn (r .more) kept) (r .steps))
+    on-match : (z : r .number ≡ 0) → Onward matchClass sub budget place (u + 1) (matched (r .end) (capturesIn (r .count) kept) (r .steps))
     on-match z = subst (λ (x : Outcome). Onward matchClass sub budget place (u + 1) x) (sym o ∙ is-match r kept z) (onward matchClass sub budget is place u)
 
     on-failure : (z : r .number ≡ 1) → Onward matchClass sub budget place (u + 1) (failed (r .steps))
@@ -182,20 +182,20 @@ module _ (sub : List ℕ) (budget : ℕ) (strict : Bool) (rep : List ℕ) (is : 
 
     -- a match that is replaced
     module _ (z : r .number ≡ 0) (new : r .end + 1 ≡ after → ⊥) where
-      replaces : andWrote (write place (r .end) (capturesIn (r .more) kept) out) (n + 1) (r .steps) (λ now. all (r .end) (some (r .end)) now (n + 1) (r .steps)) ≡ whole
+      replaces : andWrote (write place (r .end) (capturesIn (r .count) kept) out) (n + 1) (r .steps) (λ now. all (r .end) (some (r .end)) now (n + 1) (r .steps)) ≡ whole
       unfolding round
       replaces =
           sym (if-false _ _ _ (again-false (r .end) after new))
           ∙ sym (ap (λ (x : Outcome). round sub (length entry) write all x place (lastOf after) out n) (is-match r kept z)) ∙ turn
 
       module _ (w : Written) (exit : List ℕ)
-          (more : WroteAs w at output exit (addPieces sub (length output) place (r .end) (capturesIn (r .more) kept) strict (pieces rep) out))
+          (more : WroteAs w at output exit (addPieces sub (length output) place (r .end) (capturesIn (r .count) kept) strict (pieces rep) out))
           (same : length exit ≡ length output) where
         written : andWrote (wroteOf w (take (w .at) exit)) (n + 1) (r .steps) (λ now. all (r .end) (some (r .end)) now (n + 1) (r .steps)) ≡ whole
         unfolding writerBy
         written =
             ap (λ (x : Wrote). andWrote x (n + 1) (r .steps) (λ now. all (r .end) (some (r .end)) now (n + 1) (r .steps)))
-            (more .is ∙ ap (λ (room : ℕ). addPieces sub room place (r .end) (capturesIn (r .more) kept) strict (pieces rep) out) (going .upto .same))
+            (more .is ∙ ap (λ (room : ℕ). addPieces sub room place (r .end) (capturesIn (r .count) kept) strict (pieces rep) out) (going .upto .same))
             ∙ replaces
 
         pub goes-upto : Upto 0 entry (w .at) exit
@@ -301,9 +301,9 @@ module _ (sub : List ℕ) (budget : ℕ) (strict : Bool) (rep : List ℕ) (is : 
   by-outcome : (x : Outcome) → outcomeOf r kept ≡ x → anchoredRound sub (length entry) (writerBy strict rep sub (length entry)) x ≡ anchored
   by-outcome x e = ap (anchoredRound sub (length entry) (writerBy strict rep sub (length entry))) (sym e ∙ o)
 
-  pub anchored-stops : 1 < r .number → answer (r .number) (r .more) [] 0 (r .steps) ≡ anchored
+  pub anchored-stops : 1 < r .number → answer (r .number) (r .kind) [] 0 (r .steps) ≡ anchored
   unfolding anchoredRound
-  anchored-stops h = by-outcome (stopped (r .number) (r .more) (r .steps)) (is-stop r kept h)
+  anchored-stops h = by-outcome (stopped (r .number) (r .kind) (r .steps)) (is-stop r kept h)
 
   pub anchored-fails : r .number ≡ 1 → (w : Written) (exit : List ℕ) → WroteAs w 0 entry exit (append (length entry) sub (take 0 entry))
       → answer (w .number) 0 (take (w .at) exit) 0 (r .steps) ≡ anchored
@@ -312,12 +312,12 @@ module _ (sub : List ℕ) (budget : ℕ) (strict : Bool) (rep : List ℕ) (is : 
       copied (length entry) sub [] w (take (w .at) exit) (more .is) 0 (r .steps) ∙ by-outcome (failed (r .steps)) (is-failure r kept z)
 
   module _ (z : r .number ≡ 0) (w : Written) (exit : List ℕ)
-      (more : WroteAs w 0 entry exit (addPieces sub (length entry) 0 (r .end) (capturesIn (r .more) kept) strict (pieces rep) (take 0 entry))) where
+      (more : WroteAs w 0 entry exit (addPieces sub (length entry) 0 (r .end) (capturesIn (r .count) kept) strict (pieces rep) (take 0 entry))) where
     replacing : andWrote (wroteOf w (take (w .at) exit)) 1 (r .steps) (λ now. copyRest sub (length entry) (r .end) now 1 (r .steps)) ≡ anchored
     unfolding anchoredRound writerBy
     replacing =
         ap (λ (x : Wrote). andWrote x 1 (r .steps) (λ now. copyRest sub (length entry) (r .end) now 1 (r .steps))) (more .is)
-        ∙ by-outcome (matched (r .end) (capturesIn (r .more) kept) (r .steps)) (is-match r kept z)
+        ∙ by-outcome (matched (r .end) (capturesIn (r .count) kept) (r .steps)) (is-match r kept z)
 
     pub anchored-ends : (w .number ≡ 0 → ⊥) → answer (w .number) (w .kind) (take (w .at) exit) 1 (r .steps) ≡ anchored
     unfolding andWrote

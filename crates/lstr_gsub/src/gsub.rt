@@ -64,7 +64,7 @@ fn run_rounds(
         if 1 < attempt.number {
             return Trial {
                 number: attempt.number as u32,
-                kind: attempt.more as u32,
+                kind: attempt.kind as u32,
                 written,
                 replacements,
                 steps,
@@ -80,7 +80,7 @@ fn run_rounds(
                     is_strict,
                     place,
                     end,
-                    attempt.more as usize,
+                    attempt.count as usize,
                     &kept,
                     output,
                     written,
@@ -146,7 +146,7 @@ fn run_anchored(
     if 1 < attempt.number {
         return Trial {
             number: attempt.number as u32,
-            kind: attempt.more as u32,
+            kind: attempt.kind as u32,
             written: 0,
             replacements: 0,
             steps,
@@ -169,7 +169,7 @@ fn run_anchored(
         is_strict,
         0,
         end,
-        attempt.more as usize,
+        attempt.count as usize,
         &kept,
         output,
         0,

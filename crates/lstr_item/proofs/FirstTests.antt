@@ -2,7 +2,7 @@
 -- Assumes nothing.
 use Prim.Native.Nat.{ℕ, _+_, _-_, _≤_, _<_}
 use native.Mathlib.Omega.{arith}
-use mathlib.Core.Path.{_≡_, refl, sym, ap, _∙_}
+use mathlib.Core.Path.{_≡_, refl, sym, ap, subst, _∙_}
 use mathlib.Core.Bool.{Bool, true}
 use mathlib.Core.List.{List}
 use mathlib.Core.Option.{Option, none, some}
@@ -11,42 +11,35 @@ use lib.Dec.{eqb}
 use borrow.Author.Tests.{eqb-true}
 use Rattle.luck_text.specs.Bytes.{byteAt}
 use Rattle.luck_text.proofs.Cases.{by-test}
-use Rattle.luck_pattern.specs.Items.{Repeat, once, optional, star, plus, minus, end-capture, repeatOf}
-use Rattle.lstr_item.specs.Match.{Capture, captureToClose, failed, Rest, newLevel, endCapture, passedOver}
-use Rattle.lstr_item.specs.Inner.{singleOf, repeatRead, Then, ItemAt}
+use Rattle.luck_pattern.specs.Items.{Repeat, end-capture, repeatOf}
+use Rattle.lstr_item.specs.Match.{Capture, captureToClose, failed, Rest, newLevel, endCapture}
+use Rattle.lstr_item.specs.Inner.{singleOf, hasToFit, Then, Single-then}
 use Rattle.lstr_item.specs.Ahead.{SingleEnds, MustFit, Sure}
-use Rattle.lstr_item.proofs.Turns.{on, level-opens, at-close, unfitting}
+use Rattle.lstr_item.proofs.Turns.{on, level-opens, at-close, unfit-fails}
+use Rattle.lstr_item.proofs.Reading.{as-read}
 
 -- ---- A single that is to fit
 
-abbrev Required : Repeat → Type 0
-Required once = Unit {0}
-Required optional = ⊥
-Required star = ⊥
-Required plus = Unit {0}
-Required minus = ⊥
+abbrev Fits : Repeat → Type 0
+Fits k = hasToFit k ≡ true
 
-required : (b : ℕ) → (b ≡ 63 → ⊥) → (b ≡ 42 → ⊥) → (b ≡ 45 → ⊥) → Required (repeatOf b)
+required : (b : ℕ) → (b ≡ 63 → ⊥) → (b ≡ 42 → ⊥) → (b ≡ 45 → ⊥) → Fits (repeatOf b)
 unfolding repeatOf
 required b o s m =
-    by-test Required (eqb b 63) _ _ (λ e. absurd (o (eqb-true b 63 e)))
-    (λ n. by-test Required (eqb b 42) _ _ (λ e. absurd (s (eqb-true b 42 e)))
-    (λ n. by-test Required (eqb b 43) _ _ (λ e. tt)
-    (λ n. by-test Required (eqb b 45) _ _ (λ e. absurd (m (eqb-true b 45 e))) (λ n. tt))))
+    by-test Fits (eqb b 63) _ _ (λ e. absurd (o (eqb-true b 63 e)))
+    (λ n. by-test Fits (eqb b 42) _ _ (λ e. absurd (s (eqb-true b 42 e)))
+    (λ n. by-test Fits (eqb b 43) _ _ (λ e. refl)
+    (λ n. by-test Fits (eqb b 45) _ _ (λ e. absurd (m (eqb-true b 45 e))) (λ n. refl))))
 
 module _ (pat : List ℕ) (p e : ℕ) where
-  to-fit : (r : Repeat) → Required r → ItemAt pat p (repeatRead e r) → MustFit pat p e
-  unfolding passedOver
-  to-fit once h i =
-      record { single = i .single; fails = λ sub budget s l cs u g f. unfitting sub pat budget p s l cs u g e (singleOf pat p e) once (i .on) f }
-  to-fit optional h i = absurd h
-  to-fit star h i = absurd h
-  to-fit plus h i =
-      record { single = i .single; fails = λ sub budget s l cs u g f. unfitting sub pat budget p s l cs u g (e + 1) (singleOf pat p e) plus (i .on) f }
-  to-fit minus h i = absurd h
+  to-fit : (k : Repeat) → hasToFit k ≡ true → Single-then pat p e k → MustFit pat p e
+  to-fit k h i =
+      record { single = i .single; fails = λ sub budget s l cs u g f. unfit-fails sub pat budget p s l cs u g e (singleOf pat p e) k (i .on) h f }
 
   pub must-fit : (byteAt pat e ≡ 63 → ⊥) → (byteAt pat e ≡ 42 → ⊥) → (byteAt pat e ≡ 45 → ⊥) → SingleEnds pat p e → MustFit pat p e
-  must-fit o s m i = to-fit (repeatOf (byteAt pat e)) (required (byteAt pat e) o s m) i
+  must-fit o s m i =
+      let k = repeatOf (byteAt pat e) in
+      to-fit k (required (byteAt pat e) o s m) (subst (Single-then pat p e) (sym (as-read k)) i)
 
   pub must-fit-last : length pat ≤ e → SingleEnds pat p e → MustFit pat p e
   must-fit-last h i =

@@ -54,7 +54,7 @@ use Rattle.luck_pattern.specs.Items.{
   items,
 }
 use Rattle.luck_pattern.proofs.Patterns as patterns
-use Rattle.lstr_item.specs.Inner.{singleOf, SingleIn, closingOf, ClosesIn, repeatRead, Then, Single-then, ItemAt}
+use Rattle.lstr_item.specs.Inner.{singleOf, SingleIn, closingOf, ClosesIn, repeatAs, repeatIn, repeatRead, Then, Single-then, ItemAt}
 use Rattle.lstr_class.specs.Inner.{foundOf}
 use Rattle.lstr_item.specs.declared.item.Item.{Item as Coded}
 use Rattle.lstr_item.specs.declared.item.Item.the-variants as coded
@@ -133,6 +133,14 @@ pub of-end : (pat : List ℕ) (q : ℕ) → length pat ≤ q → once ≡ repeat
 unfolding repeatOf if_then_else_
 of-end pat q h = rw (List·getD-eq-default pat 0 {n = q} h)
 
+-- the code's repeat is the one that was read
+pub as-read : (k : Repeat) → k ≡ repeatAs (repeatIn k)
+as-read once = refl
+as-read optional = refl
+as-read star = refl
+as-read plus = refl
+as-read minus = refl
+
 -- ---- A set, by what the code found
 
 abbrev setBy : List ℕ → ℕ → Option ℕ → Read
@@ -168,25 +176,26 @@ module _ (pat : List ℕ) (p : ℕ) (here : p < length pat) where
 
   -- a single that ends before place e, with its repeat
   module _ (e : ℕ) (lies : SingleIn pat p e) where
-    then-more : (k : Repeat) → 0 < byteAt pat e → readItem pat p ≡ item (single (singleOf pat p e) k) (e + 1) → Single-then pat p e (e + 1) (single (singleOf pat p e) k)
-    then-more k b y =
-        record { on = then-on (single (singleOf pat p e) k) (e + 1) y (omega (arith, lies .some)) (omega (arith, present pat e b)); single = lies }
+    repeat-inside : (k : Repeat) → IsRepeat (byteAt pat e) k → e + repeatWidth k ≤ length pat
+    unfolding repeatWidth
+    repeat-inside once t = omega (arith, lies .inside)
+    repeat-inside optional t = omega (arith, t, present pat e (omega (arith, t)))
+    repeat-inside star t = omega (arith, t, present pat e (omega (arith, t)))
+    repeat-inside plus t = omega (arith, t, present pat e (omega (arith, t)))
+    repeat-inside minus t = omega (arith, t, present pat e (omega (arith, t)))
 
-    then-repeat : (k : Repeat) → IsRepeat (byteAt pat e) k → readItem pat p ≡ repeated (singleOf pat p e) k e → ItemAt pat p (repeatRead e k)
-    unfolding repeated repeatWidth
-    then-repeat once t y =
-        let z : e + 0 ≡ e = omega arith in
-        record { on = then-on (single (singleOf pat p e) once) e (y ∙ ap (item (single (singleOf pat p e) once)) z) (lies .some) (lies .inside); single = lies }
-    then-repeat optional t y = then-more optional (omega (arith, t)) y
-    then-repeat star t y = then-more star (omega (arith, t)) y
-    then-repeat plus t y = then-more plus (omega (arith, t)) y
-    then-repeat minus t y = then-more minus (omega (arith, t)) y
+    then-repeat : (k : Repeat) → IsRepeat (byteAt pat e) k → readItem pat p ≡ repeated (singleOf pat p e) k e → Single-then pat p e k
+    unfolding repeated
+    then-repeat k t y =
+        record { on = then-on (single (singleOf pat p e) k) (e + repeatWidth k) y (omega (arith, lies .some)) (repeat-inside k t); single = lies }
 
     then-single : (x : Single) → x ≡ singleOf pat p e → readItem pat p ≡ readSingle pat x e → (r : Coded) → r ≡ repeatRead e (repeatOf (byteAt pat e)) → ItemAt pat p r
     unfolding readSingle
     then-single x f y r g =
+        let k = repeatOf (byteAt pat e) in
         subst (ItemAt pat p) (sym g)
-        (then-repeat (repeatOf (byteAt pat e)) (is-repeat (byteAt pat e)) (y ∙ ap (λ (z : Single). repeated z (repeatOf (byteAt pat e)) e) f))
+        (subst (Single-then pat p e) (as-read k)
+        (then-repeat k (is-repeat (byteAt pat e)) (y ∙ ap (λ (z : Single). repeated z k e) f)))
 
   read-as : (h : Head) → headOf (byteAt pat p) ≡ h → readItem pat p ≡ readHead pat p h
   unfolding readItem

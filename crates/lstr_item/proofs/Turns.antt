@@ -1,19 +1,20 @@
 -- Laws of matching from a place of the pattern on: levels, and a turn for each item.
 -- Assumes nothing.
 use Prim.Native.Nat.{ℕ, _+_, _-_, _≤_, _<_}
-use mathlib.Core.Path.{_≡_, sym, ap, _∙_}
-use mathlib.Core.Bool.{true, false}
+use native.Mathlib.Omega.{arith}
+use mathlib.Core.Path.{_≡_, refl, sym, ap, _∙_}
+use mathlib.Core.Bool.{Bool, true, false}
 use mathlib.Core.List.{List, [], _∷_}
 use mathlib.Core.Option.{none, some}
 use lib.ListN.{length}
 use borrow.Author.Tests.{lt-ltb, le-ltb, eq-eqb, ne-eqb}
 use Rattle.luck_text.specs.Bytes.{if_then_else_}
 use Rattle.luck_text.proofs.Cases.{if-true, if-false}
-use Rattle.luck_pattern.specs.Items.{Set, Single, Repeat, Item, start-capture, position-capture, end-capture, end-anchor, balance, frontier, back-reference, single, raises, items}
+use Rattle.luck_pattern.specs.Items.{Set, Single, Repeat, once, optional, star, plus, minus, repeatWidth, Item, start-capture, position-capture, end-capture, end-anchor, balance, frontier, back-reference, single, raises, items}
 use Rattle.lstr_class.specs.Class.{matchClass}
 use Rattle.lstr_item.specs.Match.{Capture, opened, position, captureToClose, Outcome, matched, failed, stopped, raised, Rest, due, newLevel, startCapture, endCapture, backReference, goesOnAt, isFrontier, passedOver, fitsAt, expand, doItem, match}
 use Rattle.lstr_class.specs.Subject.{matchBalance}
-use Rattle.lstr_item.specs.Inner.{Then}
+use Rattle.lstr_item.specs.Inner.{Then, isOnce, hasToFit, isGreedy}
 
 -- ---- Levels
 
@@ -25,6 +26,75 @@ module _ (l u : ℕ) (k : ℕ → Outcome) where
   pub level-opens : l < 200 → newLevel l u k ≡ k (l + 1)
   unfolding newLevel if_then_else_
   level-opens h = rw (lt-ltb l 200 h)
+
+-- ---- Repeats
+
+pub false-true : _≡_ {A = Bool} false true → ⊥
+false-true e = let z : _≡_ {A = ℕ} 0 1 = cc in absurd (omega arith)
+
+once-width : (k : Repeat) → isOnce k ≡ true → repeatWidth k ≡ 0
+unfolding repeatWidth
+once-width once e = refl
+once-width optional e = absurd (false-true e)
+once-width star e = absurd (false-true e)
+once-width plus e = absurd (false-true e)
+once-width minus e = absurd (false-true e)
+
+repeat-width : (k : Repeat) → isOnce k ≡ false → repeatWidth k ≡ 1
+unfolding repeatWidth
+repeat-width once e = absurd (false-true (sym e))
+repeat-width optional e = refl
+repeat-width star e = refl
+repeat-width plus e = refl
+repeat-width minus e = refl
+
+after-once : (e : ℕ) (k : Repeat) → isOnce k ≡ true → e + repeatWidth k ≡ e
+after-once e k h = let w = once-width k h in omega arith
+
+after-repeat : (e : ℕ) (k : Repeat) → isOnce k ≡ false → e + repeatWidth k ≡ e + 1
+after-repeat e k h = ap (λ (n : ℕ). e + n) (repeat-width k h)
+
+pub passed-repeats : (k : Repeat) → hasToFit k ≡ false → isOnce k ≡ false
+passed-repeats once e = absurd (false-true (sym e))
+passed-repeats optional e = refl
+passed-repeats star e = refl
+passed-repeats plus e = refl
+passed-repeats minus e = refl
+
+module _ (rest : Rest) (s l : ℕ) (cs : List Capture) (u : ℕ) where
+  pub not-passed : (k : Repeat) → hasToFit k ≡ true → failed u ≡ passedOver k rest s l cs u
+  unfolding passedOver
+  not-passed once e = refl
+  not-passed optional e = absurd (false-true e)
+  not-passed star e = absurd (false-true e)
+  not-passed plus e = refl
+  not-passed minus e = absurd (false-true e)
+
+  passed : (k : Repeat) → hasToFit k ≡ false → rest s l cs u ≡ passedOver k rest s l cs u
+  unfolding passedOver
+  passed once e = absurd (false-true (sym e))
+  passed optional e = refl
+  passed star e = refl
+  passed plus e = absurd (false-true (sym e))
+  passed minus e = refl
+
+-- a single that ends before place e, where its repeat stands: the place behind both
+module _ (pat : List ℕ) (p e : ℕ) (x : Single) (k : Repeat) (t : Then pat p (single x k) (e + repeatWidth k)) where
+  pub behind-once : isOnce k ≡ true → (p < e) × (e ≤ length pat)
+  behind-once h = let w = once-width k h in (omega (arith, t .further), omega (arith, t .inside))
+
+  pub behind-repeat : isOnce k ≡ false → (p < e + 1) × (e + 1 ≤ length pat)
+  behind-repeat h = let w = repeat-width k h in (omega (arith, t .further), omega (arith, t .inside))
+
+  greedy-repeats : (r : Repeat) → isGreedy r ≡ true → isOnce r ≡ false
+  greedy-repeats once g = absurd (false-true g)
+  greedy-repeats optional g = refl
+  greedy-repeats star g = refl
+  greedy-repeats plus g = refl
+  greedy-repeats minus g = refl
+
+  pub behind-greedy : isGreedy k ≡ true → (p < e + 1) × (e + 1 ≤ length pat)
+  behind-greedy g = behind-repeat (greedy-repeats k g)
 
 -- ---- A turn
 
@@ -104,6 +174,32 @@ module _ (sub pat : List ℕ) (budget : ℕ) where
         unfolding doItem
         fitting f = sym (if-true _ _ _ f) ∙ item (single x r) q t
 
-        pub unfitting : fitsAt matchClass sub x s ≡ false → passedOver r (on q) s l cs (u + 1) ≡ on p s l cs u
+        unfitting : fitsAt matchClass sub x s ≡ false → passedOver r (on q) s l cs (u + 1) ≡ on p s l cs u
         unfolding doItem
         unfitting f = sym (if-false _ _ _ f) ∙ item (single x r) q t
+
+    -- a single that ends before place e, where its repeat stands
+    module _ (e : ℕ) (x : Single) (k : Repeat) (t : Then pat p (single x k) (e + repeatWidth k)) where
+      pub unfit-fails : hasToFit k ≡ true → fitsAt matchClass sub x s ≡ false → failed (u + 1) ≡ on p s l cs u
+      unfit-fails h f = not-passed _ s l cs (u + 1) k h ∙ unfitting (e + repeatWidth k) x k t f
+
+      pub unfit-passed : hasToFit k ≡ false → fitsAt matchClass sub x s ≡ false → on (e + 1) s l cs (u + 1) ≡ on p s l cs u
+      unfit-passed h f =
+          ap (λ (q : ℕ). on q s l cs (u + 1)) (sym (after-repeat e k (passed-repeats k h)))
+          ∙ passed _ s l cs (u + 1) k h ∙ unfitting (e + repeatWidth k) x k t f
+
+      once-expands : (r : Repeat) → isOnce r ≡ true → (rest : Rest) → rest (s + 1) l cs (u + 1) ≡ expand matchClass sub budget x r rest s l cs (u + 1)
+      unfolding expand
+      once-expands once h rest = refl
+      once-expands optional h rest = absurd (false-true h)
+      once-expands star h rest = absurd (false-true h)
+      once-expands plus h rest = absurd (false-true h)
+      once-expands minus h rest = absurd (false-true h)
+
+      pub fit-once : isOnce k ≡ true → fitsAt matchClass sub x s ≡ true → on e (s + 1) l cs (u + 1) ≡ on p s l cs u
+      fit-once h f =
+          ap (λ (q : ℕ). on q (s + 1) l cs (u + 1)) (sym (after-once e k h)) ∙ once-expands k h _ ∙ fitting (e + repeatWidth k) x k t f
+
+      pub fit-more : isOnce k ≡ false → fitsAt matchClass sub x s ≡ true → expand matchClass sub budget x k (on (e + 1)) s l cs (u + 1) ≡ on p s l cs u
+      fit-more h f =
+          ap (λ (q : ℕ). expand matchClass sub budget x k (on q) s l cs (u + 1)) (sym (after-repeat e k h)) ∙ fitting (e + repeatWidth k) x k t f

@@ -3,14 +3,14 @@
 use Prim.Native.Nat.{ℕ, zero, suc, _+_, _-_, _<_, _≤_}
 use Prim.Native.Char.{code}
 use mathlib.Core.Path.{_≡_}
-use mathlib.Core.Bool.{true, false}
+use mathlib.Core.Bool.{Bool, true, false}
 use mathlib.Core.List.{List, [], _∷_}
 use mathlib.Core.Option.{Option, none, some}
 use lib.ListN.{length, getD}
 use lib.Dec.{eqb}
 use Rattle.luck_text.specs.Bytes.{if_then_else_, byteAt}
 use Rattle.luck_pattern.specs.Reading.{SetEnd, closes-at, cut-at, unclosed}
-use Rattle.luck_pattern.specs.Items.{Single, any, class, among-set, byte, Repeat, once, optional, star, plus, minus, Item, start-capture, position-capture, end-capture, end-anchor, balance, frontier, back-reference, single, raises, setOf, items}
+use Rattle.luck_pattern.specs.Items.{Single, any, class, among-set, byte, Repeat, once, optional, star, plus, minus, Item, start-capture, position-capture, end-capture, end-anchor, balance, frontier, back-reference, single, raises, setOf, repeatWidth, items}
 use Rattle.lstr_class.specs.Class.{matchClass}
 use Rattle.lstr_item.specs.Match.{Capture, opened, position, closed, failed, raised, Rest, Reach, reached, spent, reach}
 use Rattle.lstr_class.specs.declared.subject.Found.{Found}
@@ -24,6 +24,8 @@ use Rattle.lstr_item.specs.declared.capture.Held.{Held}
 use Rattle.lstr_item.specs.declared.capture.Held.the-variants as held
 use Rattle.lstr_item.specs.declared.item.Item.{Item as Read}
 use Rattle.lstr_item.specs.declared.item.Item.the-variants as read
+use Rattle.lstr_item.specs.declared.item.Repeat.{Repeat as Repeated}
+use Rattle.lstr_item.specs.declared.item.Repeat.the-variants as coded
 
 -- ---- Singles
 
@@ -138,13 +140,54 @@ AtEscape pat p = (p < length pat) × (byteAt pat p ≡ code "%")
 abbrev pub AtFrontier : List ℕ → ℕ → Type 0
 AtFrontier pat p = (p + 1 < length pat) × (byteAt pat p ≡ code "%") × (byteAt pat (p + 1) ≡ code "f")
 
+-- the code's repeat, and the repeat's in the code
+abbrev pub repeatAs : Repeated → Repeat
+repeatAs coded.Once = once
+repeatAs coded.Optional = optional
+repeatAs coded.Star = star
+repeatAs coded.Plus = plus
+repeatAs coded.Minus = minus
+
+abbrev pub repeatIn : Repeat → Repeated
+repeatIn once = coded.Once
+repeatIn optional = coded.Optional
+repeatIn star = coded.Star
+repeatIn plus = coded.Plus
+repeatIn minus = coded.Minus
+
+abbrev pub isOnce : Repeat → Bool
+isOnce once = true
+isOnce optional = false
+isOnce star = false
+isOnce plus = false
+isOnce minus = false
+
+abbrev pub isOptional : Repeat → Bool
+isOptional once = false
+isOptional optional = true
+isOptional star = false
+isOptional plus = false
+isOptional minus = false
+
+-- a single that has to fit is not passed over
+abbrev pub hasToFit : Repeat → Bool
+hasToFit once = true
+hasToFit optional = false
+hasToFit star = false
+hasToFit plus = true
+hasToFit minus = false
+
+-- `*` and `+` take as many bytes as they can
+abbrev pub isGreedy : Repeat → Bool
+isGreedy once = false
+isGreedy optional = false
+isGreedy star = true
+isGreedy plus = true
+isGreedy minus = false
+
 -- the code's item for a single that ends before place e
 abbrev pub repeatRead : ℕ → Repeat → Read
-repeatRead e once = read.Once e
-repeatRead e optional = read.Optional e
-repeatRead e star = read.Star e
-repeatRead e plus = read.Plus e
-repeatRead e minus = read.Minus e
+repeatRead e k = read.Single e (repeatIn k)
 
 -- the items from place p on are this one and those from place q on
 pub record Then (pat : List ℕ) (p : ℕ) (i : Item) (q : ℕ) : Type 0 where
@@ -152,8 +195,9 @@ pub record Then (pat : List ℕ) (p : ℕ) (i : Item) (q : ℕ) : Type 0 where
   pub further : p < q
   pub inside : q ≤ length pat
 
-pub record Single-then (pat : List ℕ) (p e q : ℕ) (i : Item) : Type 0 where
-  pub on : Then pat p i q
+-- a single from place p up to place e, and its repeat
+pub record Single-then (pat : List ℕ) (p e : ℕ) (k : Repeat) : Type 0 where
+  pub on : Then pat p (single (singleOf pat p e) k) (e + repeatWidth k)
   pub single : SingleIn pat p e
 
 abbrev pub ItemAt : List ℕ → ℕ → Read → Type 0
@@ -164,10 +208,6 @@ ItemAt pat p (read.StartCapture q) = Then pat p start-capture q
 ItemAt pat p (read.PositionCapture q) = Then pat p position-capture q
 ItemAt pat p (read.EndCapture q) = Then pat p end-capture q
 ItemAt pat p (read.BackReference d q) = Then pat p (back-reference d) q
-ItemAt pat p (read.Once e) = Single-then pat p e e (single (singleOf pat p e) once)
-ItemAt pat p (read.Optional e) = Single-then pat p e (e + 1) (single (singleOf pat p e) optional)
-ItemAt pat p (read.Star e) = Single-then pat p e (e + 1) (single (singleOf pat p e) star)
-ItemAt pat p (read.Plus e) = Single-then pat p e (e + 1) (single (singleOf pat p e) plus)
-ItemAt pat p (read.Minus e) = Single-then pat p e (e + 1) (single (singleOf pat p e) minus)
+ItemAt pat p (read.Single e k) = Single-then pat p e (repeatAs k)
 ItemAt pat p (read.Balance x y q) = Then pat p (balance x y) q
 ItemAt pat p (read.Frontier o q) = Then pat p (frontier (setOf pat o (q - 1))) q × (o + 1 < q)

@@ -6,8 +6,26 @@ ghost use Rattle.luck_text.specs.Bytes.{byteAt};
 ghost use Rattle.luck_pattern.specs.Reading.{setEnd};
 ghost use Rattle.luck_pattern.specs.Items.{repeatOf};
 ghost use Rattle.lstr_class.specs.Inner.{foundOf};
-ghost use Rattle.lstr_item.specs.Inner.{closingOf, ClosesIn, AtSet, AtEscape, AtFrontier, repeatRead, ItemAt};
+ghost use Rattle.lstr_item.specs.Inner.{closingOf, ClosesIn, AtSet, AtEscape, AtFrontier, repeatAs, isOnce, isOptional, hasToFit, isGreedy, repeatRead, ItemAt};
 use lstr_class::subject::Found;
+
+// The kinds of an error in a pattern, by lstrlib.c's message.
+pub const ENDS_WITH_PERCENT: u8 = 1;
+
+pub const MISSING_BRACKET: u8 = 2;
+
+pub const MISSING_SET: u8 = 3;
+
+pub const MISSING_ARGUMENTS: u8 = 4;
+
+// What stands after a single: nothing, `?`, `*`, `+` or `-`.
+pub enum Repeat {
+    Once,
+    Optional,
+    Star,
+    Plus,
+    Minus,
+}
 
 // What stands at a place of a pattern, with the place after it.
 pub enum Item {
@@ -18,16 +36,63 @@ pub enum Item {
     PositionCapture(usize),
     EndCapture(usize),
     BackReference(u8, usize),
-    // a single and the place after it
-    Once(usize),
-    // a single and the place of the repeat after it
-    Optional(usize),
-    Star(usize),
-    Plus(usize),
-    Minus(usize),
+    // a single, with the place after it, where its repeat stands
+    Single(usize, Repeat),
     Balance(u8, u8, usize),
     // the place of the set's `[`, and the place after the set
     Frontier(usize, usize),
+}
+
+// Whether a single stands without a repeat.
+pub fn is_once(repeat: Repeat) -> bool
+    ensures { λ r. ⌜ r ≡ isOnce (repeatAs repeat) ⌝ }
+{
+    match repeat {
+        Repeat::Once => true,
+        Repeat::Optional => false,
+        Repeat::Star => false,
+        Repeat::Plus => false,
+        Repeat::Minus => false,
+    }
+}
+
+// Whether its repeat is `?`.
+pub fn is_optional(repeat: Repeat) -> bool
+    ensures { λ r. ⌜ r ≡ isOptional (repeatAs repeat) ⌝ }
+{
+    match repeat {
+        Repeat::Once => false,
+        Repeat::Optional => true,
+        Repeat::Star => false,
+        Repeat::Plus => false,
+        Repeat::Minus => false,
+    }
+}
+
+// Whether it has to fit, without a repeat or with `+`: before `?`, `*` and `-` it is passed over.
+pub fn has_to_fit(repeat: Repeat) -> bool
+    ensures { λ r. ⌜ r ≡ hasToFit (repeatAs repeat) ⌝ }
+{
+    match repeat {
+        Repeat::Once => true,
+        Repeat::Optional => false,
+        Repeat::Star => false,
+        Repeat::Plus => true,
+        Repeat::Minus => false,
+    }
+}
+
+// Whether it takes as many bytes as it can, with `*` or `+`.
+pub fn is_greedy(repeat: Repeat) -> bool
+    ensures { λ r. ⌜ r ≡ isGreedy (repeatAs repeat) ⌝ }
+{
+    match repeat {
+        Repeat::Once => false,
+        Repeat::Optional => false,
+        Repeat::Star => true,
+        Repeat::Plus => true,
+        Repeat::Minus => false,
+    }
 }
 
 // The closing `]` of the set whose `[` stands at `opening`: one member is taken after `[` or `[^`, even a `]`, and `%` takes one more byte.
@@ -71,14 +136,14 @@ fn repeated(pattern: &[u8], end: usize) -> Item
 {
     if end < pattern.len() {
         return match pattern[end] {
-            b'?' => Item::Optional(end),
-            b'*' => Item::Star(end),
-            b'+' => Item::Plus(end),
-            b'-' => Item::Minus(end),
-            _ => Item::Once(end),
+            b'?' => Item::Single(end, Repeat::Optional),
+            b'*' => Item::Single(end, Repeat::Star),
+            b'+' => Item::Single(end, Repeat::Plus),
+            b'-' => Item::Single(end, Repeat::Minus),
+            _ => Item::Single(end, Repeat::Once),
         };
     }
-    Item::Once(end)
+    Item::Single(end, Repeat::Once)
 }
 
 // The set whose `[` stands at `at`.
@@ -89,7 +154,7 @@ fn read_set(pattern: &[u8], at: usize) -> Item
     let found = set_end(pattern, at);
     match found {
         Found::At(closing) => repeated(pattern, closing + 1),
-        Found::Nothing => Item::Raises(2),
+        Found::Nothing => Item::Raises(MISSING_BRACKET),
     }
 }
 
@@ -104,11 +169,11 @@ fn read_frontier(pattern: &[u8], at: usize) -> Item
             let found = set_end(pattern, opening);
             return match found {
                 Found::At(closing) => Item::Frontier(opening, closing + 1),
-                Found::Nothing => Item::Raises(2),
+                Found::Nothing => Item::Raises(MISSING_BRACKET),
             };
         }
     }
-    Item::Raises(3)
+    Item::Raises(MISSING_SET)
 }
 
 // The escape whose `%` stands at `at`.
@@ -117,7 +182,7 @@ fn read_escape(pattern: &[u8], at: usize) -> Item
     ensures { λ r. ⌜ ItemAt (now (pattern .entry)) at r ⌝ }
 {
     if pattern.len() - at == 1 {
-        return Item::Raises(1);
+        return Item::Raises(ENDS_WITH_PERCENT);
     }
     let next = at + 1;
     let escape = pattern[next];
@@ -125,7 +190,7 @@ fn read_escape(pattern: &[u8], at: usize) -> Item
         b'0'..=b'9' => Item::BackReference(escape - b'0', at + 2),
         b'b' => {
             if pattern.len() - at < 4 {
-                return Item::Raises(4);
+                return Item::Raises(MISSING_ARGUMENTS);
             }
             Item::Balance(pattern[at + 2], pattern[at + 3], at + 4)
         }

@@ -19,7 +19,7 @@ use Rattle.lstr_item.specs.Ahead.{Sure, FailsHere}
 use Rattle.lstr_match.specs.Inner.{outcomeOf}
 use Rattle.lstr_item.specs.declared.ahead.Ahead.{Ahead}
 use Rattle.lstr_item.specs.declared.capture.Pair.{Pair}
-use Rattle.lstr_match.specs.declared.matcher.Attempt.{Attempt}
+use Rattle.lstr_match.specs.declared.outcome.Attempt.{Attempt}
 use Rattle.lstr_item.proofs.Captures.{close-last}
 use Rattle.lstr_item.proofs.Turns.{on}
 use Rattle.lstr_match.proofs.Repeats.{is-failure, longer, shortest, from, first-ends, first-fails, later-ends, later-spent, later-fails, later-next}
@@ -55,7 +55,7 @@ module _ (rest : Rest) (i s l : ℕ) (cs : List Capture) (u v : ℕ) (w : failed
 module _ (sub : List ℕ) (budget : ℕ) (x : Single) (rest : Rest) (l : ℕ) (cs : List Capture) where
   module _ (i u v : ℕ) (w : failed v ≡ newLevel l u (λ m. rest i m cs u)) where
     abbrev failure : Attempt
-    failure = record { end = 0; steps = v; number = 1; more = 0 }
+    failure = record { end = 0; steps = v; number = 1; count = 0; kind = 0 }
 
     as-called : outcomeOf failure [] ≡ newLevel l u (λ m. rest i m cs u)
     as-called = is-failure failure [] refl ∙ w

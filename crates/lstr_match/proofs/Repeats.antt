@@ -11,14 +11,15 @@ use lib.ListN.{length}
 use lib.Dec.{eqb}
 use borrow.Author.Tests.{lt-ltb, le-ltb, ne-eqb}
 use Rattle.luck_text.specs.Bytes.{if_then_else_}
-use Rattle.luck_text.proofs.Cases.{order}
-use Rattle.luck_pattern.specs.Items.{Single, once, optional, star, plus, minus}
+use Rattle.luck_text.proofs.Cases.{if-true, if-false, order}
+use Rattle.lstr_item.proofs.Turns.{false-true}
+use Rattle.luck_pattern.specs.Items.{Single, Repeat, once, optional, star, plus, minus}
 use Rattle.lstr_class.specs.Class.{matchClass}
 use Rattle.lstr_item.specs.Match.{Capture, Outcome, matched, failed, stopped, Rest, due, newLevel, orElse, Reach, reached, spent, longestFirst, maxExpand, fitsAt, reach, minExpand, expand}
-use Rattle.lstr_item.specs.Inner.{heldAs, reachOf}
+use Rattle.lstr_item.specs.Inner.{heldAs, reachOf, isOptional, capturesIn, KeptIn}
 use Rattle.lstr_class.specs.Inner.{foundOf}
-use Rattle.lstr_match.specs.Inner.{outcomeBy, outcomeOf, AttemptIn}
-use Rattle.lstr_match.specs.declared.matcher.Attempt.{Attempt}
+use Rattle.lstr_match.specs.Inner.{outcomeBy, outcomeOf, AttemptIn, EndsAs, MatchesAs, atNewLevels}
+use Rattle.lstr_match.specs.declared.outcome.Attempt.{Attempt}
 use Rattle.lstr_item.specs.declared.capture.Held.{Held}
 use Rattle.lstr_item.specs.declared.single.Reached.{Reached}
 use Rattle.lstr_class.specs.declared.subject.Found.{Found}
@@ -63,17 +64,23 @@ module _ (r : Attempt) (kept : List ℕ) where
   pub no-match : (len : ℕ) → (r .number ≡ 0 → ⊥) → AttemptIn r kept len
   no-match len n = record { end = λ e. absurd (n e); captures = λ e. absurd (n e) }
 
+-- what the functions of `outcome` say of the whole
+module _ (r : Attempt) (kept : List ℕ) (len : ℕ) (o whole : Outcome) where
+  pub ended : EndsAs r o → o ≡ whole → (outcomeOf r kept ≡ whole) × AttemptIn r kept len
+  ended w e = (w kept len .0 ∙ e, w kept len .1)
+
+  pub answered : (a : Attempt) → a ≡ r → (outcomeOf r kept ≡ o) × AttemptIn r kept len → o ≡ whole → (outcomeOf a kept ≡ whole) × AttemptIn a kept len
+  answered a f w e = subst (λ (x : Attempt). (outcomeOf x kept ≡ whole) × AttemptIn x kept len) (sym f) (w .0 ∙ e, w .1)
+
+pub kept-matched : (r : Attempt) (e n u : ℕ) (kept : List ℕ) (len : ℕ) (cs : List Capture) (whole : Outcome)
+    → MatchesAs r e n u → e ≤ len → KeptIn len n kept → capturesIn n kept ≡ cs → matched e cs u ≡ whole
+    → (outcomeOf r kept ≡ whole) × AttemptIn r kept len
+kept-matched r e n u kept len cs whole w h i f g =
+    (w kept len h i .0 ∙ ap (λ (x : List Capture). matched e x u) f ∙ g, w kept len h i .1)
+
 -- ---- Repeats
 
 module _ (sub : List ℕ) (budget : ℕ) (x : Single) (rest : Rest) (s l : ℕ) (cs : List Capture) (u : ℕ) where
-  pub once-on : rest (s + 1) l cs u ≡ expand matchClass sub budget x once rest s l cs u
-  unfolding expand
-  once-on = refl
-
-  pub optional-on : orElse (newLevel l u (λ m. rest (s + 1) m cs u)) (λ v. rest s l cs v) ≡ expand matchClass sub budget x optional rest s l cs u
-  unfolding expand
-  optional-on = refl
-
   pub star-on : (t : Reach) → t ≡ reach matchClass sub budget x (length sub - (s + 1)) (s + 1) u
       → maxExpand t rest s l cs ≡ expand matchClass sub budget x star rest s l cs u
   unfolding expand
@@ -83,6 +90,59 @@ module _ (sub : List ℕ) (budget : ℕ) (x : Single) (rest : Rest) (s l : ℕ) 
       → maxExpand t rest (s + 1) l cs ≡ expand matchClass sub budget x plus rest s l cs u
   unfolding expand
   plus-on t e = ap (λ y. maxExpand y rest (s + 1) l cs) e
+
+pub as-repeat : (sub : List ℕ) (budget : ℕ) (x : Single) (j k : Repeat) → j ≡ k → (rest : Rest) (s l : ℕ) (cs : List Capture) (u : ℕ)
+    → expand matchClass sub budget x j rest s l cs u ≡ expand matchClass sub budget x k rest s l cs u
+as-repeat sub budget x j k e rest s l cs u = ap (λ (i : Repeat). expand matchClass sub budget x i rest s l cs u) e
+
+-- what is tried at new levels, and what is left of a single that fits
+module _ (sub : List ℕ) (budget : ℕ) (x : Single) (k : Repeat) (rest : Rest) (s l : ℕ) (cs : List Capture) (u : ℕ) where
+  abbrev tried : Outcome
+  tried = atNewLevels sub budget x k rest s l cs u
+
+  abbrev fitting : Outcome
+  fitting = expand matchClass sub budget x k rest s l cs u
+
+  pub levels-optional : isOptional k ≡ true → newLevel l u (λ m. rest (s + 1) m cs u) ≡ tried
+  unfolding atNewLevels
+  levels-optional e = sym (if-true _ _ _ e)
+
+  pub levels-other : isOptional k ≡ false → fitting ≡ tried
+  unfolding atNewLevels
+  levels-other e = sym (if-false _ _ _ e)
+
+  pub levels-star : k ≡ star → (t : Reach) → t ≡ reach matchClass sub budget x (length sub - (s + 1)) (s + 1) u → (n : ℕ) → n ≡ s → maxExpand t rest n l cs ≡ tried
+  levels-star e t f n g =
+      ap (λ (m : ℕ). maxExpand t rest m l cs) g ∙ star-on sub budget x rest s l cs u t f ∙ as-repeat sub budget x star k (sym e) rest s l cs u
+      ∙ levels-other (ap isOptional e)
+
+  pub levels-plus : k ≡ plus → (t : Reach) → t ≡ reach matchClass sub budget x (length sub - (s + 1)) (s + 1) u → (n : ℕ) → n ≡ s + 1 → maxExpand t rest n l cs ≡ tried
+  levels-plus e t f n g =
+      ap (λ (m : ℕ). maxExpand t rest m l cs) g ∙ plus-on sub budget x rest s l cs u t f ∙ as-repeat sub budget x plus k (sym e) rest s l cs u
+      ∙ levels-other (ap isOptional e)
+
+  optional-else : (r : Repeat) → isOptional r ≡ true
+      → orElse (newLevel l u (λ m. rest (s + 1) m cs u)) (λ v. rest s l cs v) ≡ expand matchClass sub budget x r rest s l cs u
+  unfolding expand
+  optional-else once e = absurd (false-true e)
+  optional-else optional e = refl
+  optional-else star e = absurd (false-true e)
+  optional-else plus e = absurd (false-true e)
+  optional-else minus e = absurd (false-true e)
+
+  module _ (r : Attempt) (kept : List ℕ) (w : outcomeOf r kept ≡ tried) where
+    ends-by : (b : Bool) → isOptional k ≡ b → (r .number ≡ 1 → ⊥) → outcomeOf r kept ≡ fitting
+    ends-by true e n = ends-it r kept n _ (w ∙ sym (levels-optional e)) _ ∙ optional-else k e
+    ends-by false e n = w ∙ sym (levels-other e)
+
+    pub levels-end : (r .number ≡ 1 → ⊥) → outcomeOf r kept ≡ fitting
+    levels-end n = ends-by (isOptional k) refl n
+
+    pub levels-fail : isOptional k ≡ false → r .number ≡ 1 → failed (r .steps) ≡ fitting
+    levels-fail e f = sym (is-failure r kept f) ∙ w ∙ sym (levels-other e)
+
+    pub levels-on : isOptional k ≡ true → r .number ≡ 1 → rest s l cs (r .steps) ≡ fitting
+    levels-on e f = goes-on r kept f _ (w ∙ sym (levels-optional e)) (λ v. rest s l cs v) ∙ optional-else k e
 
 pub expand-spent : (rest : Rest) (s l : ℕ) (cs : List Capture) (u : ℕ) → stopped 27 0 u ≡ maxExpand (spent u) rest s l cs
 unfolding maxExpand
@@ -116,12 +176,6 @@ module _ (rest : Rest) (i s l : ℕ) (cs : List Capture) (u : ℕ) where
   module _ (r : Attempt) (kept : List ℕ) (w : outcomeOf r kept ≡ here) where
     pub longest-ends : s ≤ i → (r .number ≡ 1 → ⊥) → outcomeOf r kept ≡ longestFirst rest (i - s) s l cs u
     longest-ends g n = ⊎-elim (λ h. ends-it r kept n here w _ ∙ longer h) (λ h. w ∙ shortest (omega arith)) (order s i)
-
-    pub longest-fails : s ≤ i → r .number ≡ 1 → i ≤ s → failed (r .steps) ≡ longestFirst rest (i - s) s l cs u
-    longest-fails g e h = sym (is-failure r kept e) ∙ w ∙ shortest (omega arith)
-
-    pub longest-next : r .number ≡ 1 → s < i → longestFirst rest (i - 1 - s) s l cs (r .steps) ≡ longestFirst rest (i - s) s l cs u
-    longest-next e h = goes-on r kept e here w (λ v. longestFirst rest (i - 1 - s) s l cs v) ∙ longer h
 
 -- min_expand, with the rest tried at i
 module _ (sub : List ℕ) (budget : ℕ) (x : Single) (rest : Rest) (l : ℕ) (cs : List Capture) where

@@ -1,13 +1,16 @@
-// The matching of an attempt: items, repeats and captures that call each other.
+// The matching of an attempt, in the shape of its definition (Match.antt of lstr_item): items, repeats and captures that call each other.
 ghost use mathlib.Core.Path.{_≡_};
+ghost use mathlib.Core.Bool.{false};
 ghost use Prim.Native.Nat.{_+_, _-_, _<_, _≤_};
 ghost use lib.ListN.{length};
 ghost use Rattle.luck_pattern.specs.Items.{items, minus};
 ghost use Rattle.lstr_class.specs.Class.{matchClass};
 ghost use Rattle.lstr_item.specs.Match.{newLevel, startCapture, endCapture, captureToClose, longestFirst, expand, match};
 ghost use Rattle.lstr_class.specs.Inner.{AreMasks};
-ghost use Rattle.lstr_item.specs.Inner.{SingleIn, singleOf, captureOf, capturesOf, positional, Sound};
-ghost use Rattle.lstr_match.specs.Inner.{outcomeOf, AttemptIn};
+ghost use Rattle.lstr_item.specs.Inner.{SingleIn, singleOf, repeatAs, isOnce, captureOf, capturesOf, positional, Sound};
+ghost use Rattle.lstr_match.specs.Inner.{outcomeOf, AttemptIn, atNewLevels};
+use crate::outcome;
+use crate::outcome::Attempt;
 use lstr_class::subject;
 use lstr_class::subject::Found;
 use lstr_item::ahead;
@@ -18,16 +21,12 @@ use lstr_item::capture::Held;
 use lstr_item::capture::Pair;
 use lstr_item::item;
 use lstr_item::item::Item;
+use lstr_item::item::Repeat;
 use lstr_item::single;
 
-// How an attempt ends: number 0, a match with its end and in `more` the count of its captures; 1, a failure; 27 steps spent; 28 too deep;
-// 29 raised, with its kind in `more`.
-pub struct Attempt {
-    pub end: usize,
-    pub steps: u32,
-    pub number: u8,
-    pub more: u16,
-}
+pub const MAXCCALLS: u32 = 200;
+
+pub const LUA_MAXCAPTURES: usize = 32;
 
 // do_match, at a new level: the 201st is 28. The items that go on at this level are turns of a loop, as lstrlib.c's `goto init`, so that the
 // pattern's length does not deepen the stack. The captures of a match are kept once, at its end.
@@ -39,75 +38,43 @@ pub fn do_match(
     place: usize,
     level: u32,
     budget: u32,
-    used: u32,
+    steps: u32,
     captures: Captures,
     kept: &mut [usize; 64],
 ) -> Attempt
     requires { ⌜ AreMasks (now masks) × (at ≤ length (now pattern)) × (place ≤ length (now subject)) × Sound place captures ⌝ }
     ensures { λ r. ⌜
         (outcomeOf r (now (kept .exit)) ≡
-        newLevel level used (λ m. match matchClass (now (subject .entry)) budget (items (now (pattern .entry)) at) place m (capturesOf captures) used))
+        newLevel level steps (λ m. match matchClass (now (subject .entry)) budget (items (now (pattern .entry)) at) place m (capturesOf captures) steps))
         × AttemptIn r (now (kept .exit)) (length (now (subject .entry)))
         ⌝ }
 {
-    if 200 <= level {
-        return Attempt {
-            end: 0,
-            steps: used,
-            number: 28,
-            more: 0,
-        };
+    if MAXCCALLS <= level {
+        return outcome::too_deep(steps);
     }
     let deeper = level + 1;
     let mut at = at;
     let mut place = place;
-    let mut steps = used;
-    loop {
+    let mut steps = steps;
+    'items: loop {
         if budget <= steps {
-            return Attempt {
-                end: 0,
-                steps,
-                number: 27,
-                more: 0,
-            };
+            return outcome::spent(steps);
         }
         steps += 1;
         let item = item::read(pattern, at);
         match item {
             Item::End => {
                 capture::keep(captures, kept);
-                return Attempt {
-                    end: place,
-                    steps,
-                    number: 0,
-                    more: captures.count as u16,
-                };
+                return outcome::matched(place, captures.count as u16, steps);
             }
             Item::EndAnchor => {
                 if place == subject.len() {
                     capture::keep(captures, kept);
-                    return Attempt {
-                        end: place,
-                        steps,
-                        number: 0,
-                        more: captures.count as u16,
-                    };
+                    return outcome::matched(place, captures.count as u16, steps);
                 }
-                return Attempt {
-                    end: 0,
-                    steps,
-                    number: 1,
-                    more: 0,
-                };
+                return outcome::failed(steps);
             }
-            Item::Raises(kind) => {
-                return Attempt {
-                    end: 0,
-                    steps,
-                    number: 29,
-                    more: kind as u16,
-                };
-            }
+            Item::Raises(kind) => return outcome::raised(kind, steps),
             Item::StartCapture(next) => {
                 let r = start_capture(
                     masks,
@@ -122,12 +89,7 @@ pub fn do_match(
                     capture::UNFINISHED,
                     kept,
                 );
-                return Attempt {
-                    end: r.end,
-                    steps: r.steps,
-                    number: r.number,
-                    more: r.more,
-                };
+                return outcome::answer(r);
             }
             Item::PositionCapture(next) => {
                 let r = start_capture(
@@ -143,12 +105,7 @@ pub fn do_match(
                     capture::POSITION,
                     kept,
                 );
-                return Attempt {
-                    end: r.end,
-                    steps: r.steps,
-                    number: r.number,
-                    more: r.more,
-                };
+                return outcome::answer(r);
             }
             Item::EndCapture(next) => {
                 let r = end_capture(
@@ -163,192 +120,18 @@ pub fn do_match(
                     captures,
                     kept,
                 );
-                return Attempt {
-                    end: r.end,
-                    steps: r.steps,
-                    number: r.number,
-                    more: r.more,
-                };
+                return outcome::answer(r);
             }
             Item::BackReference(digit, next) => {
                 let held = capture::match_capture(subject, captures, digit, place);
                 match held {
-                    Held::Bad => {
-                        return Attempt {
-                            end: 0,
-                            steps,
-                            number: 29,
-                            more: 7,
-                        };
-                    }
-                    Held::Differs => {
-                        return Attempt {
-                            end: 0,
-                            steps,
-                            number: 1,
-                            more: 0,
-                        };
-                    }
+                    Held::Bad => return outcome::raised(outcome::INVALID_CAPTURE_INDEX, steps),
+                    Held::Differs => return outcome::failed(steps),
                     Held::Same(len) => {
                         place += len;
                         at = next;
                     }
                 }
-            }
-            Item::Once(end) => {
-                if !single::fits(masks, subject, pattern, at, end, place) {
-                    return Attempt {
-                        end: 0,
-                        steps,
-                        number: 1,
-                        more: 0,
-                    };
-                }
-                place += 1;
-                at = end;
-            }
-            Item::Optional(end) => {
-                let next = end + 1;
-                if single::fits(masks, subject, pattern, at, end, place) {
-                    let r = do_match(
-                        masks,
-                        subject,
-                        pattern,
-                        next,
-                        place + 1,
-                        deeper,
-                        budget,
-                        steps,
-                        captures,
-                        kept,
-                    );
-                    if r.number != 1 {
-                        return Attempt {
-                            end: r.end,
-                            steps: r.steps,
-                            number: r.number,
-                            more: r.more,
-                        };
-                    }
-                    steps = r.steps;
-                }
-                at = next;
-            }
-            Item::Star(end) => {
-                let next = end + 1;
-                if single::fits(masks, subject, pattern, at, end, place) {
-                    let reach = single::reach(
-                        masks,
-                        subject,
-                        pattern,
-                        at,
-                        end,
-                        place + 1,
-                        budget,
-                        steps,
-                    );
-                    if reach.is_spent {
-                        return Attempt {
-                            end: 0,
-                            steps: reach.steps,
-                            number: 27,
-                            more: 0,
-                        };
-                    }
-                    let r = max_expand(
-                        masks,
-                        subject,
-                        pattern,
-                        next,
-                        place,
-                        reach.end,
-                        deeper,
-                        budget,
-                        reach.steps,
-                        captures,
-                        kept,
-                    );
-                    return Attempt {
-                        end: r.end,
-                        steps: r.steps,
-                        number: r.number,
-                        more: r.more,
-                    };
-                }
-                at = next;
-            }
-            Item::Plus(end) => {
-                let next = end + 1;
-                if !single::fits(masks, subject, pattern, at, end, place) {
-                    return Attempt {
-                        end: 0,
-                        steps,
-                        number: 1,
-                        more: 0,
-                    };
-                }
-                let reach = single::reach(
-                    masks,
-                    subject,
-                    pattern,
-                    at,
-                    end,
-                    place + 1,
-                    budget,
-                    steps,
-                );
-                if reach.is_spent {
-                    return Attempt {
-                        end: 0,
-                        steps: reach.steps,
-                        number: 27,
-                        more: 0,
-                    };
-                }
-                let r = max_expand(
-                    masks,
-                    subject,
-                    pattern,
-                    next,
-                    place + 1,
-                    reach.end,
-                    deeper,
-                    budget,
-                    reach.steps,
-                    captures,
-                    kept,
-                );
-                return Attempt {
-                    end: r.end,
-                    steps: r.steps,
-                    number: r.number,
-                    more: r.more,
-                };
-            }
-            Item::Minus(end) => {
-                let next = end + 1;
-                if single::fits(masks, subject, pattern, at, end, place) {
-                    let r = min_expand(
-                        masks,
-                        subject,
-                        pattern,
-                        at,
-                        end,
-                        place,
-                        deeper,
-                        budget,
-                        steps,
-                        captures,
-                        kept,
-                    );
-                    return Attempt {
-                        end: r.end,
-                        steps: r.steps,
-                        number: r.number,
-                        more: r.more,
-                    };
-                }
-                at = next;
             }
             Item::Balance(opening, closing, next) => {
                 let found = subject::match_balance(subject, opening, closing, place);
@@ -357,29 +140,136 @@ pub fn do_match(
                         place = end;
                         at = next;
                     }
-                    Found::Nothing => {
-                        return Attempt {
-                            end: 0,
-                            steps,
-                            number: 1,
-                            more: 0,
-                        };
-                    }
+                    Found::Nothing => return outcome::failed(steps),
                 }
             }
             Item::Frontier(opening, next) => {
                 if !single::is_frontier(masks, subject, pattern, opening, next - 1, place) {
-                    return Attempt {
-                        end: 0,
-                        steps,
-                        number: 1,
-                        more: 0,
-                    };
+                    return outcome::failed(steps);
                 }
                 at = next;
             }
+            Item::Single(end, repeat) => {
+                if !single::fits(masks, subject, pattern, at, end, place) {
+                    if item::has_to_fit(repeat) {
+                        return outcome::failed(steps);
+                    }
+                    at = end + 1;
+                    continue 'items;
+                }
+                if item::is_once(repeat) {
+                    place += 1;
+                    at = end;
+                    continue 'items;
+                }
+                let r = expand(
+                    masks,
+                    subject,
+                    pattern,
+                    at,
+                    end,
+                    repeat,
+                    place,
+                    deeper,
+                    budget,
+                    steps,
+                    captures,
+                    kept,
+                );
+                if r.number != outcome::FAILED {
+                    return outcome::answer(r);
+                }
+                if !item::is_optional(repeat) {
+                    return outcome::failed(r.steps);
+                }
+                steps = r.steps;
+                at = end + 1;
+            }
         }
     }
+}
+
+// A single that fits at `place`, with a repeat: what is tried at new levels. Where `?` fails with its byte, the caller goes on without it.
+fn expand(
+    masks: &[u8; 256],
+    subject: &[u8],
+    pattern: &[u8],
+    at: usize,
+    end: usize,
+    repeat: Repeat,
+    place: usize,
+    level: u32,
+    budget: u32,
+    steps: u32,
+    captures: Captures,
+    kept: &mut [usize; 64],
+) -> Attempt
+    requires { ⌜
+        AreMasks (now masks) × SingleIn (now pattern) at end × (end < length (now pattern)) × (place < length (now subject))
+        × (isOnce (repeatAs repeat) ≡ false) × Sound place captures
+        ⌝ }
+    ensures { λ r. ⌜
+        (outcomeOf r (now (kept .exit)) ≡
+        atNewLevels (now (subject .entry)) budget (singleOf (now (pattern .entry)) at end) (repeatAs repeat) (match matchClass (now (subject .entry)) budget (items (now (pattern .entry)) (end + 1))) place level (capturesOf captures) steps)
+        × AttemptIn r (now (kept .exit)) (length (now (subject .entry)))
+        ⌝ }
+{
+    let next = end + 1;
+    let mut shortest = place;
+    match repeat {
+        Repeat::Optional => {
+            let r = do_match(
+                masks,
+                subject,
+                pattern,
+                next,
+                place + 1,
+                level,
+                budget,
+                steps,
+                captures,
+                kept,
+            );
+            return outcome::answer(r);
+        }
+        Repeat::Minus => {
+            let r = min_expand(
+                masks,
+                subject,
+                pattern,
+                at,
+                end,
+                place,
+                level,
+                budget,
+                steps,
+                captures,
+                kept,
+            );
+            return outcome::answer(r);
+        }
+        Repeat::Plus => shortest += 1,
+        Repeat::Star => {}
+        Repeat::Once => {}
+    }
+    let reach = single::reach(masks, subject, pattern, at, end, place + 1, budget, steps);
+    if reach.is_spent {
+        return outcome::spent(reach.steps);
+    }
+    let r = max_expand(
+        masks,
+        subject,
+        pattern,
+        next,
+        shortest,
+        reach.end,
+        level,
+        budget,
+        reach.steps,
+        captures,
+        kept,
+    );
+    outcome::answer(r)
 }
 
 // max_expand's second loop: the rest of the pattern at new levels, from `longest` down to `shortest`. Where what it tests first fails, no level is
@@ -393,7 +283,7 @@ fn max_expand(
     longest: usize,
     level: u32,
     budget: u32,
-    used: u32,
+    steps: u32,
     captures: Captures,
     kept: &mut [usize; 64],
 ) -> Attempt
@@ -402,7 +292,7 @@ fn max_expand(
         ⌝ }
     ensures { λ r. ⌜
         (outcomeOf r (now (kept .exit)) ≡
-        longestFirst (match matchClass (now (subject .entry)) budget (items (now (pattern .entry)) next)) (longest - shortest) shortest level (capturesOf captures) used)
+        longestFirst (match matchClass (now (subject .entry)) budget (items (now (pattern .entry)) next)) (longest - shortest) shortest level (capturesOf captures) steps)
         × AttemptIn r (now (kept .exit)) (length (now (subject .entry)))
         ⌝ }
 {
@@ -413,7 +303,7 @@ fn max_expand(
     }
     let first = ahead::first_test(pattern, next, level, is_open);
     let mut place = longest;
-    let mut steps = used;
+    let mut steps = steps;
     loop {
         if ahead::fails_at(masks, subject, pattern, first, place, budget, steps) {
             steps += first.steps;
@@ -430,23 +320,13 @@ fn max_expand(
                 captures,
                 kept,
             );
-            if r.number != 1 {
-                return Attempt {
-                    end: r.end,
-                    steps: r.steps,
-                    number: r.number,
-                    more: r.more,
-                };
+            if r.number != outcome::FAILED {
+                return outcome::answer(r);
             }
             steps = r.steps;
         }
         if place <= shortest {
-            return Attempt {
-                end: 0,
-                steps,
-                number: 1,
-                more: 0,
-            };
+            return outcome::failed(steps);
         }
         place -= 1;
     }
@@ -463,7 +343,7 @@ fn min_expand(
     place: usize,
     level: u32,
     budget: u32,
-    used: u32,
+    steps: u32,
     captures: Captures,
     kept: &mut [usize; 64],
 ) -> Attempt
@@ -472,7 +352,7 @@ fn min_expand(
         ⌝ }
     ensures { λ r. ⌜
         (outcomeOf r (now (kept .exit)) ≡
-        expand matchClass (now (subject .entry)) budget (singleOf (now (pattern .entry)) at end) minus (match matchClass (now (subject .entry)) budget (items (now (pattern .entry)) (end + 1))) place level (capturesOf captures) used)
+        expand matchClass (now (subject .entry)) budget (singleOf (now (pattern .entry)) at end) minus (match matchClass (now (subject .entry)) budget (items (now (pattern .entry)) (end + 1))) place level (capturesOf captures) steps)
         × AttemptIn r (now (kept .exit)) (length (now (subject .entry)))
         ⌝ }
 {
@@ -486,7 +366,7 @@ fn min_expand(
     // the latest place whose byte was tested
     let mut tested = place;
     let mut tried = place;
-    let mut steps = used;
+    let mut steps = steps;
     loop {
         if ahead::fails_at(masks, subject, pattern, first, tried, budget, steps) {
             steps += first.steps;
@@ -503,33 +383,18 @@ fn min_expand(
                 captures,
                 kept,
             );
-            if r.number != 1 {
-                return Attempt {
-                    end: r.end,
-                    steps: r.steps,
-                    number: r.number,
-                    more: r.more,
-                };
+            if r.number != outcome::FAILED {
+                return outcome::answer(r);
             }
             steps = r.steps;
         }
         if tested < tried {
             if budget <= steps {
-                return Attempt {
-                    end: 0,
-                    steps,
-                    number: 27,
-                    more: 0,
-                };
+                return outcome::spent(steps);
             }
             steps += 1;
             if !single::fits(masks, subject, pattern, at, end, tried) {
-                return Attempt {
-                    end: 0,
-                    steps,
-                    number: 1,
-                    more: 0,
-                };
+                return outcome::failed(steps);
             }
             tested = tried;
         }
@@ -546,7 +411,7 @@ fn start_capture(
     place: usize,
     level: u32,
     budget: u32,
-    used: u32,
+    steps: u32,
     captures: Captures,
     len: usize,
     kept: &mut [usize; 64],
@@ -556,18 +421,13 @@ fn start_capture(
         ⌝ }
     ensures { λ r. ⌜
         (outcomeOf r (now (kept .exit)) ≡
-        startCapture (captureOf place len) (match matchClass (now (subject .entry)) budget (items (now (pattern .entry)) next)) place level (capturesOf captures) used)
+        startCapture (captureOf place len) (match matchClass (now (subject .entry)) budget (items (now (pattern .entry)) next)) place level (capturesOf captures) steps)
         × AttemptIn r (now (kept .exit)) (length (now (subject .entry)))
         ⌝ }
 {
     let count = captures.count;
-    if 32 <= count {
-        return Attempt {
-            end: 0,
-            steps: used,
-            number: 29,
-            more: 8,
-        };
+    if LUA_MAXCAPTURES <= count {
+        return outcome::raised(outcome::TOO_MANY_CAPTURES, steps);
     }
     let mut opened = captures;
     opened.pairs[count] = Pair { start: place, len };
@@ -580,16 +440,11 @@ fn start_capture(
         place,
         level,
         budget,
-        used,
+        steps,
         opened,
         kept,
     );
-    Attempt {
-        end: r.end,
-        steps: r.steps,
-        number: r.number,
-        more: r.more,
-    }
+    outcome::answer(r)
 }
 
 // end_capture: the latest open capture is closed, and the rest of the pattern goes on at a new level.
@@ -601,14 +456,14 @@ fn end_capture(
     place: usize,
     level: u32,
     budget: u32,
-    used: u32,
+    steps: u32,
     captures: Captures,
     kept: &mut [usize; 64],
 ) -> Attempt
     requires { ⌜ AreMasks (now masks) × (next ≤ length (now pattern)) × (place ≤ length (now subject)) × Sound place captures ⌝ }
     ensures { λ r. ⌜
         (outcomeOf r (now (kept .exit)) ≡
-        endCapture (captureToClose (capturesOf captures)) (match matchClass (now (subject .entry)) budget (items (now (pattern .entry)) next)) place level (capturesOf captures) used)
+        endCapture (captureToClose (capturesOf captures)) (match matchClass (now (subject .entry)) budget (items (now (pattern .entry)) next)) place level (capturesOf captures) steps)
         × AttemptIn r (now (kept .exit)) (length (now (subject .entry)))
         ⌝ }
 {
@@ -629,22 +484,12 @@ fn end_capture(
                 place,
                 level,
                 budget,
-                used,
+                steps,
                 closed,
                 kept,
             );
-            Attempt {
-                end: r.end,
-                steps: r.steps,
-                number: r.number,
-                more: r.more,
-            }
+            outcome::answer(r)
         }
-        Close::Nothing => Attempt {
-            end: 0,
-            steps: used,
-            number: 29,
-            more: 5,
-        },
+        Close::Nothing => outcome::raised(outcome::INVALID_PATTERN_CAPTURE, steps),
     }
 }

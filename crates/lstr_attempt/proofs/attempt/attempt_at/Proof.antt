@@ -1,8 +1,7 @@
 -- `lstr_attempt::attempt::attempt_at` meets its contract. Assumes nothing.
 use native.Mathlib.Omega.{arith}
-use mathlib.Core.Path.{sym, _∙_}
+use mathlib.Core.Path.{refl, sym, _∙_}
 use borrow.Author.Needs.{needs}
-use Rattle.lstr_match.specs.Inner.{outcomeBy, outcomeOf}
 use Rattle.lstr_match.proofs.Repeats as repeats
 use Rattle.lstr_attempt.proofs.attempt.attempt_at.Statement.{statement}
 use Rattle.lstr_attempt.proofs.attempt.attempt_at.Tie as tie
@@ -22,8 +21,11 @@ attempt-fitting-requires c κs =
     let h = c .before .before .before .if2 .taken in
     (q .0, q .1, z, omega (arith, q .3), sym (c .before .before .fits2 .ensures) ∙ c .before .if3 .taken)
 
+answer-requires : tie.Need-answer-requires
+answer-requires c κs = search needs
+
 returns : tie.Need-returns
-returns c = search needs
+returns c = repeats.answered _ _ _ _ _ _ (c .answer .ensures) (c .before .attempt-fitting .ensures) refl
 
 add-attempt-from : tie.Need-add-attempt-from
 add-attempt-from c = omega (arith, c .before .before .before .before .before .before .before .before .pre .1 .skips (c .before .if4 .taken) .inside)
@@ -36,34 +38,42 @@ attempt-from-requires c κs =
     let q = c .before .before .before .before .before .before .before .before .before .pre in
     (q .0, q .1 .skips (c .before .before .if4 .taken) .inside, q .2)
 
+answer-requires-2 : tie.Need-answer-requires-2
+answer-requires-2 c κs = search needs
+
 returns-2 : tie.Need-returns-2
 returns-2 c =
-    let a = c .before .before .before .before .before .before .before .before .before .before .args in
-    let q = c .before .before .before .before .before .before .before .before .before .before .pre in
-    let z = c .before .before .before .before .before .before .before .if1 .taken in
-    let h = c .before .before .before .before .before .before .if2 .taken in
-    let f = sym (c .before .before .before .before .before .fits2 .ensures) ∙ c .before .before .before .before .if3 .left in
-    let w = q .1 .skips (c .before .before .before .if4 .taken) .on (a .subject .now) (a .budget) (a .place) (a .place) (a .used) (omega arith) (omega (arith, q .3)) f in
-    (c .attempt-from .ensures .0 ∙ w, c .attempt-from .ensures .1)
+    let a = c .before .before .before .before .before .before .before .before .before .before .before .args in
+    let q = c .before .before .before .before .before .before .before .before .before .before .before .pre in
+    let z = c .before .before .before .before .before .before .before .before .if1 .taken in
+    let h = c .before .before .before .before .before .before .before .if2 .taken in
+    let f = sym (c .before .before .before .before .before .before .fits2 .ensures) ∙ c .before .before .before .before .before .if3 .left in
+    let w = q .1 .skips (c .before .before .before .before .if4 .taken) .on (a .subject .now) (a .budget) (a .place) (a .place) (a .used) (omega arith) (omega (arith, q .3)) f in
+    repeats.answered _ _ _ _ _ _ (c .answer2 .ensures) (c .before .attempt-from .ensures) w
 
-add-t22 : tie.Need-add-t22
-add-t22 c = search needs
+add-failed : tie.Need-add-failed
+add-failed c = search needs
+
+failed-requires : tie.Need-failed-requires
+failed-requires c κs = search needs
 
 returns-3 : tie.Need-returns-3
-unfolding outcomeOf outcomeBy
 returns-3 c =
-    let a = c .before .before .before .before .before .before .before .args in
-    let q = c .before .before .before .before .before .before .before .pre in
-    let z = c .before .before .before .before .if1 .taken in
-    let h = c .before .before .before .if2 .taken in
-    let f = sym (c .before .before .fits2 .ensures) ∙ c .before .if3 .left in
-    (sym (q .1 .fails z (c .if4 .left) (a .subject .now) (a .budget) (a .place) (a .used) (omega (arith, q .3)) f), repeats.no-match _ _ _ (λ e. omega arith))
+    let a = c .before .before .before .before .before .before .before .before .args in
+    let q = c .before .before .before .before .before .before .before .before .pre in
+    let z = c .before .before .before .before .before .if1 .taken in
+    let h = c .before .before .before .before .if2 .taken in
+    let f = sym (c .before .before .before .fits2 .ensures) ∙ c .before .before .if3 .left in
+    repeats.ended _ _ _ _ _ (c .failed .ensures) (sym (q .1 .fails z (c .before .if4 .left) (a .subject .now) (a .budget) (a .place) (a .used) (omega (arith, q .3)) f))
 
 attempt-from-requires-2 : tie.Need-attempt-from-requires-2
 attempt-from-requires-2 c κs = search needs
 
+answer-requires-3 : tie.Need-answer-requires-3
+answer-requires-3 c κs = search needs
+
 returns-4 : tie.Need-returns-4
-returns-4 c = search needs
+returns-4 c = repeats.answered _ _ _ _ _ _ (c .answer3 .ensures) (c .before .attempt-from2 .ensures) refl
 
 pub attempt-at-spec : {M : Type 1} → statement M
 attempt-at-spec =
@@ -72,12 +82,16 @@ attempt-at-spec =
     sub-if2
     fits-requires
     attempt-fitting-requires
+    answer-requires
     returns
     add-attempt-from
     add-attempt-from-2
     attempt-from-requires
+    answer-requires-2
     returns-2
-    add-t22
+    add-failed
+    failed-requires
     returns-3
     attempt-from-requires-2
+    answer-requires-3
     returns-4)

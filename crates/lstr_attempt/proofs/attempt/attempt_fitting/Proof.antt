@@ -1,8 +1,9 @@
 -- `lstr_attempt::attempt::attempt_fitting` meets its contract. Assumes nothing.
 use native.Mathlib.Omega.{arith}
-use mathlib.Core.Path.{refl, _∙_}
+use mathlib.Core.Path.{refl}
 use borrow.Author.Needs.{needs}
 use Rattle.lstr_item.proofs.Singles.{fits-inside}
+use Rattle.lstr_match.proofs.Repeats as repeats
 use Rattle.lstr_attempt.proofs.attempt.attempt_fitting.Statement.{statement}
 use Rattle.lstr_attempt.proofs.attempt.attempt_fitting.Tie as tie
 
@@ -14,13 +15,15 @@ last-repeat-requires c κs =
     let q = c .before .before .before .pre in
     (q .0, q .1 .single (q .2), fits-inside _ _ _ _ (q .4))
 
+answer-requires : tie.Need-answer-requires
+answer-requires c κs = search needs
+
 returns : tie.Need-returns
 returns c =
-    let a = c .before .before .before .before .args in
-    let q = c .before .before .before .before .pre in
-    let w = q .1 .last (c .before .if1 .taken) (a .subject .now) (a .budget) (a .place) (a .used) (q .3) (q .4) in
-    let r = c .last-repeat .ensures _ (w .0) (w .1) in
-    (r .0 ∙ w .2, r .1)
+    let a = c .before .before .before .before .before .args in
+    let q = c .before .before .before .before .before .pre in
+    let w = q .1 .last (c .before .before .if1 .taken) (a .subject .now) (a .budget) (a .place) (a .used) (q .3) (q .4) in
+    repeats.answered _ _ _ _ _ _ (c .answer .ensures) (c .before .last-repeat .ensures _ (w .0) (w .1)) (w .2)
 
 add-attempt-from : tie.Need-add-attempt-from
 add-attempt-from c = omega (arith, fits-inside _ _ _ _ (c .before .before .before .before .pre .4))
@@ -30,20 +33,26 @@ attempt-from-requires c κs =
     let q = c .before .before .before .before .before .pre in
     (q .0, q .1 .goes (c .before .if2 .taken) .inside, omega (arith, fits-inside _ _ _ _ (q .4)))
 
+answer-requires-2 : tie.Need-answer-requires-2
+answer-requires-2 c κs = search needs
+
 returns-2 : tie.Need-returns-2
 returns-2 c =
-    let a = c .before .before .before .before .before .before .args in
-    let q = c .before .before .before .before .before .before .pre in
-    let w = q .1 .goes (c .before .before .if2 .taken) .on (a .subject .now) (a .budget) (a .place) _ (a .used) refl (q .3) (q .4) in
-    (c .attempt-from .ensures .0 ∙ w, c .attempt-from .ensures .1)
+    let a = c .before .before .before .before .before .before .before .args in
+    let q = c .before .before .before .before .before .before .before .pre in
+    let w = q .1 .goes (c .before .before .before .if2 .taken) .on (a .subject .now) (a .budget) (a .place) _ (a .used) refl (q .3) (q .4) in
+    repeats.answered _ _ _ _ _ _ (c .answer2 .ensures) (c .before .attempt-from .ensures) w
 
 attempt-requires : tie.Need-attempt-requires
 attempt-requires c κs =
     let q = c .before .before .before .before .before .pre in
     (q .0, omega arith, omega (arith, fits-inside _ _ _ _ (q .4)))
 
+answer-requires-3 : tie.Need-answer-requires-3
+answer-requires-3 c κs = search needs
+
 returns-3 : tie.Need-returns-3
-returns-3 c = search needs
+returns-3 c = repeats.answered _ _ _ _ _ _ (c .answer3 .ensures) (c .before .attempt .ensures) refl
 
 pub attempt-fitting-spec : {M : Type 1} → statement M
 attempt-fitting-spec =
@@ -51,9 +60,12 @@ attempt-fitting-spec =
     (tie.spec
     add-begun
     last-repeat-requires
+    answer-requires
     returns
     add-attempt-from
     attempt-from-requires
+    answer-requires-2
     returns-2
     attempt-requires
+    answer-requires-3
     returns-3)

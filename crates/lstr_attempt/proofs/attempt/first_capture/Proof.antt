@@ -1,9 +1,9 @@
 -- `lstr_attempt::attempt::first_capture` meets its contract. Assumes nothing.
-use mathlib.Core.Path.{_∙_}
 use borrow.Author.Needs.{needs}
 use Rattle.luck_pattern.specs.Items.{items}
 use Rattle.lstr_class.specs.Class.{matchClass}
 use Rattle.lstr_item.specs.Match.{match}
+use Rattle.lstr_match.proofs.Repeats as repeats
 use Rattle.lstr_attempt.proofs.Leads as leads
 use Rattle.lstr_attempt.proofs.attempt.first_capture.Statement.{statement}
 use Rattle.lstr_attempt.proofs.attempt.first_capture.Tie as tie
@@ -16,10 +16,20 @@ do-match-requires c κs =
     let q = c .before .before .before .before .pre in
     (q .0, q .1, q .2, c .before .one-capture .ensures .1)
 
+answer-requires : tie.Need-answer-requires
+answer-requires c κs = search needs
+
 returns : tie.Need-returns
 returns c =
-    let a = c .before .before .before .before .before .args in
-    (c .do-match .ensures .0 ∙ leads.first-starts _ _ (c .before .before .one-capture .ensures .0) (match matchClass (a .subject .now) (a .budget) (items (a .pattern .now) (a .next))) (a .place) (a .used), c .do-match .ensures .1)
+    let a = c .before .before .before .before .before .before .args in
+    repeats.answered _ _ _ _ _ _ (c .answer .ensures) (c .before .do-match .ensures)
+    (leads.first-starts _ _ (c .before .before .before .one-capture .ensures .0) (match matchClass (a .subject .now) (a .budget) (items (a .pattern .now) (a .next))) (a .place) (a .used))
 
 pub first-capture-spec : {M : Type 1} → statement M
-first-capture-spec = tie.close (tie.spec one-capture-requires do-match-requires returns)
+first-capture-spec =
+    tie.close
+    (tie.spec
+    one-capture-requires
+    do-match-requires
+    answer-requires
+    returns)

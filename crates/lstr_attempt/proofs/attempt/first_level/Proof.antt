@@ -1,6 +1,8 @@
 -- `lstr_attempt::attempt::first_level` meets its contract. Assumes nothing.
+use mathlib.Core.Path.{refl}
 use borrow.Author.Needs.{needs}
 use Rattle.luck_pattern.specs.Items.{items}
+use Rattle.lstr_match.proofs.Repeats as repeats
 use Rattle.lstr_attempt.proofs.Leads as leads
 use Rattle.lstr_attempt.proofs.attempt.first_level.Statement.{statement}
 use Rattle.lstr_attempt.proofs.attempt.first_level.Tie as tie
@@ -13,11 +15,22 @@ do-match-requires c κs =
     let q = c .before .before .before .before .pre in
     (q .0, q .1, q .2, leads.none-sound _ _ (c .before .no-captures .ensures))
 
+answer-requires : tie.Need-answer-requires
+answer-requires c κs = search needs
+
 returns : tie.Need-returns
 returns c =
-    let a = c .before .before .before .before .before .args in
-    let n = c .before .before .no-captures in
-    (leads.first-level (a .subject .now) (a .budget) (items (a .pattern .now) (a .at)) (a .place) (a .used) (n .result) (n .ensures) _ (c .do-match .ensures .0), c .do-match .ensures .1)
+    let a = c .before .before .before .before .before .before .args in
+    let n = c .before .before .before .no-captures in
+    let r = c .before .do-match .ensures in
+    repeats.answered _ _ _ _ _ _ (c .answer .ensures)
+    (leads.first-level (a .subject .now) (a .budget) (items (a .pattern .now) (a .at)) (a .place) (a .used) (n .result) (n .ensures) _ (r .0), r .1) refl
 
 pub first-level-spec : {M : Type 1} → statement M
-first-level-spec = tie.close (tie.spec no-captures-requires do-match-requires returns)
+first-level-spec =
+    tie.close
+    (tie.spec
+    no-captures-requires
+    do-match-requires
+    answer-requires
+    returns)

@@ -1,9 +1,11 @@
 -- `lstr_attempt::attempt::lead_of` meets its contract. Assumes nothing.
 use native.Mathlib.Omega.{arith}
-use mathlib.Core.Path.{subst}
+use mathlib.Core.Path.{sym, subst, _∙_}
+use mathlib.Core.Logic.{⊎-elim}
 use borrow.Author.Needs.{needs}
-use borrow.Author.Tests.{leb-true}
-use Rattle.lstr_item.specs.Inner.{ItemAt}
+use borrow.Author.Tests.{leb-true, not-true, not-false}
+use Rattle.lstr_item.specs.Inner.{repeatAs, ItemAt}
+use Rattle.lstr_item.proofs.Turns as turns
 use Rattle.lstr_attempt.proofs.Leads as leads
 use Rattle.lstr_attempt.proofs.attempt.lead_of.Statement.{statement}
 use Rattle.lstr_attempt.proofs.attempt.lead_of.Tie as tie
@@ -14,87 +16,67 @@ read-requires c κs = search needs
 enum-known-item : tie.Need-enum-known-item
 enum-known-item c = search needs
 
+is-greedy-requires : tie.Need-is-greedy-requires
+is-greedy-requires c κs = search needs
+
+add-is-last : tie.Need-add-is-last
+add-is-last c =
+    let a = c .before .before .before .before .before .before .before .args in
+    let it = subst (ItemAt (a .pattern .now) 0) (c .before .before .before .item .given .1) (c .before .before .before .before .before .read .ensures) in
+    let k = repeatAs (c .before .before .before .item .given .0 .1 .0) in
+    let b = turns.behind-greedy _ _ _ _ k (it .on) (sym (c .before .is-greedy .ensures) ∙ c .if1 .taken) in
+    omega (arith, b)
+
+is-once-requires : tie.Need-is-once-requires
+is-once-requires c κs = search needs
+
+has-to-fit-requires : tie.Need-has-to-fit-requires
+has-to-fit-requires c κs = search needs
+
 enum-known-item-2 : tie.Need-enum-known-item-2
 enum-known-item-2 c = search needs
-
-add-t10 : tie.Need-add-t10
-add-t10 c =
-    let a = c .before .before .before .before .before .args in
-    let it = subst (ItemAt (a .pattern .now) 0) (c .before .item2 .given .1) (c .before .before .before .read .ensures) in
-    omega (arith, it .on .inside)
-
-enum-known-item-3 : tie.Need-enum-known-item-3
-enum-known-item-3 c = search needs
-
-add-t13 : tie.Need-add-t13
-add-t13 c =
-    let a = c .before .before .before .before .before .args in
-    let it = subst (ItemAt (a .pattern .now) 0) (c .before .item3 .given .1) (c .before .before .before .read .ensures) in
-    omega (arith, it .on .inside)
-
-enum-known-item-4 : tie.Need-enum-known-item-4
-enum-known-item-4 c = search needs
 
 lead-behind-requires : tie.Need-lead-behind-requires
 lead-behind-requires c κs =
     let a = c .before .before .before .before .before .args in
-    leads.leads-start (a .pattern .now) _ (subst (ItemAt (a .pattern .now) 0) (c .before .item4 .given .1) (c .before .before .before .read .ensures))
+    let it = subst (ItemAt (a .pattern .now) 0) (c .before .item2 .given .1) (c .before .before .before .read .ensures) in
+    leads.leads-start (a .pattern .now) _ it
 
-enum-known-item-5 : tie.Need-enum-known-item-5
-enum-known-item-5 c = search needs
+enum-known-item-3 : tie.Need-enum-known-item-3
+enum-known-item-3 c = search needs
 
 lead-behind-requires-2 : tie.Need-lead-behind-requires-2
 lead-behind-requires-2 c κs =
     let a = c .before .before .before .before .before .args in
-    leads.leads-position (a .pattern .now) _ (subst (ItemAt (a .pattern .now) 0) (c .before .item5 .given .1) (c .before .before .before .read .ensures))
+    let it = subst (ItemAt (a .pattern .now) 0) (c .before .item3 .given .1) (c .before .before .before .read .ensures) in
+    leads.leads-position (a .pattern .now) _ it
 
 no-lead-requires : tie.Need-no-lead-requires
 no-lead-requires c κs = search needs
 
 returns : tie.Need-returns
 returns c =
-    let a = c .before .before .before .before .before .args in
-    let it = subst (ItemAt (a .pattern .now) 0) (c .before .item .given .1) (c .before .before .before .read .ensures) in
+    let a = c .before .before .before .before .before .before .before .before .before .args in
+    let it = subst (ItemAt (a .pattern .now) 0) (c .before .before .before .before .before .item .given .1) (c .before .before .before .before .before .before .before .read .ensures) in
+    let k = repeatAs (c .before .before .before .before .before .item .given .0 .1 .0) in
     record {
       single = λ h. it .single;
-      fails = λ h k. leads.first-once (a .pattern .now) _ _ (it .on);
-      skips = λ e. absurd (leads.false-true e);
-      goes = λ e. leads.first-passed (a .pattern .now) _ _ (it .on);
-      last = λ e. absurd (leads.false-true e);
+      fails = λ h n. leads.first-required (a .pattern .now) _ _ k (it .on) (sym (c .has-to-fit .ensures) ∙ not-false _ n);
+      skips = λ n. leads.first-skipped (a .pattern .now) _ _ k (it .on) (sym (c .has-to-fit .ensures) ∙ not-true _ n);
+      goes = λ o. leads.first-passed (a .pattern .now) _ _ k (it .on) (sym (c .before .is-once .ensures) ∙ o);
+      last = λ e.
+          ⊎-elim (λ w. leads.only-greedy (a .pattern .now) _ _ k (it .on) (sym (c .before .before .before .is-greedy .ensures) ∙ w .0 .taken) (leb-true _ _ (sym (w .1) ∙ e)))
+          (λ w. absurd (turns.false-true (sym (w .1) ∙ e))) (c .before .before .if1 .came);
     }
 
 returns-2 : tie.Need-returns-2
-returns-2 c =
-    let a = c .before .before .before .before .before .args in
-    let it = subst (ItemAt (a .pattern .now) 0) (c .before .item2 .given .1) (c .before .before .before .read .ensures) in
-    record {
-      single = λ h. it .single;
-      fails = λ h k. leads.first-plus (a .pattern .now) _ _ (it .on);
-      skips = λ e. absurd (leads.false-true e);
-      goes = λ e. absurd (leads.false-true e);
-      last = λ e. leads.only-plus (a .pattern .now) _ _ (it .on) (leb-true _ _ e);
-    }
+returns-2 c = c .lead-behind .ensures
 
 returns-3 : tie.Need-returns-3
-returns-3 c =
-    let a = c .before .before .before .before .before .args in
-    let it = subst (ItemAt (a .pattern .now) 0) (c .before .item3 .given .1) (c .before .before .before .read .ensures) in
-    record {
-      single = λ h. it .single;
-      fails = λ h k. absurd (leads.true-false k);
-      skips = λ e. leads.first-skipped (a .pattern .now) _ _ (it .on);
-      goes = λ e. absurd (leads.false-true e);
-      last = λ e. leads.only-star (a .pattern .now) _ _ (it .on) (leb-true _ _ e);
-    }
+returns-3 c = c .lead-behind2 .ensures
 
 returns-4 : tie.Need-returns-4
-returns-4 c = c .lead-behind .ensures
-
-returns-5 : tie.Need-returns-5
-returns-5 c = c .lead-behind2 .ensures
-
-returns-6 : tie.Need-returns-6
-returns-6 c = c .no-lead .ensures (c .before .before .before .before .args .pattern .now)
+returns-4 c = c .no-lead .ensures (c .before .before .before .before .args .pattern .now)
 
 pub lead-of-spec : {M : Type 1} → statement M
 lead-of-spec =
@@ -102,18 +84,16 @@ lead-of-spec =
     (tie.spec
     read-requires
     enum-known-item
+    is-greedy-requires
+    add-is-last
+    is-once-requires
+    has-to-fit-requires
     enum-known-item-2
-    add-t10
-    enum-known-item-3
-    add-t13
-    enum-known-item-4
     lead-behind-requires
-    enum-known-item-5
+    enum-known-item-3
     lead-behind-requires-2
     no-lead-requires
     returns
     returns-2
     returns-3
-    returns-4
-    returns-5
-    returns-6)
+    returns-4)

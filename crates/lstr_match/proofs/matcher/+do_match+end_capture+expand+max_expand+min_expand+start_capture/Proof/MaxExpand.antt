@@ -9,29 +9,30 @@ use mathlib.Core.Option.{none}
 use Rattle.lstr_item.specs.Match.{captureToClose, newLevel, failed, longestFirst, match}
 use Rattle.lstr_class.specs.Class.{matchClass}
 use Rattle.lstr_item.specs.Inner.{capturesOf}
-use Rattle.lstr_match.specs.Inner.{outcomeBy, outcomeOf}
 use Rattle.lstr_match.proofs.Repeats as repeats
 use Rattle.lstr_item.proofs.Captures.{sound-later, is-open}
 use Rattle.luck_pattern.specs.Items.{items}
 use Rattle.lstr_match.proofs.Passed as tests
 use Rattle.lstr_item.proofs.ahead.first_test.Reads as first-test
 use Rattle.lstr_item.proofs.ahead.fails_at.Reads as fails-at
+use Rattle.lstr_match.proofs.outcome.answer.Reads as answer-reads
+use Rattle.lstr_match.proofs.outcome.failed.Reads as failed-reads
 use Rattle.lstr_match.proofs.matcher.do_match.Reads as do-match
 use Rattle.lstr_match.proofs.matcher.max_expand.Reads as max-expand
-use Rattle.lstr_match.proofs.matcher.+do_match+end_capture+max_expand+min_expand+start_capture.Lts-max_expand as lts
-use Rattle.lstr_match.proofs.matcher.+do_match+end_capture+max_expand+min_expand+start_capture.Proof.Frame.{do-match-below, max-expand-at}
+use Rattle.lstr_match.proofs.matcher.+do_match+end_capture+expand+max_expand+min_expand+start_capture.Lts-max_expand as lts
+use Rattle.lstr_match.proofs.matcher.+do_match+end_capture+expand+max_expand+min_expand+start_capture.Proof.Frame.{do-match-below, max-expand-at}
 
 abbrev E : ℕ → lts.Claims
-E t = (first-test.Asked, first-test.Learnt, fails-at.Asked, fails-at.Learnt, do-match-below t, do-match.Post)
+E t = (first-test.Asked, first-test.Learnt, fails-at.Asked, fails-at.Learnt, do-match-below t, do-match.Post, answer-reads.Asked, answer-reads.Learnt, failed-reads.Asked, failed-reads.Learnt)
 
 abbrev Inv : lts.InvT-loop
-Inv masks subject pattern next shortest longest level budget used kept₀ captures is-open count first place₀ steps₀ kept place steps =
-    (longestFirst (match matchClass subject budget (items pattern next)) (place - shortest) shortest level (capturesOf captures) steps
-    ≡ longestFirst (match matchClass subject budget (items pattern next)) (longest - shortest) shortest level (capturesOf captures) used)
+Inv masks subject pattern next shortest longest level budget steps kept₀ captures is-open count first place₀ steps₀ kept place steps' =
+    (longestFirst (match matchClass subject budget (items pattern next)) (place - shortest) shortest level (capturesOf captures) steps'
+    ≡ longestFirst (match matchClass subject budget (items pattern next)) (longest - shortest) shortest level (capturesOf captures) steps)
     × ((shortest ≤ place) × (place ≤ longest))
 
 abbrev μ : lts.MeasureT-loop
-μ masks subject pattern next shortest longest level budget used kept₀ captures is-open count first place₀ steps₀ kept place steps = place
+μ masks subject pattern next shortest longest level budget steps kept₀ captures is-open count first place₀ steps₀ kept place steps' = place
 
 module _ (t : ℕ) where
   sub-is-open : lts.Need-sub-is-open (E t) (max-expand-at t) max-expand.Post Inv μ
@@ -61,10 +62,14 @@ module _ (t : ℕ) where
       let pre = c .before .before .before .before .before .before .before .before .pre in
       (omega arith, (pre .1 .0, pre .1 .1, omega (arith, inv), sound-later _ _ _ (inv .0) (pre .1 .4)))
 
+  answer-requires : lts.Need-answer-requires (E t) (max-expand-at t) max-expand.Post Inv μ
+  answer-requires c κs = search needs
+
   returns : lts.Need-returns (E t) (max-expand-at t) max-expand.Post Inv μ
   returns c =
-      let inv = c .before .before .before .before .before .before .loop .inv in
-      (repeats.longest-ends _ _ _ _ _ _ _ _ (c .before .before .do-match .ensures .0) (inv .1 .0) (c .if3 .taken) ∙ inv .0, c .before .before .do-match .ensures .1)
+      let inv = c .before .before .before .before .before .before .before .loop .inv in
+      let r = c .before .before .before .do-match .ensures in
+      repeats.answered _ _ _ _ _ _ (c .answer .ensures) (repeats.longest-ends _ _ _ _ _ _ _ _ (r .0) (inv .1 .0) (c .before .if3 .taken), r .1) (inv .0)
 
   -- the latest capture was looked at
   opened : (c : lts.Joined1 (E t) (max-expand-at t) max-expand.Post Inv μ)
@@ -89,11 +94,13 @@ module _ (t : ℕ) where
       (c .before .fails-at .ensures (w .0 .taken)) (test .ensures) (opened (c .before .before .before .before)) (w .3))
       (λ w. tests.passed-tried _ _ _ (c .if2 .steps) (w .2 .ensures .0) (w .4 .left) (w .6)) (c .if2 .came)
 
+  failed-requires : lts.Need-failed-requires (E t) (max-expand-at t) max-expand.Post Inv μ
+  failed-requires c κs = search needs
+
   returns-2 : lts.Need-returns-2 (E t) (max-expand-at t) max-expand.Post Inv μ
-  unfolding outcomeOf outcomeBy
   returns-2 c =
-      let inv = c .before .before .before .loop .inv in
-      (tests.passed-last _ _ _ _ _ _ _ (passed (c .before)) (inv .1 .0) (c .if4 .taken) ∙ inv .0, repeats.no-match _ _ _ (λ e. omega arith))
+      let inv = c .before .before .before .before .loop .inv in
+      repeats.ended _ _ _ _ _ (c .failed .ensures) (tests.passed-last _ _ _ _ _ _ _ (passed (c .before .before)) (inv .1 .0) (c .before .if4 .taken) ∙ inv .0)
 
   sub-place : lts.Need-sub-place (E t) (max-expand-at t) max-expand.Post Inv μ
   sub-place c = omega arith
@@ -117,7 +124,9 @@ max-expand-proof t =
     (fails-at-requires t)
     (add-steps t)
     (do-match-requires t)
+    (answer-requires t)
     (returns t)
+    (failed-requires t)
     (returns-2 t)
     (sub-place t)
     (loop-less t)

@@ -1,22 +1,28 @@
 -- `lstr_match::matcher::start_capture` meets its contract. Assumes nothing.
 use Prim.Native.Nat.{ℕ, _+_, _-_}
-use mathlib.Core.Path.{_∙_}
 use native.Mathlib.Omega.{arith}
-use Rattle.lstr_match.specs.Inner.{outcomeBy, outcomeOf}
+use borrow.Author.Needs.{needs}
 use Rattle.lstr_match.proofs.Repeats as repeats
 use Rattle.lstr_item.proofs.Captures.{all-pairs, sound-started, starts-capture, all-taken}
+use Rattle.lstr_match.proofs.outcome.answer.Reads as answer-reads
+use Rattle.lstr_match.proofs.outcome.raised.Reads as raised-reads
 use Rattle.lstr_match.proofs.matcher.do_match.Reads as do-match
 use Rattle.lstr_match.proofs.matcher.start_capture.Reads as start-capture
-use Rattle.lstr_match.proofs.matcher.+do_match+end_capture+max_expand+min_expand+start_capture.Lts-start_capture as lts
-use Rattle.lstr_match.proofs.matcher.+do_match+end_capture+max_expand+min_expand+start_capture.Proof.Frame.{do-match-below, start-capture-at}
+use Rattle.lstr_match.proofs.matcher.+do_match+end_capture+expand+max_expand+min_expand+start_capture.Lts-start_capture as lts
+use Rattle.lstr_match.proofs.matcher.+do_match+end_capture+expand+max_expand+min_expand+start_capture.Proof.Frame.{do-match-below, start-capture-at}
 
 abbrev E : ℕ → lts.Claims
-E t = (do-match-below t, do-match.Post)
+E t = (raised-reads.Asked, raised-reads.Learnt, do-match-below t, do-match.Post, answer-reads.Asked, answer-reads.Learnt)
 
 module _ (t : ℕ) where
+  raised-requires : lts.Need-raised-requires (E t) (start-capture-at t) start-capture.Post
+  raised-requires c κs = search needs
+
   returns : lts.Need-returns (E t) (start-capture-at t) start-capture.Post
-  unfolding outcomeOf outcomeBy
-  returns c = (all-taken (c .before .before .before .args .captures) (all-pairs (c .before .before .before .args .captures .pairs) (c .before .before .before .good .1 .1 .1 .1 .1 .1 .1 .1 .0 .1 .1 .1 .0 .1 .0 .1)) (c .before .before .before .pre .1 .4 .few) _ _ _ _ _ (c .if1 .taken), repeats.no-match _ _ _ (λ e. omega arith))
+  returns c =
+      let z = c .before .before .before .before in
+      repeats.ended _ _ _ _ _ (c .raised .ensures)
+      (all-taken (z .args .captures) (all-pairs (z .args .captures .pairs) (z .good .1 .1 .1 .1 .1 .1 .1 .1 .0 .1 .1 .1 .0 .1 .0 .1)) (z .pre .1 .4 .few) _ _ _ _ _ (c .before .if1 .taken))
 
   mul-t17 : lts.Need-mul-t17 (E t) (start-capture-at t) start-capture.Post
   mul-t17 c = omega arith
@@ -30,15 +36,23 @@ module _ (t : ℕ) where
   do-match-requires : lts.Need-do-match-requires (E t) (start-capture-at t) start-capture.Post
   do-match-requires c κs = (omega arith, (c .before .before .before .before .pre .1 .0, c .before .before .before .before .pre .1 .1, c .before .before .before .before .pre .1 .2, sound-started _ _ _ (c .before .before .before .before .pre .1 .3) (c .before .if1 .left) (c .before .before .before .before .pre .1 .4)))
 
+  answer-requires : lts.Need-answer-requires (E t) (start-capture-at t) start-capture.Post
+  answer-requires c κs = search needs
+
   returns-2 : lts.Need-returns-2 (E t) (start-capture-at t) start-capture.Post
-  returns-2 c = (c .do-match .ensures .0 ∙ starts-capture (c .before .before .before .before .before .args .captures) (all-pairs (c .before .before .before .before .before .args .captures .pairs) (c .before .before .before .before .before .good .1 .1 .1 .1 .1 .1 .1 .1 .0 .1 .1 .1 .0 .1 .0 .1)) (c .before .before .before .before .before .pre .1 .4 .few) _ _ _ _ _ (c .before .before .if1 .left), c .do-match .ensures .1)
+  returns-2 c =
+      let z = c .before .before .before .before .before .before in
+      repeats.answered _ _ _ _ _ _ (c .answer .ensures) (c .before .do-match .ensures)
+      (starts-capture (z .args .captures) (all-pairs (z .args .captures .pairs) (z .good .1 .1 .1 .1 .1 .1 .1 .1 .0 .1 .1 .1 .0 .1 .0 .1)) (z .pre .1 .4 .few) _ _ _ _ _ (c .before .before .before .if1 .left))
 
 pub start-capture-proof : {M : Type 1} (t : ℕ) → lts.Closed (E t) (start-capture-at t) start-capture.Post M
 start-capture-proof t =
     lts.spec (E t) (start-capture-at t) start-capture.Post
+    (raised-requires t)
     (returns t)
     (mul-t17 t)
     (element-set-from-opened t)
     (add-opened t)
     (do-match-requires t)
+    (answer-requires t)
     (returns-2 t)

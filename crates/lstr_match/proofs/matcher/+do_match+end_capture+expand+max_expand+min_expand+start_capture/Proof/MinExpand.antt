@@ -3,7 +3,7 @@ use Prim.Native.Nat.{ℕ, _+_, _-_, _≤_, _<_}
 use mathlib.Core.Logic.{⊎-elim}
 use mathlib.Core.Bool.{true}
 use mathlib.Core.Option.{none}
-use mathlib.Core.Path.{_≡_, sym, _∙_}
+use mathlib.Core.Path.{_≡_, refl, sym, _∙_}
 use native.Mathlib.Omega.{arith}
 use borrow.Author.Needs.{needs}
 use borrow.Author.Tests.{not-true, not-false}
@@ -11,7 +11,6 @@ use lib.ListN.{length}
 use Rattle.lstr_item.specs.Match.{captureToClose, newLevel, failed, match}
 use Rattle.lstr_class.specs.Class.{matchClass}
 use Rattle.lstr_item.specs.Inner.{capturesOf, singleOf}
-use Rattle.lstr_match.specs.Inner.{outcomeBy, outcomeOf}
 use Rattle.lstr_match.proofs.Repeats as repeats
 use Rattle.lstr_item.proofs.Captures.{sound-later, is-open}
 use Rattle.lstr_item.proofs.Singles.{fits-inside}
@@ -20,21 +19,24 @@ use Rattle.lstr_match.proofs.Passed as tests
 use Rattle.lstr_item.proofs.ahead.first_test.Reads as first-test
 use Rattle.lstr_item.proofs.ahead.fails_at.Reads as fails-at
 use Rattle.lstr_item.proofs.single.fits.Reads as fits-reads
+use Rattle.lstr_match.proofs.outcome.answer.Reads as answer-reads
+use Rattle.lstr_match.proofs.outcome.failed.Reads as failed-reads
+use Rattle.lstr_match.proofs.outcome.spent.Reads as spent-reads
 use Rattle.lstr_match.proofs.matcher.do_match.Reads as do-match
 use Rattle.lstr_match.proofs.matcher.min_expand.Reads as min-expand
-use Rattle.lstr_match.proofs.matcher.+do_match+end_capture+max_expand+min_expand+start_capture.Lts-min_expand as lts
-use Rattle.lstr_match.proofs.matcher.+do_match+end_capture+max_expand+min_expand+start_capture.Proof.Frame.{do-match-below, min-expand-at}
+use Rattle.lstr_match.proofs.matcher.+do_match+end_capture+expand+max_expand+min_expand+start_capture.Lts-min_expand as lts
+use Rattle.lstr_match.proofs.matcher.+do_match+end_capture+expand+max_expand+min_expand+start_capture.Proof.Frame.{do-match-below, min-expand-at}
 
 abbrev E : ℕ → lts.Claims
-E t = (first-test.Asked, first-test.Learnt, fails-at.Asked, fails-at.Learnt, do-match-below t, do-match.Post, fits-reads.Asked, fits-reads.Learnt)
+E t = (first-test.Asked, first-test.Learnt, fails-at.Asked, fails-at.Learnt, do-match-below t, do-match.Post, answer-reads.Asked, answer-reads.Learnt, spent-reads.Asked, spent-reads.Learnt, fits-reads.Asked, fits-reads.Learnt, failed-reads.Asked, failed-reads.Learnt)
 
 abbrev Inv : lts.InvT-loop
-Inv masks subject pattern at end place level budget used kept₀ captures next is-open count first tested₀ tried₀ steps₀ kept tested tried steps =
-    tests.Trying subject budget (singleOf pattern at end) (match matchClass subject budget (items pattern (end + 1))) level (capturesOf captures) place used tested tried steps
+Inv masks subject pattern at end place level budget steps kept₀ captures next is-open count first tested₀ tried₀ steps₀ kept tested tried steps' =
+    tests.Trying subject budget (singleOf pattern at end) (match matchClass subject budget (items pattern (end + 1))) level (capturesOf captures) place steps tested tried steps'
     × (tried ≤ length subject)
 
 abbrev μ : lts.MeasureT-loop
-μ masks subject pattern at end place level budget used kept₀ captures next is-open count first tested₀ tried₀ steps₀ kept tested tried steps = length subject + 1 - tried
+μ masks subject pattern at end place level budget steps kept₀ captures next is-open count first tested₀ tried₀ steps₀ kept tested tried steps' = length subject + 1 - tried
 
 module _ (t : ℕ) where
   add-next : lts.Need-add-next (E t) (min-expand-at t) min-expand.Post Inv μ
@@ -75,11 +77,16 @@ module _ (t : ℕ) where
       let pre = c .before .before .before .before .before .before .before .before .pre in
       (omega arith, (pre .1 .0, omega (arith, pre .1 .2), inv .1, sound-later _ _ _ (inv .0 .behind) (pre .1 .4)))
 
+  answer-requires : lts.Need-answer-requires (E t) (min-expand-at t) min-expand.Post Inv μ
+  answer-requires c κs = search needs
+
   returns : lts.Need-returns (E t) (min-expand-at t) min-expand.Post Inv μ
   returns c =
-      let a = c .before .before .before .before .before .before .before .before .before .before .before .args in
-      let here = c .before .before .before .before .before .before .loop in
-      (tests.trying-ends (a .subject .now) (a .budget) (singleOf (a .pattern .now) (a .at) (a .end)) (match matchClass (a .subject .now) (a .budget) (items (a .pattern .now) (a .end + 1))) (a .level) (capturesOf (a .t10)) (a .place) (a .used) (here .tested) (here .tried) (here .steps) (here .inv .0) _ _ (c .before .before .do-match .ensures .0) (c .if3 .taken), c .before .before .do-match .ensures .1)
+      let a = c .before .before .before .before .before .before .before .before .before .before .before .before .args in
+      let here = c .before .before .before .before .before .before .before .loop in
+      let r = c .before .before .before .do-match .ensures in
+      repeats.answered _ _ _ _ _ _ (c .answer .ensures)
+      (tests.trying-ends (a .subject .now) (a .budget) (singleOf (a .pattern .now) (a .at) (a .end)) (match matchClass (a .subject .now) (a .budget) (items (a .pattern .now) (a .end + 1))) (a .level) (capturesOf (a .t10)) (a .place) (a .steps) (here .tested) (here .tried) (here .steps) (here .inv .0) _ _ (r .0) (c .before .if3 .taken), r .1) refl
 
   -- the rest is passed where it is tried, by the single ahead or by a call
   passed : (c : lts.Joined2 (E t) (min-expand-at t) min-expand.Post Inv μ)
@@ -96,12 +103,15 @@ module _ (t : ℕ) where
       (c .before .fails-at .ensures (w .0 .taken)) (test .ensures) (opened (c .before .before .before .before)) (w .3))
       (λ w. tests.passed-tried _ _ _ (c .if2 .steps) (w .2 .ensures .0) (w .4 .left) (w .6)) (c .if2 .came)
 
+  spent-requires : lts.Need-spent-requires (E t) (min-expand-at t) min-expand.Post Inv μ
+  spent-requires c κs = search needs
+
   returns-2 : lts.Need-returns-2 (E t) (min-expand-at t) min-expand.Post Inv μ
-  unfolding outcomeOf outcomeBy
   returns-2 c =
-      let a = c .before .before .before .before .before .before .before .before .before .args in
-      let here = c .before .before .before .before .loop in
-      (tests.trying-spent (a .subject .now) (a .budget) (singleOf (a .pattern .now) (a .at) (a .end)) (match matchClass (a .subject .now) (a .budget) (items (a .pattern .now) (a .end + 1))) (a .level) (capturesOf (a .t10)) (a .place) (a .used) (here .tested) (here .tried) (here .steps) (here .inv .0) _ (passed (c .before .before)) (c .before .if4 .taken) (c .if5 .taken), repeats.no-match _ _ _ (λ e. omega arith))
+      let a = c .before .before .before .before .before .before .before .before .before .before .args in
+      let here = c .before .before .before .before .before .loop in
+      repeats.ended _ _ _ _ _ (c .spent .ensures)
+      (tests.trying-spent (a .subject .now) (a .budget) (singleOf (a .pattern .now) (a .at) (a .end)) (match matchClass (a .subject .now) (a .budget) (items (a .pattern .now) (a .end + 1))) (a .level) (capturesOf (a .t10)) (a .place) (a .steps) (here .tested) (here .tried) (here .steps) (here .inv .0) _ (passed (c .before .before .before)) (c .before .before .if4 .taken) (c .before .if5 .taken))
 
   add-steps-2 : lts.Need-add-steps-2 (E t) (min-expand-at t) min-expand.Post Inv μ
   add-steps-2 c = omega arith
@@ -109,12 +119,15 @@ module _ (t : ℕ) where
   fits-requires : lts.Need-fits-requires (E t) (min-expand-at t) min-expand.Post Inv μ
   fits-requires c κs = (c .before .before .before .before .before .before .before .before .before .before .pre .1 .0, c .before .before .before .before .before .before .before .before .before .before .pre .1 .1)
 
+  failed-requires : lts.Need-failed-requires (E t) (min-expand-at t) min-expand.Post Inv μ
+  failed-requires c κs = search needs
+
   returns-3 : lts.Need-returns-3 (E t) (min-expand-at t) min-expand.Post Inv μ
-  unfolding outcomeOf outcomeBy
   returns-3 c =
-      let a = c .before .before .before .before .before .before .before .before .before .before .before .before .args in
-      let here = c .before .before .before .before .before .before .before .loop in
-      (tests.trying-fails (a .subject .now) (a .budget) (singleOf (a .pattern .now) (a .at) (a .end)) (match matchClass (a .subject .now) (a .budget) (items (a .pattern .now) (a .end + 1))) (a .level) (capturesOf (a .t10)) (a .place) (a .used) (here .tested) (here .tried) (here .steps) (here .inv .0) _ (passed (c .before .before .before .before .before)) (c .before .before .before .before .if4 .taken) (c .before .before .before .if5 .left) (sym (c .before .fits2 .ensures) ∙ not-true _ (c .if6 .taken)), repeats.no-match _ _ _ (λ e. omega arith))
+      let a = c .before .before .before .before .before .before .before .before .before .before .before .before .before .args in
+      let here = c .before .before .before .before .before .before .before .before .loop in
+      repeats.ended _ _ _ _ _ (c .failed .ensures)
+      (tests.trying-fails (a .subject .now) (a .budget) (singleOf (a .pattern .now) (a .at) (a .end)) (match matchClass (a .subject .now) (a .budget) (items (a .pattern .now) (a .end + 1))) (a .level) (capturesOf (a .t10)) (a .place) (a .steps) (here .tested) (here .tried) (here .steps) (here .inv .0) _ (passed (c .before .before .before .before .before .before)) (c .before .before .before .before .before .if4 .taken) (c .before .before .before .before .if5 .left) (sym (c .before .before .fits2 .ensures) ∙ not-true _ (c .before .if6 .taken)))
 
   -- a byte is left: it was tested, or it is the first
   inside : (c : lts.Joined4 (E t) (min-expand-at t) min-expand.Post Inv μ) → c .before .before .before .loop .tried < length (c .before .before .before .before .before .before .before .before .args .subject .now)
@@ -122,7 +135,7 @@ module _ (t : ℕ) where
       let a = c .before .before .before .before .before .before .before .before .args in
       let here = c .before .before .before .loop in
       ⊎-elim (λ w. fits-inside _ _ _ _ (sym (w .3 .ensures) ∙ not-false _ (w .4 .left)))
-      (λ w. omega (arith, tests.at-first (a .subject .now) (a .budget) (singleOf (a .pattern .now) (a .at) (a .end)) (match matchClass (a .subject .now) (a .budget) (items (a .pattern .now) (a .end + 1))) (a .level) (capturesOf (a .t10)) (a .place) (a .used) (here .tested) (here .tried) (here .steps) (here .inv .0) (w .0 .left), c .before .before .before .before .before .before .before .before .pre .1 .3)) (c .if4 .came)
+      (λ w. omega (arith, tests.at-first (a .subject .now) (a .budget) (singleOf (a .pattern .now) (a .at) (a .end)) (match matchClass (a .subject .now) (a .budget) (items (a .pattern .now) (a .end + 1))) (a .level) (capturesOf (a .t10)) (a .place) (a .steps) (here .tested) (here .tried) (here .steps) (here .inv .0) (w .0 .left), c .before .before .before .before .before .before .before .before .pre .1 .3)) (c .if4 .came)
 
   add-tried : lts.Need-add-tried (E t) (min-expand-at t) min-expand.Post Inv μ
   add-tried c = omega (arith, inside c, c .before .before .before .before .before .before .before .before .good .1 .0)
@@ -137,8 +150,8 @@ module _ (t : ℕ) where
         ⊎-elim
             (λ w.
             let f = sym (w .3 .ensures) ∙ not-false _ (w .4 .left) in
-            tests.trying-as (a .subject .now) (a .budget) (singleOf (a .pattern .now) (a .at) (a .end)) (match matchClass (a .subject .now) (a .budget) (items (a .pattern .now) (a .end + 1))) (a .level) (capturesOf (a .t10)) (a .place) (a .used) _ _ _ _ _ (w .5) (w .6) (tests.trying-next (a .subject .now) (a .budget) (singleOf (a .pattern .now) (a .at) (a .end)) (match matchClass (a .subject .now) (a .budget) (items (a .pattern .now) (a .end + 1))) (a .level) (capturesOf (a .t10)) (a .place) (a .used) (here .tested) (here .tried) (here .steps) (here .inv .0) _ (passed (c .before)) (w .0 .taken) (w .1 .left) f (inside c)))
-            (λ w. tests.trying-as (a .subject .now) (a .budget) (singleOf (a .pattern .now) (a .at) (a .end)) (match matchClass (a .subject .now) (a .budget) (items (a .pattern .now) (a .end + 1))) (a .level) (capturesOf (a .t10)) (a .place) (a .used) _ _ _ _ _ (w .1) (w .2) (tests.trying-second (a .subject .now) (a .budget) (singleOf (a .pattern .now) (a .at) (a .end)) (match matchClass (a .subject .now) (a .budget) (items (a .pattern .now) (a .end + 1))) (a .level) (capturesOf (a .t10)) (a .place) (a .used) (here .tested) (here .tried) (here .steps) (here .inv .0) _ (passed (c .before)) (w .0 .left))) (c .if4 .came),
+            tests.trying-as (a .subject .now) (a .budget) (singleOf (a .pattern .now) (a .at) (a .end)) (match matchClass (a .subject .now) (a .budget) (items (a .pattern .now) (a .end + 1))) (a .level) (capturesOf (a .t10)) (a .place) (a .steps) _ _ _ _ _ (w .5) (w .6) (tests.trying-next (a .subject .now) (a .budget) (singleOf (a .pattern .now) (a .at) (a .end)) (match matchClass (a .subject .now) (a .budget) (items (a .pattern .now) (a .end + 1))) (a .level) (capturesOf (a .t10)) (a .place) (a .steps) (here .tested) (here .tried) (here .steps) (here .inv .0) _ (passed (c .before)) (w .0 .taken) (w .1 .left) f (inside c)))
+            (λ w. tests.trying-as (a .subject .now) (a .budget) (singleOf (a .pattern .now) (a .at) (a .end)) (match matchClass (a .subject .now) (a .budget) (items (a .pattern .now) (a .end + 1))) (a .level) (capturesOf (a .t10)) (a .place) (a .steps) _ _ _ _ _ (w .1) (w .2) (tests.trying-second (a .subject .now) (a .budget) (singleOf (a .pattern .now) (a .at) (a .end)) (match matchClass (a .subject .now) (a .budget) (items (a .pattern .now) (a .end + 1))) (a .level) (capturesOf (a .t10)) (a .place) (a .steps) (here .tested) (here .tried) (here .steps) (here .inv .0) _ (passed (c .before)) (w .0 .left))) (c .if4 .came),
         omega (arith, inside c),
       )
 
@@ -154,10 +167,13 @@ min-expand-proof t =
     (fails-at-requires t)
     (add-steps t)
     (do-match-requires t)
+    (answer-requires t)
     (returns t)
+    (spent-requires t)
     (returns-2 t)
     (add-steps-2 t)
     (fits-requires t)
+    (failed-requires t)
     (returns-3 t)
     (add-tried t)
     (loop-less t)

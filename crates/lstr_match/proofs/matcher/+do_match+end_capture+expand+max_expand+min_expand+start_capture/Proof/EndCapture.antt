@@ -1,20 +1,21 @@
 -- `lstr_match::matcher::end_capture` meets its contract. Assumes nothing.
 use Prim.Native.Nat.{ℕ, _+_, _-_}
-use mathlib.Core.Path.{refl, _∙_}
+use mathlib.Core.Path.{refl}
 use native.Mathlib.Omega.{arith}
 use borrow.Author.Needs.{needs}
-use Rattle.lstr_match.specs.Inner.{outcomeBy, outcomeOf}
 use Rattle.lstr_match.proofs.Repeats as repeats
 use Rattle.lstr_item.proofs.Captures.{all-pairs, sound-finished, ends-capture, none-to-close, close-seen}
 use Rattle.lstr_item.specs.declared.capture.Close.the-variants as close
 use Rattle.lstr_item.proofs.capture.capture_to_close.Reads as capture-to-close-reads
+use Rattle.lstr_match.proofs.outcome.answer.Reads as answer-reads
+use Rattle.lstr_match.proofs.outcome.raised.Reads as raised-reads
 use Rattle.lstr_match.proofs.matcher.do_match.Reads as do-match
 use Rattle.lstr_match.proofs.matcher.end_capture.Reads as end-capture
-use Rattle.lstr_match.proofs.matcher.+do_match+end_capture+max_expand+min_expand+start_capture.Lts-end_capture as lts
-use Rattle.lstr_match.proofs.matcher.+do_match+end_capture+max_expand+min_expand+start_capture.Proof.Frame.{do-match-below, end-capture-at}
+use Rattle.lstr_match.proofs.matcher.+do_match+end_capture+expand+max_expand+min_expand+start_capture.Lts-end_capture as lts
+use Rattle.lstr_match.proofs.matcher.+do_match+end_capture+expand+max_expand+min_expand+start_capture.Proof.Frame.{do-match-below, end-capture-at}
 
 abbrev E : ℕ → lts.Claims
-E t = (capture-to-close-reads.Asked, capture-to-close-reads.Learnt, do-match-below t, do-match.Post)
+E t = (capture-to-close-reads.Asked, capture-to-close-reads.Learnt, do-match-below t, do-match.Post, answer-reads.Asked, answer-reads.Learnt, raised-reads.Asked, raised-reads.Learnt)
 
 module _ (t : ℕ) where
   capture-to-close-requires : lts.Need-capture-to-close-requires (E t) (end-capture-at t) end-capture.Post
@@ -53,19 +54,28 @@ module _ (t : ℕ) where
       let h = close-seen (c .before .before .before .before .before .before .before .args .t9) (close.Capture _) (c .before .before .close .given .1) (c .before .before .before .before .capture-to-close .ensures) in
       (omega arith, (c .before .before .before .before .before .before .before .pre .1 .0, c .before .before .before .before .before .before .before .pre .1 .1, c .before .before .before .before .before .before .before .pre .1 .2, sound-finished _ _ _ _ (h .1) refl (c .before .before .before .before .before .before .before .pre .1 .3)))
 
+  answer-requires : lts.Need-answer-requires (E t) (end-capture-at t) end-capture.Post
+  answer-requires c κs = search needs
+
   enum-told : lts.Need-enum-told (E t) (end-capture-at t) end-capture.Post
   enum-told c = search needs
 
+  raised-requires : lts.Need-raised-requires (E t) (end-capture-at t) end-capture.Post
+  raised-requires c κs = search needs
+
   returns : lts.Need-returns (E t) (end-capture-at t) end-capture.Post
   returns c =
-      let h = close-seen (c .before .before .before .before .before .before .before .before .args .t9) (close.Capture _) (c .before .before .before .close .given .1) (c .before .before .before .before .before .capture-to-close .ensures) in
-      (c .do-match .ensures .0 ∙ ends-capture (c .before .before .before .before .before .before .before .before .args .t9) (all-pairs (c .before .before .before .before .before .before .before .before .args .t9 .pairs) (c .before .before .before .before .before .before .before .before .good .1 .1 .1 .1 .1 .1 .1 .1 .0 .1 .1 .1 .0 .1 .0 .1)) (c .before .before .before .before .before .before .before .before .pre .1 .3 .few) _ _ _ _ _ (h .0) (h .1) (omega (arith, c .before .before .before .before .before .before .before .before .pre .1 .2)), c .do-match .ensures .1)
+      let z = c .before .before .before .before .before .before .before .before .before in
+      let h = close-seen (z .args .t9) (close.Capture _) (c .before .before .before .before .close .given .1) (c .before .before .before .before .before .before .capture-to-close .ensures) in
+      repeats.answered _ _ _ _ _ _ (c .answer .ensures) (c .before .do-match .ensures)
+      (ends-capture (z .args .t9) (all-pairs (z .args .t9 .pairs) (z .good .1 .1 .1 .1 .1 .1 .1 .1 .0 .1 .1 .1 .0 .1 .0 .1)) (z .pre .1 .3 .few) _ _ _ _ _ (h .0) (h .1) (omega (arith, z .pre .1 .2)))
 
   returns-2 : lts.Need-returns-2 (E t) (end-capture-at t) end-capture.Post
-  unfolding outcomeOf outcomeBy
   returns-2 c =
-      let h = close-seen (c .before .before .before .before .before .args .t9) close.Nothing (c .enum-told .given .1) (c .before .before .capture-to-close .ensures) in
-      (none-to-close (c .before .before .before .before .before .args .t9) (all-pairs (c .before .before .before .before .before .args .t9 .pairs) (c .before .before .before .before .before .good .1 .1 .1 .1 .1 .1 .1 .1 .0 .1 .1 .1 .0 .1 .0 .1)) (c .before .before .before .before .before .pre .1 .3 .few) _ _ _ _ (h .0), repeats.no-match _ _ _ (λ e. omega arith))
+      let z = c .before .before .before .before .before .before in
+      let h = close-seen (z .args .t9) close.Nothing (c .before .enum-told .given .1) (c .before .before .before .capture-to-close .ensures) in
+      repeats.ended _ _ _ _ _ (c .raised .ensures)
+      (none-to-close (z .args .t9) (all-pairs (z .args .t9 .pairs) (z .good .1 .1 .1 .1 .1 .1 .1 .1 .0 .1 .1 .1 .0 .1 .0 .1)) (z .pre .1 .3 .few) _ _ _ _ (h .0))
 
 pub end-capture-proof : {M : Type 1} (t : ℕ) → lts.Closed (E t) (end-capture-at t) end-capture.Post M
 end-capture-proof t =
@@ -78,6 +88,8 @@ end-capture-proof t =
     (mul-t24 t)
     (element-set-from-closed t)
     (do-match-requires t)
+    (answer-requires t)
     (enum-told t)
+    (raised-requires t)
     (returns t)
     (returns-2 t)
