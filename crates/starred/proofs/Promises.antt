@@ -1,0 +1,91 @@
+-- Demand 1: every answer of every entry, whatever it is asked under whatever version, is as specs/Promised.antt says.
+-- Assumes nothing.
+use Prim.Native.Nat.{ℕ}
+use mathlib.Core.Path.{_≡_, refl}
+use mathlib.Core.Bool.{true, false}
+use mathlib.Core.List.{List}
+use mathlib.Core.Option.{Option}
+use lib.ListN.{length, drop}
+use lib.Seq.{drop-append-seam}
+use Rattle.luck_token.specs.Decode.{Outcome, value, refused, decodeString, answerOf, outputOf}
+use Rattle.luck_token.proofs.Promises as decodings
+use Rattle.luck_linter.specs.StringLiteral.{checkLiteral}
+use Rattle.luck_linter.specs.Checks as check
+use Rattle.luck_linter.specs.Checks.{Check, answer, numbers}
+use Rattle.luck_linter.proofs.Refusals.{refusals, counts, wholes}
+use Rattle.luck_linter.proofs.Spans.{literal-marked}
+use Rattle.lstr_gsub.specs.Gsub.{gsub, report, outputAfter}
+use Rattle.lstr_gsub.proofs.Promises as trials
+use Rattle.starred.specs.Cases.{Asked, format, pattern, pack, packsize, date, replacement, literal, decode, trial}
+use Rattle.starred.specs.Promised.{Checks, ChecksLiteral, Decodes, Tries, Promised}
+
+checks : (c : Check) (version : ℕ) (text : List ℕ) → Checks (numbers c) (length text) (answer c version text)
+checks c version text =
+    let r = refusals c version text in
+    let w = wholes c version text in
+    record {
+      numbered = r .1;
+      offset-within = r .0;
+      count-within = counts c version text;
+      accepted-bare = w .accepted-bare;
+      refused-uncounted = w .refused-uncounted;
+      first-character = w .first-character;
+      second-character = w .second-character;
+    }
+
+checks-literal : (kind : ℕ) (captures : Option ℕ) (start version : ℕ) (text : List ℕ)
+    → ChecksLiteral (numbers (check.literal kind captures start)) (length text) (checkLiteral kind version captures start text)
+checks-literal kind captures start version text =
+    let m = literal-marked kind captures start version text in
+    record {
+      answers = checks (check.literal kind captures start) version text;
+      skipped-empty = m .skipped-empty;
+      spanned-where = m .spanned-where;
+      span-of-others = m .span-of-others;
+    }
+
+behind-value : (o : Outcome) (output : List ℕ) → drop (answerOf o .written) (outputOf o output) ≡ drop (answerOf o .written) output
+unfolding answerOf outputOf
+behind-value (value bytes) output = drop-append-seam bytes (drop (length bytes) output)
+behind-value (refused number offset) output = refl
+
+decodes : (version : ℕ) (text output : List ℕ)
+    → Decodes text output (answerOf (decodeString version text (length output))) (outputOf (decodeString version text (length output)) output)
+decodes version text output =
+    let room = length output in
+    record {
+      numbered = decodings.numbers version text room;
+      offset-within = decodings.offset-within version text room;
+      offset-of-others = decodings.offset-of-others version text room;
+      in-room = decodings.written-in-room version text room;
+      in-text = decodings.written-in-text version text room;
+      refused-empty = decodings.refused-empty version text room;
+      refused-untouched = λ n. decodings.refused-untouched version text room n output;
+      behind-untouched = behind-value (decodeString version text room) output;
+    }
+
+tries : (version : ℕ) (sub pat rep : List ℕ) (budget : ℕ) (output : List ℕ)
+    → Tries budget output (report (gsub version pat rep sub budget (length output))) (outputAfter output (gsub version pat rep sub budget (length output)))
+tries version sub pat rep budget output =
+    let room = length output in
+    record {
+      numbered = trials.numbers version pat rep sub budget room;
+      kind-of-raised = trials.kind-of-raised version pat rep sub budget room;
+      kind-of-others = trials.kind-of-others version pat rep sub budget room;
+      steps-within = trials.steps-within version pat rep sub budget room;
+      spent-exactly = trials.spent-exactly version pat rep sub budget room;
+      in-room = trials.written-within version pat rep sub budget room;
+      filled-exactly = trials.filled-exactly version pat rep sub budget room;
+      behind-untouched = drop-append-seam (gsub version pat rep sub budget room .written) _;
+    }
+
+pub demand-1 : (version : ℕ) (asked : Asked) → Promised version asked
+demand-1 version (format text) = checks check.format version text
+demand-1 version (pattern text) = checks check.pattern version text
+demand-1 version (pack text) = checks (check.pack false) version text
+demand-1 version (packsize text) = checks (check.pack true) version text
+demand-1 version (date text) = checks check.date version text
+demand-1 version (replacement captures text) = checks (check.replacement captures) version text
+demand-1 version (literal kind captures start text) = checks-literal kind captures start version text
+demand-1 version (decode text output) = decodes version text output
+demand-1 version (trial sub pat rep budget output) = tries version sub pat rep budget output
