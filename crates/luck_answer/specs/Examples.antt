@@ -1,4 +1,5 @@
--- Answers with all their fields, computed: which character comes first, and that a refusal has no count and an acceptance nothing else.
+-- Answers with all their fields, computed: which character comes first, and that a refusal has no count and an
+-- acceptance nothing else.
 -- Assumes nothing.
 use Prim.Native.Char.{code}
 use mathlib.Core.Path.{_≡_, refl}

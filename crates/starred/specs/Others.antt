@@ -1,5 +1,6 @@
--- Cases of document 01 that are not starred, and what its text says besides, whole answers by computation: the rows of its table of refusals but 30 and 31
--- of a line (luck_lines), the places that were open, each item, each kind of single and of 29, and each way of writing once.
+-- Cases of document 01 that are not starred, and what its text says besides, whole answers by computation: the rows of
+-- its table of refusals but 30 and 31 of a line (luck_lines), the places that were open, each item, each kind of single
+-- and of 29, and each way of writing once.
 -- Assumes nothing.
 use Prim.Native.Nat.{ℕ, zero, suc}
 use Prim.Native.Char.{code}
@@ -10,7 +11,8 @@ use mathlib.Core.Option.{none, some}
 use Rattle.luck_text.specs.Bytes.{ascii}
 use Rattle.luck_linter.specs.Computed.{computed as checksComputed}
 use Rattle.lstr_gsub.specs.Computed.{computed as trialComputed}
-use Rattle.starred.specs.Cases.{Case, case, format, pattern, pack, packsize, date, replacement, literal, decode, trial, checked, checkedLiteral, decoded, tried, told, wanted}
+use Rattle.starred.specs.Cases.{format, pattern, pack, packsize, date, replacement, literal, decode, trial}
+use Rattle.starred.specs.Cases.{Case, case, checked, checkedLiteral, decoded, tried, told, wanted}
 
 abbrev only : ℕ → List ℕ
 only version = version ∷ []
@@ -23,28 +25,45 @@ times (suc n) text = text ++ times n text
 
 abbrev pub checks : List Case
 checks =
-    case (only 1) (format (ascii "%y")) (checked (record { number = 2; offset = 1; first = code "y"; second = 0; count = 0 }))
-    ∷ case (only 1) (format (ascii "%-----d")) (checked (record { number = 0; offset = 0; first = 0; second = 0; count = 1 }))
-    ∷ case (only 1) (format (ascii "%123d")) (checked (record { number = 4; offset = 1; first = 0; second = 0; count = 0 }))
-    ∷ case (only 1) (format (ascii "%.123d")) (checked (record { number = 5; offset = 2; first = 0; second = 0; count = 0 }))
+    case (only 1) (format (ascii "%y"))
+    (checked (record { number = 2; offset = 1; first = code "y"; second = 0; count = 0 }))
+    ∷ case (only 1) (format (ascii "%-----d"))
+    (checked (record { number = 0; offset = 0; first = 0; second = 0; count = 1 }))
+    ∷ case (only 1) (format (ascii "%123d"))
+    (checked (record { number = 4; offset = 1; first = 0; second = 0; count = 0 }))
+    ∷ case (only 1) (format (ascii "%.123d"))
+    (checked (record { number = 5; offset = 2; first = 0; second = 0; count = 0 }))
     ∷ case (only 4) (format (ascii "%000000000000000000000d"))
     (checked (record { number = 7; offset = 1; first = 0; second = 0; count = 0 }))
-    ∷ case (only 6) (format (ascii "%5*")) (checked (record { number = 2; offset = 2; first = code "*"; second = 0; count = 0 }))
-    ∷ case (only 1) (pattern (ascii "a%f")) (checked (record { number = 10; offset = 1; first = code "f"; second = 0; count = 0 }))
-    ∷ case (only 1) (pattern (times 33 (ascii "("))) (checked (record { number = 12; offset = 32; first = 0; second = 0; count = 0 }))
-    ∷ case (only 1) (pattern (times 32 (ascii "()"))) (checked (record { number = 0; offset = 0; first = 0; second = 0; count = 32 }))
-    ∷ case (only 1) (pattern (ascii "[]a]")) (checked (record { number = 0; offset = 0; first = 0; second = 0; count = 0 }))
-    ∷ case (only 1) (pack (ascii "b1")) (checked (record { number = 14; offset = 1; first = code "1"; second = 0; count = 0 }))
+    ∷ case (only 6) (format (ascii "%5*"))
+    (checked (record { number = 2; offset = 2; first = code "*"; second = 0; count = 0 }))
+    ∷ case (only 1) (pattern (ascii "a%f"))
+    (checked (record { number = 10; offset = 1; first = code "f"; second = 0; count = 0 }))
+    ∷ case (only 1) (pattern (times 33 (ascii "(")))
+    (checked (record { number = 12; offset = 32; first = 0; second = 0; count = 0 }))
+    ∷ case (only 1) (pattern (times 32 (ascii "()")))
+    (checked (record { number = 0; offset = 0; first = 0; second = 0; count = 32 }))
+    ∷ case (only 1) (pattern (ascii "[]a]"))
+    (checked (record { number = 0; offset = 0; first = 0; second = 0; count = 0 }))
+    ∷ case (only 1) (pack (ascii "b1"))
+    (checked (record { number = 14; offset = 1; first = code "1"; second = 0; count = 0 }))
     ∷ case (only 1) (pack (ascii "c")) (checked (record { number = 15; offset = 1; first = 0; second = 0; count = 0 }))
-    ∷ case (only 1) (pack (ascii "i17")) (checked (record { number = 16; offset = 1; first = 0; second = 0; count = 0 }))
+    ∷ case (only 1) (pack (ascii "i17"))
+    (checked (record { number = 16; offset = 1; first = 0; second = 0; count = 0 }))
     ∷ case (only 1) (pack (ascii "!5j")) (checked (record { number = 0; offset = 0; first = 0; second = 0; count = 1 }))
-    ∷ case (only 1) (packsize (ascii "bz")) (checked (record { number = 18; offset = 1; first = code "z"; second = 0; count = 0 }))
-    ∷ case (only 2) (replacement none (ascii "a%")) (checked (record { number = 19; offset = 1; first = 0; second = 0; count = 0 }))
-    ∷ case (only 2) (replacement none (ascii "%x")) (checked (record { number = 20; offset = 1; first = 0; second = 0; count = 0 }))
-    ∷ case (only 1) (replacement none (ascii "%x")) (checked (record { number = 0; offset = 0; first = 0; second = 0; count = 0 }))
-    ∷ case (only 2) (replacement (some 0) (ascii "%2")) (checked (record { number = 21; offset = 1; first = 0; second = 0; count = 0 }))
+    ∷ case (only 1) (packsize (ascii "bz"))
+    (checked (record { number = 18; offset = 1; first = code "z"; second = 0; count = 0 }))
+    ∷ case (only 2) (replacement none (ascii "a%"))
+    (checked (record { number = 19; offset = 1; first = 0; second = 0; count = 0 }))
+    ∷ case (only 2) (replacement none (ascii "%x"))
+    (checked (record { number = 20; offset = 1; first = 0; second = 0; count = 0 }))
+    ∷ case (only 1) (replacement none (ascii "%x"))
+    (checked (record { number = 0; offset = 0; first = 0; second = 0; count = 0 }))
+    ∷ case (only 2) (replacement (some 0) (ascii "%2"))
+    (checked (record { number = 21; offset = 1; first = 0; second = 0; count = 0 }))
     ∷ case (only 2) (date (ascii "%Q")) (checked (record { number = 22; offset = 1; first = 0; second = 0; count = 0 }))
-    ∷ case (only 4) (pattern (0xFF ∷ [])) (checked (record { number = 23; offset = 0; first = 0; second = 0; count = 0 }))
+    ∷ case (only 4) (pattern (0xFF ∷ []))
+    (checked (record { number = 23; offset = 0; first = 0; second = 0; count = 0 }))
     ∷ case (only 7) (pattern []) (checked (record { number = 25; offset = 0; first = 0; second = 0; count = 0 }))
     ∷ []
 
@@ -52,7 +71,7 @@ pub checks-hold : told checks ≡ wanted checks
 unfolding checksComputed
 checks-hold = refl
 
--- ---- Literals: spans, with the last character one byte wide at the end and another of two bytes; skipped ones; 23 and what comes before it, without a span
+-- ---- Literals: spans, of a character of two bytes and at the end too; skipped ones; 23 and what comes before it
 
 abbrev pub literals : List Case
 literals =
@@ -140,13 +159,18 @@ decodings =
     (decoded (record { number = 0; offset = 0; written = 3 }) (0xC3 ∷ 0xA9 ∷ ascii "A.."))
     ∷ case (only 4) (decode (ascii "[=[" ++ (code "\r" ∷ code "\n" ∷ []) ++ ascii "a]]]=]") (ascii "....."))
     (decoded (record { number = 0; offset = 0; written = 3 }) (ascii "a]].."))
-    ∷ case (only 2) (decode (ascii "\"\\q\"") (ascii ".....")) (decoded (record { number = 24; offset = 0; written = 0 }) (ascii "....."))
-    ∷ case (only 1) (decode (ascii "\"\\q\"") (ascii ".....")) (decoded (record { number = 0; offset = 0; written = 1 }) (ascii "q...."))
-    ∷ case (only 4) (decode (ascii "\"\\u{D800}\"") (ascii ".....")) (decoded (record { number = 24; offset = 0; written = 0 }) (ascii "....."))
-    ∷ case (only 4) (decode (ascii "'ab'") (ascii ".")) (decoded (record { number = 26; offset = 0; written = 0 }) (ascii "."))
+    ∷ case (only 2) (decode (ascii "\"\\q\"") (ascii "....."))
+    (decoded (record { number = 24; offset = 0; written = 0 }) (ascii "....."))
+    ∷ case (only 1) (decode (ascii "\"\\q\"") (ascii "....."))
+    (decoded (record { number = 0; offset = 0; written = 1 }) (ascii "q...."))
+    ∷ case (only 4) (decode (ascii "\"\\u{D800}\"") (ascii "....."))
+    (decoded (record { number = 24; offset = 0; written = 0 }) (ascii "....."))
+    ∷ case (only 4) (decode (ascii "'ab'") (ascii "."))
+    (decoded (record { number = 26; offset = 0; written = 0 }) (ascii "."))
     ∷ case (only 4) (decode (ascii "'a" ++ (0xFF ∷ []) ++ ascii "'") (ascii "....."))
     (decoded (record { number = 23; offset = 2; written = 0 }) (ascii "....."))
-    ∷ case (only 7) (decode (0xFF ∷ []) (ascii ".....")) (decoded (record { number = 25; offset = 0; written = 0 }) (ascii "....."))
+    ∷ case (only 7) (decode (0xFF ∷ []) (ascii "....."))
+    (decoded (record { number = 25; offset = 0; written = 0 }) (ascii "....."))
     ∷ []
 
 pub decodings-hold : told decodings ≡ wanted decodings
@@ -176,7 +200,8 @@ trials =
     (tried (record { number = 27; kind = 0; written = 0; replacements = 0; steps = 0 }) lent)
     ∷ case (only 4) (trial (times 300 (ascii "a")) (times 199 (ascii "a?") ++ ascii ")") (ascii "x") 1000 lent)
     (tried (record { number = 29; kind = 5; written = 0; replacements = 0; steps = 200 }) lent)
-    ∷ case (only 4) (trial (times 300 (ascii "a")) (times 32 (ascii "()") ++ times 167 (ascii "a?") ++ ascii "(") (ascii "x") 1000 lent)
+    ∷ case (only 4)
+    (trial (times 300 (ascii "a")) (times 32 (ascii "()") ++ times 167 (ascii "a?") ++ ascii "(") (ascii "x") 1000 lent)
     (tried (record { number = 29; kind = 8; written = 0; replacements = 0; steps = 200 }) lent)
     ∷ case (only 4) (trial [] [] (ascii "x") 1000 lent)
     (tried (record { number = 0; kind = 0; written = 1; replacements = 1; steps = 2 }) (ascii "x..........."))

@@ -9,7 +9,8 @@ use mathlib.Core.Option.{some}
 use Rattle.luck_text.specs.Bytes.{ascii}
 use Rattle.luck_linter.specs.Computed.{computed as checksComputed}
 use Rattle.lstr_gsub.specs.Computed.{computed as trialComputed}
-use Rattle.starred.specs.Cases.{Case, case, format, pattern, pack, replacement, trial, checked, tried, told, wanted}
+use Rattle.starred.specs.Cases.{format, pattern, pack, replacement, trial}
+use Rattle.starred.specs.Cases.{Case, case, checked, tried, told, wanted}
 
 abbrev every : List ℕ
 every = 1 ∷ 2 ∷ 3 ∷ 4 ∷ 5 ∷ 6 ∷ []
@@ -24,9 +25,11 @@ starred =
     ∷ case every (pattern (ascii "[]a")) (checked (record { number = 8; offset = 0; first = 0; second = 0; count = 0 }))
     ∷ case every (pattern (ascii "[^]")) (checked (record { number = 9; offset = 0; first = 0; second = 0; count = 0 }))
     ∷ case every (pattern (ascii "(a")) (checked (record { number = 11; offset = 2; first = 0; second = 0; count = 0 }))
-    ∷ case every (pattern (ascii "(a%1)")) (checked (record { number = 13; offset = 3; first = 0; second = 0; count = 0 }))
+    ∷ case every (pattern (ascii "(a%1)"))
+    (checked (record { number = 13; offset = 3; first = 0; second = 0; count = 0 }))
     ∷ case every (pattern (ascii "[]]")) (checked (record { number = 0; offset = 0; first = 0; second = 0; count = 0 }))
-    ∷ case every (pattern (ascii "()%1")) (checked (record { number = 0; offset = 0; first = 0; second = 0; count = 1 }))
+    ∷ case every (pattern (ascii "()%1"))
+    (checked (record { number = 0; offset = 0; first = 0; second = 0; count = 1 }))
     ∷ case every (pack (ascii "!8i3")) (checked (record { number = 17; offset = 2; first = 0; second = 0; count = 0 }))
     ∷ case every (replacement (some 1) (ascii "%2"))
     (checked (record { number = 21; offset = 1; first = 0; second = 0; count = 0 }))
