@@ -1,6 +1,6 @@
 -- Demand 1: every answer of every entry, whatever it is asked under whatever version, is as specs/Promised.antt says.
 -- Assumes nothing.
-use Prim.Native.Nat.{ℕ}
+use Prim.Native.Nat.{ℕ, _≤_}
 use mathlib.Core.Path.{_≡_, refl}
 use mathlib.Core.Bool.{true, false}
 use mathlib.Core.List.{List}
@@ -9,36 +9,43 @@ use lib.ListN.{length, drop}
 use lib.Seq.{drop-append-seam}
 use Rattle.luck_token.specs.Decode.{Outcome, value, refused, decodeString, answerOf, outputOf}
 use Rattle.luck_token.proofs.Promises as decodings
+use Rattle.luck_text.specs.Bytes.{among}
+use Rattle.luck_answer.specs.Answer.{Answer}
+use Rattle.luck_answer.proofs.Answers.{Whole}
 use Rattle.luck_linter.specs.StringLiteral.{checkLiteral}
 use Rattle.luck_linter.specs.Checks as check
-use Rattle.luck_linter.specs.Checks.{Check, answer, numbers}
-use Rattle.luck_linter.proofs.Refusals.{refusals, counts, wholes}
+use Rattle.luck_linter.specs.Checks.{Check, checkOf, answer, numbers, namedNumbers}
+use Rattle.luck_linter.proofs.Refusals.{refusals, counts, wholes, literal-refusals, literal-counts, literal-wholes}
 use Rattle.luck_linter.proofs.Spans.{literal-marked}
 use Rattle.lstr_gsub.specs.Gsub.{gsub, report, outputAfter}
 use Rattle.lstr_gsub.proofs.Promises as trials
 use Rattle.starred.specs.Cases.{Asked, format, pattern, pack, packsize, date, replacement, literal, decode, trial}
 use Rattle.starred.specs.Promised.{Checks, ChecksLiteral, Decodes, Tries, Promised}
 
-checks : (c : Check) (version : ℕ) (text : List ℕ) → Checks (numbers c) (length text) (answer c version text)
-checks c version text =
-    let r = refusals c version text in
-    let w = wholes c version text in
+whole-checks : (list : List ℕ) (len : ℕ) (a : Answer) → (a .offset ≤ len) × (among (a .number) list ≡ true) → Whole a → a .count ≤ len → Checks list len a
+whole-checks list len a r w c =
     record {
       numbered = r .1;
       offset-within = r .0;
-      count-within = counts c version text;
+      count-within = c;
       accepted-bare = w .accepted-bare;
       refused-uncounted = w .refused-uncounted;
       first-character = w .first-character;
       second-character = w .second-character;
     }
 
+checks : (c : Check) (version : ℕ) (text : List ℕ) → Checks (numbers c) (length text) (answer c version text)
+checks c version text =
+    whole-checks (numbers c) (length text) (answer c version text) (refusals c version text) (wholes c version text) (counts c version text)
+
 checks-literal : (kind : ℕ) (captures : Option ℕ) (start version : ℕ) (text : List ℕ)
-    → ChecksLiteral (numbers (check.literal kind captures start)) (length text) (checkLiteral kind version captures start text)
+    → ChecksLiteral (namedNumbers (checkOf kind captures)) (length text) (checkLiteral kind version captures start text)
 checks-literal kind captures start version text =
     let m = literal-marked kind captures start version text in
     record {
-      answers = checks (check.literal kind captures start) version text;
+      answers =
+          whole-checks (namedNumbers (checkOf kind captures)) (length text) (checkLiteral kind version captures start text .answer)
+          (literal-refusals kind captures start version text) (literal-wholes kind captures start version text) (literal-counts kind captures start version text);
       skipped-empty = m .skipped-empty;
       spanned-where = m .spanned-where;
       span-of-others = m .span-of-others;

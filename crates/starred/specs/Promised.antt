@@ -11,13 +11,13 @@ use Rattle.luck_text.specs.Bytes.{among}
 use Rattle.luck_token.specs.Decode.{Answer as Decoded, decodeString, answerOf, outputOf}
 use Rattle.luck_answer.specs.Answer.{Answer}
 use Rattle.luck_pattern.specs.Pattern.{checkPattern}
-use Rattle.luck_pattern.specs.Replacement.{checkReplacement}
+use Rattle.luck_replacement.specs.Replacement.{checkReplacement}
 use Rattle.luck_format.specs.Format.{checkFormat}
 use Rattle.luck_format.specs.Date.{checkDate}
 use Rattle.luck_pack.specs.Pack.{checkPack}
 use Rattle.luck_linter.specs.StringLiteral.{LiteralAnswer, checkLiteral}
 use Rattle.luck_linter.specs.Checks as check
-use Rattle.luck_linter.specs.Checks.{numbers}
+use Rattle.luck_linter.specs.Checks.{numbers, checkOf, namedNumbers}
 use Rattle.lstr_gsub.specs.Gsub.{Report, report, outputAfter, gsub}
 use Rattle.starred.specs.Cases.{Asked, format, pattern, pack, packsize, date, replacement, literal, decode, trial}
 
@@ -79,7 +79,7 @@ Promised version (date text) = Checks (numbers check.date) (length text) (checkD
 Promised version (replacement captures text) =
     Checks (numbers (check.replacement captures)) (length text) (checkReplacement version captures text)
 Promised version (literal kind captures start text) =
-    ChecksLiteral (numbers (check.literal kind captures start)) (length text)
+    ChecksLiteral (namedNumbers (checkOf kind captures)) (length text)
     (checkLiteral kind version captures start text)
 Promised version (decode text output) =
     let outcome = decodeString version text (length output) in
