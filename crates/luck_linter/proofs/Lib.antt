@@ -8,3 +8,4 @@ pub mod DateAnswers
 pub mod Checked
 pub mod LiteralAnswers
 pub mod Refusals
+pub mod Promises
