@@ -26,7 +26,8 @@ pub record Answer : Type 0 where
 
 -- the struct luck_answer of include/luck.h
 abbrev pub checkAnswer : AnswerStruct → Answer
-checkAnswer a = record { number = a .number; offset = a .offset; first = a .first; second = a .second; count = a .count }
+checkAnswer a =
+    record { number = a .number; offset = a .offset; first = a .first; second = a .second; count = a .count }
 
 abbrev pub accepted : ℕ → Answer
 accepted n = record { number = 0; offset = 0; first = 0; second = 0; count = n }

@@ -45,7 +45,8 @@ checkWith kind (some (some count)) = if eqb kind (code "G") then checkOf kind (s
 -- by the head; a line of fewer than five bytes has no space at its fifth place, which reads as 0
 unfoldable pub headCheck : List ℕ → Option Check
 headCheck line =
-    if isDigit (byteAt line 1) && isBlank (byteAt line 4) then checkWith (byteAt line 0) (capturesIn (byteAt line 2) (byteAt line 3)) else none
+    let check = checkWith (byteAt line 0) (capturesIn (byteAt line 2) (byteAt line 3)) in
+    if isDigit (byteAt line 1) && isBlank (byteAt line 4) then check else none
 
 -- 30 where the head does not fit; else the check of the body, which gives 25 for a digit that is no version
 unfoldable pub bodyAnswer : Option Check → ℕ → List ℕ → Answer
@@ -55,7 +56,8 @@ bodyAnswer (some check) version body = answer check version body
 -- 31, 30, 25, then the body
 unfoldable pub lineAnswer : List ℕ → Answer
 lineAnswer line =
-    if ltb longest (length line) then refused 31 0 else bodyAnswer (headCheck line) (digit (byteAt line 1)) (drop 5 line)
+    let body = bodyAnswer (headCheck line) (digit (byteAt line 1)) (drop 5 line) in
+    if ltb longest (length line) then refused 31 0 else body
 
 -- the numbers of these answers: 31, 30, and those of the checks; packsize has all of a pack format's, and a replacement without captures all of the others'
 abbrev pub lineNumbers : List ℕ

@@ -9,3 +9,4 @@ pub mod Checked
 pub mod LiteralAnswers
 pub mod Spans
 pub mod Refusals
+pub mod Promises

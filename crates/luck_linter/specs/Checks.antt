@@ -1,5 +1,5 @@
--- The checks of a body, as one data type: the kind letter of document 01 that names each, its walk, its answer, and the numbers of document 01's table of refusals that
--- it can answer.
+-- The checks of a body, as one data type, after document 01: the kind letter that names each, its walk, its answer, and
+-- the numbers of the table of refusals that it can answer.
 -- Assumes nothing.
 use Prim.Native.Nat.{ℕ}
 use Prim.Native.Char.{code}
@@ -52,13 +52,13 @@ answer date version text = checkDate version text
 answer (replacement captures) version text = checkReplacement version captures text
 answer (pack packsize) version text = checkPack version packsize text
 
--- 0 where the text is accepted, else a refusal of document 01
+-- 0 where the text is accepted, else a refusal of document 01; 21 where a digit can be too large: the largest is 9
 abbrev pub numbers : Check → List ℕ
 numbers format = 0 ∷ 1 ∷ 2 ∷ 3 ∷ 4 ∷ 5 ∷ 6 ∷ 7 ∷ 23 ∷ 25 ∷ []
 numbers pattern = 0 ∷ 1 ∷ 8 ∷ 9 ∷ 10 ∷ 11 ∷ 12 ∷ 13 ∷ 23 ∷ 25 ∷ []
 numbers date = 0 ∷ 19 ∷ 22 ∷ 23 ∷ 25 ∷ []
 numbers (replacement captures) =
-    0 ∷ 19 ∷ 20 ∷ 23 ∷ 25 ∷ (if allowsDigit captures 9 then [] else 21 ∷ [])  -- 21 where a digit can be too large: the largest is 9
+    0 ∷ 19 ∷ 20 ∷ 23 ∷ 25 ∷ (if allowsDigit captures 9 then [] else 21 ∷ [])
 numbers (pack false) = 0 ∷ 14 ∷ 15 ∷ 16 ∷ 17 ∷ 23 ∷ 25 ∷ []
 numbers (pack true) = 0 ∷ 14 ∷ 15 ∷ 16 ∷ 17 ∷ 18 ∷ 23 ∷ 25 ∷ []
 

@@ -100,6 +100,10 @@ abbrev pub answers : (ℕ → List ℕ → Answer) → List Example → List ℕ
 answers ask [] = []
 answers ask (gives version text number ∷ more) = ask version text .number ∷ answers ask more
 
+-- the check of a literal at the start of its source
+abbrev literalOf : ℕ → Option ℕ → ℕ → List ℕ → Answer
+literalOf kind captures version text = checkLiteral kind version captures 0 text .answer
+
 abbrev pub named : List Example → List ℕ
 named [] = []
 named (gives version text number ∷ more) = number ∷ named more
@@ -113,7 +117,7 @@ pub examples-hold : Each (λ check list. answers (answer check) list ≡ named l
 unfolding computed
 examples-hold = (refl, (refl, (refl, (refl, (refl, (refl, (refl, (refl, tt))))))))
 
-pub literals-hold : Each (λ of list. answers (λ version text. checkLiteral (of .0) version (of .1) 0 text .answer) list ≡ named list) literals
+pub literals-hold : Each (λ of list. answers (literalOf (of .0) (of .1)) list ≡ named list) literals
 unfolding computed
 literals-hold = (refl, (refl, (refl, (refl, (refl, (refl, (refl, (refl, tt))))))))
 

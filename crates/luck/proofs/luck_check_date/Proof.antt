@@ -4,14 +4,6 @@ use borrow.Author.Needs.{needs}
 use Rattle.luck.proofs.luck_check_date.Statement.{statement}
 use Rattle.luck.proofs.luck_check_date.Tie as tie
 
-validate-os-date-requires : tie.Need-validate-os-date-requires
-validate-os-date-requires c κs = search needs
-
-of-checked-requires : tie.Need-of-checked-requires
-of-checked-requires c κs = search needs
-
-returns : tie.Need-returns
-returns c = c .of-checked .ensures ∙ c .before .validate-os-date .ensures
-
 pub luck-check-date-spec : {M : Type 1} → statement M
-luck-check-date-spec = tie.close (tie.spec validate-os-date-requires of-checked-requires returns)
+luck-check-date-spec =
+    tie.close (tie.spec (λ c κs. search needs) (λ c κs. search needs) (λ c. c .of-checked .ensures ∙ c .before .validate-os-date .ensures))

@@ -4,14 +4,6 @@ use borrow.Author.Needs.{needs}
 use Rattle.luck.proofs.luck_check_format.Statement.{statement}
 use Rattle.luck.proofs.luck_check_format.Tie as tie
 
-validate-format-requires : tie.Need-validate-format-requires
-validate-format-requires c κs = search needs
-
-of-checked-requires : tie.Need-of-checked-requires
-of-checked-requires c κs = search needs
-
-returns : tie.Need-returns
-returns c = c .of-checked .ensures ∙ c .before .validate-format .ensures
-
 pub luck-check-format-spec : {M : Type 1} → statement M
-luck-check-format-spec = tie.close (tie.spec validate-format-requires of-checked-requires returns)
+luck-check-format-spec =
+    tie.close (tie.spec (λ c κs. search needs) (λ c κs. search needs) (λ c. c .of-checked .ensures ∙ c .before .validate-format .ensures))

@@ -5,17 +5,10 @@ use borrow.Author.Needs.{needs}
 use Rattle.luck.proofs.luck_check_literal.Statement.{statement}
 use Rattle.luck.proofs.luck_check_literal.Tie as tie
 
-count-if-requires : tie.Need-count-if-requires
-count-if-requires c κs = search needs
-
-check-literal-requires : tie.Need-check-literal-requires
-check-literal-requires c κs = search needs
-
 returns : tie.Need-returns
 returns c =
     let a = c .before .before .before .args in
     c .check-literal .ensures ∙ ap (λ count. checkLiteral (a .kind) (a .version) count (a .start) (a .text .now)) (c .before .count-if .ensures)
 
 pub luck-check-literal-spec : {M : Type 1} → statement M
-luck-check-literal-spec =
-    tie.close (tie.spec count-if-requires check-literal-requires returns)
+luck-check-literal-spec = tie.close (tie.spec (λ c κs. search needs) (λ c κs. search needs) returns)

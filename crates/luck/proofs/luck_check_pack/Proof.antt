@@ -4,15 +4,6 @@ use borrow.Author.Needs.{needs}
 use Rattle.luck.proofs.luck_check_pack.Statement.{statement}
 use Rattle.luck.proofs.luck_check_pack.Tie as tie
 
-validate-pack-format-requires : tie.Need-validate-pack-format-requires
-validate-pack-format-requires c κs = search needs
-
-of-checked-requires : tie.Need-of-checked-requires
-of-checked-requires c κs = search needs
-
-returns : tie.Need-returns
-returns c = c .of-checked .ensures ∙ c .before .validate-pack-format .ensures
-
 pub luck-check-pack-spec : {M : Type 1} → statement M
 luck-check-pack-spec =
-    tie.close (tie.spec validate-pack-format-requires of-checked-requires returns)
+    tie.close (tie.spec (λ c κs. search needs) (λ c κs. search needs) (λ c. c .of-checked .ensures ∙ c .before .validate-pack-format .ensures))

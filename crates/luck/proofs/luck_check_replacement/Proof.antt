@@ -5,19 +5,11 @@ use borrow.Author.Needs.{needs}
 use Rattle.luck.proofs.luck_check_replacement.Statement.{statement}
 use Rattle.luck.proofs.luck_check_replacement.Tie as tie
 
-count-if-requires : tie.Need-count-if-requires
-count-if-requires c κs = search needs
-
-validate-gsub-replacement-requires : tie.Need-validate-gsub-replacement-requires
-validate-gsub-replacement-requires c κs = search needs
-
-of-checked-requires : tie.Need-of-checked-requires
-of-checked-requires c κs = search needs
-
 returns : tie.Need-returns
-returns c = c .of-checked .ensures ∙ c .before .validate-gsub-replacement .ensures ∙ ap (λ count. checkReplacement (c .before .before .before .before .args .version) count (c .before .before .before .before .args .body .now)) (c .before .before .count-if .ensures)
+returns c =
+    let a = c .before .before .before .before .args in
+    c .of-checked .ensures ∙ c .before .validate-gsub-replacement .ensures
+    ∙ ap (λ count. checkReplacement (a .version) count (a .body .now)) (c .before .before .count-if .ensures)
 
 pub luck-check-replacement-spec : {M : Type 1} → statement M
-luck-check-replacement-spec =
-    tie.close
-    (tie.spec count-if-requires validate-gsub-replacement-requires of-checked-requires returns)
+luck-check-replacement-spec = tie.close (tie.spec (λ c κs. search needs) (λ c κs. search needs) (λ c κs. search needs) returns)

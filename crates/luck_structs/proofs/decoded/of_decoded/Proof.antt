@@ -1,36 +1,9 @@
 -- `luck_structs::decoded::of_decoded` meets its contract. Assumes nothing.
-use mathlib.Core.Path.{sym, ap, _∙_}
 use Rattle.luck_token.specs.Decode.{numbered}
+use mathlib.Core.Path.{sym, ap, _∙_}
 use borrow.Author.Needs.{needs}
 use Rattle.luck_structs.proofs.decoded.of_decoded.Statement.{statement}
 use Rattle.luck_structs.proofs.decoded.of_decoded.Tie as tie
-
-enum-known-decoded : tie.Need-enum-known-decoded
-enum-known-decoded c = search needs
-
-enum-told : tie.Need-enum-told
-enum-told c = search needs
-
-refused-requires : tie.Need-refused-requires
-refused-requires c κs = search needs
-
-enum-known-decoded-2 : tie.Need-enum-known-decoded-2
-enum-known-decoded-2 c = search needs
-
-refused-requires-2 : tie.Need-refused-requires-2
-refused-requires-2 c κs = search needs
-
-enum-told-2 : tie.Need-enum-told-2
-enum-told-2 c = search needs
-
-refused-requires-3 : tie.Need-refused-requires-3
-refused-requires-3 c κs = search needs
-
-enum-told-3 : tie.Need-enum-told-3
-enum-told-3 c = search needs
-
-refused-requires-4 : tie.Need-refused-requires-4
-refused-requires-4 c κs = search needs
 
 returns : tie.Need-returns
 unfolding numbered
@@ -56,17 +29,9 @@ pub of-decoded-spec : {M : Type 1} → statement M
 of-decoded-spec =
     tie.close
     (tie.spec
-    enum-known-decoded
-    enum-told
-    refused-requires
-    enum-known-decoded-2
-    refused-requires-2
-    enum-told-2
-    refused-requires-3
-    enum-told-3
-    refused-requires-4
-    returns
-    returns-2
-    returns-3
-    returns-4
-    returns-5)
+    (λ c. search needs)
+    (λ c. search needs) (λ c κs. search needs)
+    (λ c. search needs) (λ c κs. search needs)
+    (λ c. search needs) (λ c κs. search needs)
+    (λ c. search needs) (λ c κs. search needs)
+    returns returns-2 returns-3 returns-4 returns-5)

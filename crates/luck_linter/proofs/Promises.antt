@@ -1,0 +1,95 @@
+-- What the check of a literal promises where a kind letter names a check, the version is one of the six and the text is UTF-8. In every other case the answer is 30, 25 or
+-- 23, by the definition.
+-- Assumes nothing.
+use Prim.Native.Nat.{ℕ, _-_, _<_, _≤_}
+use native.Mathlib.Omega.{arith}
+use mathlib.Core.Path.{_≡_, refl, sym, ap, _∙_}
+use mathlib.Core.Bool.{Bool, true, false, not, _&&_, _||_, true≢false}
+use mathlib.Core.List.{List}
+use mathlib.Core.Option.{Option, none, some}
+use lib.ListN.{length}
+use lib.Dec.{eqb, leb}
+use borrow.Author.Tests.{leb-true, eqb-true}
+use Rattle.luck_text.specs.Bytes.{if_then_else_, byteAt}
+use Rattle.luck_text.proofs.Cases.{by-test, and-left, and-right}
+use Rattle.luck_utf8.specs.Utf8.{illFormed}
+use Rattle.luck_utf8.proofs.Parts.{between-ascii}
+use Rattle.luck_token.specs.Version.{isVersion, rulesOf}
+use Rattle.luck_token.specs.Literal.{isShort}
+use Rattle.luck_answer.specs.Answer.{Answer, accepted}
+use Rattle.luck_answer.proofs.Texts.{text-fine}
+use Rattle.luck_linter.specs.Checks.{Check, checkOf, walkOf, answer}
+use Rattle.luck_linter.specs.StringLiteral.{LiteralAnswer, hasNumericEscape, skippedAnswer, withSpan, bodyOf, checkBody, checkShort, checkNamedLiteral, checkLiteral}
+use Rattle.luck_linter.proofs.Checked.{whole-check}
+use Rattle.luck_linter.proofs.StringLiterals.{text-passes}
+
+-- a literal is skipped exactly where its text is no short string or its body has an escape `\0` to `\9`, `\x` or `\u`
+abbrev pub SkippedExactly : LiteralAnswer → List ℕ → Type 0
+SkippedExactly a text = a .skipped ≡ (not (isShort text) || hasNumericEscape (bodyOf text))
+
+-- the answer of a literal that is not skipped is that of the check on its body
+abbrev pub AnswersBody : Check → ℕ → LiteralAnswer → List ℕ → Type 0
+AnswersBody check version a text = a .skipped ≡ false → a .answer ≡ answer check version (bodyOf text)
+
+-- ---- Their proofs
+
+-- a short string has two bytes at least, and its quotes are ASCII
+quote-low : (b : ℕ) → (eqb b 34 || eqb b 39) ≡ true → b < 0x80
+quote-low b e = go (eqb b 34) refl e
+  where
+    go : (t : Bool) → eqb b 34 ≡ t → (t || eqb b 39) ≡ true → b < 0x80
+    go true q e = omega (arith, eqb-true b 34 q)
+    go false q e = omega (arith, eqb-true b 39 e)
+
+quotes-low : (text : List ℕ) → isShort text ≡ true → (2 ≤ length text) × (byteAt text 0 < 0x80) × (byteAt text (length text - 1) < 0x80)
+unfolding isShort
+quotes-low text s =
+    let front = and-left _ (eqb (byteAt text (length text - 1)) (byteAt text 0)) s in
+    let same = eqb-true (byteAt text (length text - 1)) (byteAt text 0) (and-right (leb 2 (length text) && (eqb (byteAt text 0) 34 || eqb (byteAt text 0) 39)) _ s) in
+    let low = quote-low (byteAt text 0) (and-right (leb 2 (length text)) _ front) in
+    (leb-true 2 (length text) (and-left _ (eqb (byteAt text 0) 34 || eqb (byteAt text 0) 39) front), low, omega (arith, same, low))
+
+span-keeps : (start : ℕ) (body : List ℕ) (a : Answer) → (withSpan start body a .skipped ≡ false) × (withSpan start body a .answer ≡ a)
+unfolding withSpan
+span-keeps start body a = by-test (λ (l : LiteralAnswer). (l .skipped ≡ false) × (l .answer ≡ a)) _ _ _ (λ _. (refl, refl)) (λ _. (refl, refl))
+
+-- the two tests of whether to skip
+abbrev skipping : Bool → Bool → LiteralAnswer → LiteralAnswer
+skipping short numeric a = if short then (if numeric then skippedAnswer else a) else skippedAnswer
+
+skips : (short numeric : Bool) (a : LiteralAnswer) → a .skipped ≡ false → skipping short numeric a .skipped ≡ (not short || numeric)
+unfolding if_then_else_
+skips true true a h = refl
+skips true false a h = h
+skips false numeric a h = refl
+
+passed : (short numeric : Bool) (a : LiteralAnswer) → skipping short numeric a .skipped ≡ false → (short ≡ true) × (skipping short numeric a ≡ a)
+unfolding if_then_else_
+passed true true a h = absurd (true≢false h)
+passed true false a h = (refl, refl)
+passed false numeric a h = absurd (true≢false h)
+
+module _ (kind version : ℕ) (captures : Option ℕ) (start : ℕ) (text : List ℕ) (check : Check)
+    (named : checkOf kind captures ≡ some check) (known : isVersion version ≡ true) (utf8 : illFormed text ≡ none) where
+  abbrev literal : LiteralAnswer
+  literal = checkLiteral kind version captures start text
+
+  abbrev walked : LiteralAnswer
+  walked = withSpan start (bodyOf text) (walkOf check (rulesOf version) (bodyOf text))
+
+  checked : literal ≡ skipping (isShort text) (hasNumericEscape (bodyOf text)) walked
+  unfolding checkLiteral checkShort checkBody
+  checked =
+      ap (λ n. checkNamedLiteral n version start text) named
+      ∙ sym (text-passes check start text version (accepted 0) (text-fine version text (accepted 0) known (sym utf8)) refl)
+
+  pub literal-skipped : SkippedExactly literal text
+  literal-skipped = ap (λ l. l .skipped) checked ∙ skips (isShort text) (hasNumericEscape (bodyOf text)) walked (span-keeps start (bodyOf text) _ .0)
+
+  pub literal-answers : AnswersBody check version literal text
+  literal-answers h =
+      let p = passed (isShort text) (hasNumericEscape (bodyOf text)) walked (ap (λ l. l .skipped) (sym checked) ∙ h) in
+      let q = quotes-low text (p .0) in
+      let plain = between-ascii text (q .0) (q .1) (q .2) (sym utf8) in
+      ap (λ l. l .answer) (checked ∙ p .1) ∙ span-keeps start (bodyOf text) (walkOf check (rulesOf version) (bodyOf text)) .1
+      ∙ text-fine version (bodyOf text) (walkOf check (rulesOf version) (bodyOf text)) known plain ∙ sym (whole-check check version (bodyOf text))
