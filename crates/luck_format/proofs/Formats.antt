@@ -2,7 +2,7 @@
 -- Assumes nothing.
 use Prim.Native.Nat.{ℕ, _+_, _-_, _≤_, _<_}
 use native.Mathlib.Omega.{arith}
-use mathlib.Core.Path.{_≡_, refl, sym, ap, subst, _∙_}
+use mathlib.Core.Path.{_≡_, refl, sym, ap, _∙_}
 use mathlib.Core.Bool.{Bool, true, false, _&&_, _||_, true≢false}
 use mathlib.Core.List.{List}
 use lib.ListN.{length, drop, List·getD-eq-default}
@@ -12,7 +12,7 @@ use Rattle.luck_text.specs.Bytes.{if_then_else_, byteAt, ascii, among, isDigit,
 use Rattle.luck_utf8.specs.Utf8.{charAt}
 use Rattle.luck_text.specs.Walk.{stop, goes, walkFrom}
 use Rattle.luck_token.specs.declared.version.Rules.{Rules}
-use Rattle.luck_text.proofs.Cases.{second-false}
+use Rattle.luck_text.proofs.Cases.{first-false, second-false, both-true}
 use Rattle.luck_text.proofs.Bytes.{run-inside}
 use Rattle.luck_text.proofs.Walk.{walk-end, walk-stop, walk-goes}
 use Rattle.luck_answer.specs.Answer.{Answer, accepted, refused, refusedWith, refusedBoth, refusal}
@@ -185,6 +185,10 @@ module _ (b : ℕ) where
   unfolding takesPrecision among
   a-precision m n = rw (ne-eqb b 99 m, ne-eqb b 112 n)
 
+-- behind the flags at p stands a width, which may be empty, and ends here
+pub record Widened (b : ℕ) (text : List ℕ) (p width : ℕ) : Type 0 where
+  pub whole : goodModifiers b text p ≡ (if takesPrecision b && eqb (byteAt text width) 46 then afterTwoDigits text (width + 1) else width)
+
 module _ (b : ℕ) (text : List ℕ) (p : ℕ) where
   pub flags-at : (count : ℕ) (set : List ℕ) → flagsFor b ≡ set → count ≡ run (λ x. among x set) (drop p text) → count ≡ flagsRun b text p
   unfolding flagsRun
@@ -203,18 +207,25 @@ module _ (b : ℕ) (text : List ℕ) (p : ℕ) where
     unfolding goodModifiers if_then_else_
     zero-stays e = rw (ne-eqb b 113 n, ← q, eq-eqb (byteAt text (p + count)) 48 e)
 
-    module _ (z : byteAt text (p + count) ≡ 48 → ⊥) (width : ℕ) (w : width ≡ afterTwoDigits text (p + count)) where
-      pub dot-stays : takesPrecision b ≡ false → width ≡ goodModifiers b text p
-      unfolding goodModifiers if_then_else_
-      dot-stays t = rw (ne-eqb b 113 n, ← q, ne-eqb (byteAt text (p + count)) 48 z, t, ← w)
+    pub no-zero : (byteAt text (p + count) ≡ 48 → ⊥) → (width : ℕ) → width ≡ afterTwoDigits text (p + count) → Widened b text p width
+    unfolding goodModifiers if_then_else_
+    no-zero z width w = record { whole = rw (ne-eqb b 113 n, ← q, ne-eqb (byteAt text (p + count)) 48 z, ← w) }
 
-      pub dot-passed : takesPrecision b ≡ true → byteAt text width ≡ 46 → afterTwoDigits text (width + 1) ≡ goodModifiers b text p
-      unfolding goodModifiers if_then_else_
-      dot-passed t e = rw (ne-eqb b 113 n, ← q, ne-eqb (byteAt text (p + count)) 48 z, t, ← w, eq-eqb (byteAt text width) 46 e)
+module _ {b : ℕ} {text : List ℕ} {p width : ℕ} (w : Widened b text p width) where
+  by-dot : (t : Bool) → (takesPrecision b && eqb (byteAt text width) 46) ≡ t → (if t then afterTwoDigits text (width + 1) else width) ≡ goodModifiers b text p
+  by-dot t e = ap (λ (x : Bool). if x then afterTwoDigits text (width + 1) else width) (sym e) ∙ sym (w .whole)
 
-      pub no-dot : (byteAt text width ≡ 46 → ⊥) → width ≡ goodModifiers b text p
-      unfolding goodModifiers if_then_else_
-      no-dot e = rw (ne-eqb b 113 n, ← q, ne-eqb (byteAt text (p + count)) 48 z, ← w, second-false (takesPrecision b) (eqb (byteAt text width) 46) (ne-eqb (byteAt text width) 46 e))
+  pub dot-stays : takesPrecision b ≡ false → width ≡ goodModifiers b text p
+  unfolding if_then_else_
+  dot-stays t = by-dot false (first-false (takesPrecision b) _ t)
+
+  pub dot-passed : takesPrecision b ≡ true → byteAt text width ≡ 46 → afterTwoDigits text (width + 1) ≡ goodModifiers b text p
+  unfolding if_then_else_
+  dot-passed t e = by-dot true (both-true (takesPrecision b) _ t (eq-eqb (byteAt text width) 46 e))
+
+  pub no-dot : (byteAt text width ≡ 46 → ⊥) → width ≡ goodModifiers b text p
+  unfolding if_then_else_
+  no-dot e = by-dot false (second-false (takesPrecision b) _ (ne-eqb (byteAt text width) 46 e))
 
 -- ---- A specifier
 
@@ -269,10 +280,9 @@ module _ (rules : Rules) (text : List ℕ) (p count : ℕ) where
         unfolding percentTurn specifierTurn if_then_else_
         faulty-modifiers answer q = rw (lt-leb (length text) (p + 1) h, ne-eqb (byteAt text (p + 1)) 37 n, m, ← q)
 
--- what is known of the modifiers that were read
-module _ (m : Modifiers) (p len : ℕ) where
-  pub seen : {r : Found} (shape : Found) → r ≡ shape → (modifiersOf r ≡ m) × EndsIn r p len → (modifiersOf shape ≡ m) × EndsIn shape p len
-  seen shape e w = subst (λ (x : Found). (modifiersOf x ≡ m) × EndsIn x p len) e w
+-- what is known of modifiers that were read at p
+abbrev pub ModifiersAt : Modifiers → ℕ → ℕ → Found → Type 0
+ModifiersAt m p len x = (modifiersOf x ≡ m) × EndsIn x p len
 
 -- ---- The walk
 

@@ -92,7 +92,6 @@ use Rattle.luck_pack.specs.declared.pack.PackOption.the-variants.{Sized,
 use Rattle.luck_pack.specs.declared.pack.Size.{Size}
 use Rattle.luck_pack.specs.declared.pack.Size.the-variants as size
 use Rattle.luck_pack.specs.declared.pack.Read.{Read as Found}
-use Rattle.luck_pack.specs.declared.pack.Read.the-variants as found
 use Rattle.luck_pack.specs.declared.pack.Turn.{Turn as PackTurn}
 use Rattle.luck_pack.specs.declared.pack.Turn.the-variants as packturn
 

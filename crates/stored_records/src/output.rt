@@ -1,8 +1,9 @@
 // The output of a stored record, and the bytes behind it, which are watched.
 ghost use mathlib.Core.Path.{_≡_};
 ghost use mathlib.Core.Bool.{true};
+ghost use mathlib.Core.List.{_++_};
 ghost use Prim.Native.Nat.{_+_, _-_, _≤_};
-ghost use lib.ListN.{length};
+ghost use lib.ListN.{length, drop, replicate};
 ghost use Rattle.stored_records.specs.Output.{Holds};
 use crate::bytes;
 
@@ -15,6 +16,7 @@ const BEHIND: usize = 16;
 // Makes an output of this length ready, and the bytes behind it.
 pub fn clear(output: &mut [u8], room: usize)
     requires { ⌜ room + 16 ≤ length (now output) ⌝ }
+    ensures { λ r. ⌜ now (output .exit) ≡ replicate (room + 16) 0xF9 ++ drop (room + 16) (now (output .entry)) ⌝ }
 {
     bytes::fill(output, room + BEHIND, UNTOUCHED);
 }

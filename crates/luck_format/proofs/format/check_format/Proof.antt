@@ -22,8 +22,15 @@ no-zero c =
     let a = c .before .before .before .before .args in
     ⊎-elim (λ w. w .2 .left) (λ w. formats.none-there (a .text .now) (a .at + c .before .flags-run .result) 48 (omega arith) (w .left)) (c .if2 .came)
 
+-- a width behind them
+widened : (c : tie.After-after-two-digits) → formats.Widened (c .before .before .before .before .before .args .conversion) (c .before .before .before .before .before .args .text .now) (c .before .before .before .before .before .args .at) (c .after-two-digits .result)
+widened c =
+    let a = c .before .before .before .before .before .args in
+    let f = c .before .before .flags-run in
+    formats.no-zero (a .conversion) (a .text .now) (a .at) (c .before .before .before .if1 .left) (f .result) (f .ensures) (no-zero (c .before)) (c .after-two-digits .result) (c .after-two-digits .ensures)
+
 returns : tie.Need-returns
-returns c = formats.no-modifiers (c .before .before .args .conversion) (c .before .before .args .text .now) (c .before .before .args .at) (c .if1 .taken)
+returns c = formats.no-modifiers _ _ _ (c .if1 .taken)
 
 flags-run-requires : tie.Need-flags-run-requires
 flags-run-requires c κs = search needs
@@ -47,18 +54,10 @@ shared-slice-read-if5 : tie.Need-shared-slice-read-if5
 shared-slice-read-if5 c = search needs
 
 returns-3 : tie.Need-returns-3
-returns-3 c =
-    let a = c .before .before .before .before .before .before .before .before .before .args in
-    let f = c .before .before .before .before .before .before .flags-run in
-    let w = c .before .before .before .before .after-two-digits in
-    formats.dot-stays (a .conversion) (a .text .now) (a .at) (c .before .before .before .before .before .before .before .if1 .left) (f .result) (f .ensures) (no-zero (c .before .before .before .before .before)) (w .result) (w .ensures) (formats.no-precision-c (a .conversion) (c .if6 .taken))
+returns-3 c = formats.dot-stays (widened (c .before .before .before .before)) (formats.no-precision-c _ (c .if6 .taken))
 
 returns-4 : tie.Need-returns-4
-returns-4 c =
-    let a = c .before .before .before .before .before .before .before .before .before .before .args in
-    let f = c .before .before .before .before .before .before .before .flags-run in
-    let w = c .before .before .before .before .before .after-two-digits in
-    formats.dot-stays (a .conversion) (a .text .now) (a .at) (c .before .before .before .before .before .before .before .before .if1 .left) (f .result) (f .ensures) (no-zero (c .before .before .before .before .before .before)) (w .result) (w .ensures) (formats.no-precision-p (a .conversion) (c .if7 .taken))
+returns-4 c = formats.dot-stays (widened (c .before .before .before .before .before)) (formats.no-precision-p _ (c .if7 .taken))
 
 add-after-two-digits : tie.Need-add-after-two-digits
 add-after-two-digits c = search needs
@@ -68,25 +67,14 @@ after-two-digits-requires-2 c κs = search needs
 
 returns-5 : tie.Need-returns-5
 returns-5 c =
-    let a = c .before .before .before .before .before .before .before .before .before .before .before .args in
-    let f = c .before .before .before .before .before .before .before .before .flags-run in
-    let w = c .before .before .before .before .before .before .after-two-digits in
     c .after-two-digits2 .ensures
-    ∙ formats.dot-passed (a .conversion) (a .text .now) (a .at) (c .before .before .before .before .before .before .before .before .before .if1 .left) (f .result) (f .ensures) (no-zero (c .before .before .before .before .before .before .before)) (w .result) (w .ensures) (formats.a-precision (a .conversion) (c .before .before .if6 .left) (c .before .if7 .left)) (c .before .before .before .if5 .taken)
+    ∙ formats.dot-passed (widened (c .before .before .before .before .before .before)) (formats.a-precision _ (c .before .before .if6 .left) (c .before .if7 .left)) (c .before .before .before .if5 .taken)
 
 returns-6 : tie.Need-returns-6
-returns-6 c =
-    let a = c .before .before .before .before .before .before .before .before .args in
-    let f = c .before .before .before .before .before .flags-run in
-    let w = c .before .before .before .after-two-digits in
-    formats.no-dot (a .conversion) (a .text .now) (a .at) (c .before .before .before .before .before .before .if1 .left) (f .result) (f .ensures) (no-zero (c .before .before .before .before)) (w .result) (w .ensures) (c .if5 .left)
+returns-6 c = formats.no-dot (widened (c .before .before .before)) (c .if5 .left)
 
 returns-7 : tie.Need-returns-7
-returns-7 c =
-    let a = c .before .before .before .before .before .before .args in
-    let f = c .before .before .before .flags-run in
-    let w = c .before .after-two-digits in
-    formats.no-dot (a .conversion) (a .text .now) (a .at) (c .before .before .before .before .if1 .left) (f .result) (f .ensures) (no-zero (c .before .before)) (w .result) (w .ensures) (formats.none-there (a .text .now) (w .result) 46 (omega arith) (c .if4 .left))
+returns-7 c = formats.no-dot (widened (c .before)) (formats.none-there (c .before .before .before .before .before .before .args .text .now) (c .before .after-two-digits .result) 46 (omega arith) (c .if4 .left))
 
 pub check-format-spec : {M : Type 1} → statement M
 check-format-spec =

@@ -1,12 +1,17 @@
 -- `luck_format::format::scan_format` meets its contract. Assumes nothing.
 use mathlib.Core.Path.{_∙_}
 use native.Mathlib.Omega.{arith}
-use Prim.Native.Nat.{_+_}
+use Prim.Native.Nat.{_+_, _≤_}
+use lib.ListN.{length}
 use Rattle.luck_text.specs.Bytes.{among, ascii}
 use Rattle.luck_format.proofs.Formats as formats
 use borrow.Author.Needs.{needs}
 use Rattle.luck_format.proofs.format.scan_format.Statement.{statement}
 use Rattle.luck_format.proofs.format.scan_format.Tie as tie
+
+-- the run lies in the text
+inside : (c : tie.After-run-in) → c .before .before .before .args .at + c .run-in .result ≤ length (c .before .before .before .args .text .now)
+inside c = formats.inside _ _ _ (λ b. among b (ascii "-+ #0")) (c .run-in .ensures) (omega arith)
 
 slice-aggregate-run-in : tie.Need-slice-aggregate-run-in
 slice-aggregate-run-in c = search needs
@@ -18,19 +23,19 @@ add-sixth : tie.Need-add-sixth
 add-sixth c = search needs
 
 shared-slice-read-t10 : tie.Need-shared-slice-read-t10
-shared-slice-read-t10 c = omega (arith, formats.inside (c .before .before .before .before .before .args .text .now) (c .before .before .before .before .before .args .at) (c .before .before .run-in .result) (λ b. among b (ascii "-+ #0")) (c .before .before .run-in .ensures) (omega arith))
+shared-slice-read-t10 c = omega (arith, inside (c .before .before))
 
 cast-t11 : tie.Need-cast-t11
 cast-t11 c = omega (arith, c .shared-slice-known2 .given (c .before .before .before .before .before .args .at + 5))
 
 returns : tie.Need-returns
-returns c = (formats.many-flags (c .before .before .before .before .before .args .text .now) (c .before .before .before .before .before .args .at) (c .before .before .run-in .result) (c .before .before .run-in .ensures) (c .before .if1 .taken), tt)
+returns c = (formats.many-flags _ _ _ (c .before .before .run-in .ensures) (c .before .if1 .taken), tt)
 
 add-scan-width : tie.Need-add-scan-width
-add-scan-width c = omega (arith, formats.inside (c .before .before .before .before .args .text .now) (c .before .before .before .before .args .at) (c .before .run-in .result) (λ b. among b (ascii "-+ #0")) (c .before .run-in .ensures) (omega arith))
+add-scan-width c = omega (arith, inside (c .before))
 
 scan-width-requires : tie.Need-scan-width-requires
-scan-width-requires c κs = formats.inside (c .before .before .before .before .args .text .now) (c .before .before .before .before .args .at) (c .before .run-in .result) (λ b. among b (ascii "-+ #0")) (c .before .run-in .ensures) (omega arith)
+scan-width-requires c κs = inside (c .before)
 
 returns-2 : tie.Need-returns-2
 returns-2 c =

@@ -1,11 +1,16 @@
 -- `luck_format::format::scan_precision` meets its contract. Assumes nothing.
 use native.Mathlib.Omega.{arith}
-use Prim.Native.Nat.{_+_}
+use Prim.Native.Nat.{_+_, _≤_}
+use lib.ListN.{length}
 use Rattle.luck_text.specs.Bytes.{isDigit}
 use Rattle.luck_format.proofs.Formats as formats
 use borrow.Author.Needs.{needs}
 use Rattle.luck_format.proofs.format.scan_precision.Statement.{statement}
 use Rattle.luck_format.proofs.format.scan_precision.Tie as tie
+
+-- the run lies in the text
+inside : (c : tie.After-run) → c .before .before .args .at + 1 + c .run .result ≤ length (c .before .before .args .text .now)
+inside c = formats.inside _ _ _ isDigit (c .run .ensures) (omega arith)
 
 add-run : tie.Need-add-run
 add-run c = search needs
@@ -17,18 +22,16 @@ add-t7 : tie.Need-add-t7
 add-t7 c = search needs
 
 returns : tie.Need-returns
-returns c = (formats.long-precision (c .before .before .before .args .text .now) (c .before .before .before .args .at) (c .before .run .result) (c .before .run .ensures) (c .if1 .taken), tt)
+returns c = (formats.long-precision _ _ _ (c .before .run .ensures) (c .if1 .taken), tt)
 
 add-t4 : tie.Need-add-t4
 add-t4 c = search needs
 
 add-t9 : tie.Need-add-t9
-add-t9 c = omega (arith, formats.inside (c .before .before .before .args .text .now) (c .before .before .before .args .at + 1) (c .before .run .result) isDigit (c .before .run .ensures) (omega arith))
+add-t9 c = omega (arith, inside (c .before))
 
 returns-2 : tie.Need-returns-2
-returns-2 c =
-    let q = formats.inside (c .before .before .before .args .text .now) (c .before .before .before .args .at + 1) (c .before .run .result) isDigit (c .before .run .ensures) (omega arith) in
-    (formats.short-precision (c .before .before .before .args .text .now) (c .before .before .before .args .at) (c .before .run .result) (c .before .run .ensures) (c .if1 .left), (omega arith, q))
+returns-2 c = (formats.short-precision _ _ _ (c .before .run .ensures) (c .if1 .left), (omega arith, inside (c .before)))
 
 pub scan-precision-spec : {M : Type 1} → statement M
 scan-precision-spec =

@@ -1,5 +1,5 @@
 -- `luck_format::format::scan_specifier` meets its contract. Assumes nothing.
-use mathlib.Core.Path.{_≡_, _∙_}
+use mathlib.Core.Path.{_≡_, subst, _∙_}
 use native.Mathlib.Omega.{arith}
 use Prim.Native.Nat.{_+_}
 use mathlib.Core.Logic.{⊎-elim}
@@ -11,7 +11,7 @@ use Rattle.luck_text.specs.Bytes.{byteAt}
 use Rattle.luck_text.proofs.Cases.{first-false, second-false}
 use Rattle.luck_answer.specs.Answer.{refusal}
 use Rattle.luck_format.specs.Format.{modifiersAt}
-use Rattle.luck_format.specs.declared.format.Modifiers.the-variants.{EndAt, Fault}
+use Rattle.luck_format.specs.declared.format.Modifiers.{Modifiers}
 use Rattle.luck_format.proofs.Formats as formats
 use borrow.Author.Needs.{needs}
 use Rattle.luck_format.proofs.format.scan_specifier.Statement.{statement}
@@ -23,6 +23,11 @@ no-star c =
     let a = c .before .before .before .before .before .args in
     let x = byteAt (a .text .now) (a .at + 1) in
     ⊎-elim (λ w. second-false (eqb x 42) (a .rules .«star_format») (w .1 .left)) (λ w. first-false (eqb x 42) (a .rules .«star_format») (ne-eqb x 42 (w .left))) (c .if3 .came)
+
+-- what is known of the modifiers
+seen : (c : tie.After-scan-format-modifiers) {x : Modifiers} → c .scan-format-modifiers .result ≡ x
+    → formats.ModifiersAt (modifiersAt (c .before .before .before .before .before .before .args .rules .«checked_format_modifiers») (c .before .before .before .before .before .before .args .text .now) (c .before .before .before .before .before .before .args .at + 1)) (c .before .before .before .before .before .before .args .at + 1) (length (c .before .before .before .before .before .before .args .text .now)) x
+seen c e = subst (formats.ModifiersAt _ _ _) e (c .scan-format-modifiers .ensures)
 
 add-next : tie.Need-add-next
 add-next c = search needs
@@ -52,11 +57,7 @@ enum-known-modifiers : tie.Need-enum-known-modifiers
 enum-known-modifiers c = search needs
 
 scan-format-conversion-requires : tie.Need-scan-format-conversion-requires
-scan-format-conversion-requires c κs =
-    let a = c .before .before .before .before .before .before .before .before .before .args in
-    let v = c .before .modifiers .given in
-    let s = formats.seen (modifiersAt (a .rules .«checked_format_modifiers») (a .text .now) (a .at + 1)) (a .at + 1) (length (a .text .now)) (EndAt (v .0 .0)) (v .1) (c .before .before .before .scan-format-modifiers .ensures) in
-    (omega (arith, s .1 .0), s .1 .1)
+scan-format-conversion-requires c κs = let s = seen (c .before .before .before) (c .before .modifiers .given .1) in (omega (arith, s .1 .0), s .1 .1)
 
 enum-known-modifiers-2 : tie.Need-enum-known-modifiers-2
 enum-known-modifiers-2 c = search needs
@@ -64,9 +65,10 @@ enum-known-modifiers-2 c = search needs
 returns-4 : tie.Need-returns-4
 returns-4 c =
     let a = c .before .before .before .before .before .before .before .before .before .before .args in
-    let v = c .before .before .modifiers .given in
-    let s = formats.seen (modifiersAt (a .rules .«checked_format_modifiers») (a .text .now) (a .at + 1)) (a .at + 1) (length (a .text .now)) (EndAt (v .0 .0)) (v .1) (c .before .before .before .before .scan-format-modifiers .ensures) in (
-      λ count. c .scan-format-conversion .ensures .0 count ∙ formats.after-modifiers (a .rules) (a .text .now) (a .at) count (c .before .before .before .before .before .before .before .before .if1 .left) (c .before .before .before .before .before .before .if2 .left) (no-star (c .before .before .before .before .before)) (v .0 .0) (s .0),
+    let v = c .before .before .modifiers .given in (
+      λ count.
+          c .scan-format-conversion .ensures .0 count
+          ∙ formats.after-modifiers (a .rules) (a .text .now) (a .at) count (c .before .before .before .before .before .before .before .before .if1 .left) (c .before .before .before .before .before .before .if2 .left) (no-star (c .before .before .before .before .before)) (v .0 .0) (seen (c .before .before .before .before) (v .1) .0),
       c .scan-format-conversion .ensures .1,
     )
 
@@ -74,8 +76,7 @@ returns-5 : tie.Need-returns-5
 returns-5 c =
     let a = c .before .before .before .before .before .before .before .before .before .args in
     let v = c .before .modifiers2 .given in
-    let s = formats.seen (modifiersAt (a .rules .«checked_format_modifiers») (a .text .now) (a .at + 1)) (a .at + 1) (length (a .text .now)) (Fault (v .0 .0)) (v .1) (c .before .before .before .scan-format-modifiers .ensures) in
-    (λ count. formats.faulty-modifiers (a .rules) (a .text .now) (a .at) count (c .before .before .before .before .before .before .before .if1 .left) (c .before .before .before .before .before .if2 .left) (no-star (c .before .before .before .before)) (refusal (v .0 .0)) (s .0), tt)
+    (λ count. formats.faulty-modifiers (a .rules) (a .text .now) (a .at) count (c .before .before .before .before .before .before .before .if1 .left) (c .before .before .before .before .before .if2 .left) (no-star (c .before .before .before .before)) (refusal (v .0 .0)) (seen (c .before .before .before) (v .1) .0), tt)
 
 pub scan-specifier-spec : {M : Type 1} → statement M
 scan-specifier-spec =

@@ -1,7 +1,8 @@
 -- `luck_output::character::write_char` meets its contract, a law of `Characters` for each width. Assumes nothing.
 use mathlib.Core.Path.{_≡_, refl, sym, ap}
-use Prim.Native.Nat.{_+_, _≤_}
+use Prim.Native.Nat.{ℕ, _+_, _≤_}
 use native.Mathlib.Omega.{arith}
+use mathlib.Core.List.{List}
 use borrow.Author.Needs.{needs}
 use lib.ListN.{length, length-set}
 use Rattle.luck_utf8.specs.Utf8.{utf8Bytes}
@@ -9,26 +10,21 @@ use Rattle.luck_output.proofs.Characters.{one-byte, two-bytes, three-by
 use Rattle.luck_output.proofs.character.write_char.Statement.{statement}
 use Rattle.luck_output.proofs.character.write_char.Tie as tie
 
--- there is room for the bytes of each branch
+-- there is room for the character's bytes, in each branch
+room : (s : tie.Start) {bytes : List ℕ} → utf8Bytes (s .args .code) ≡ bytes → s .args .at + length bytes ≤ length (s .args .output .now)
+room s e = rw e at (s .pre .1)
+
 room-one : (c : tie.Then1) → c .before .before .args .at + 1 ≤ length (c .before .before .args .output .now)
-room-one c =
-    let s = c .before .before in
-    let n : length (utf8Bytes (s .args .code)) ≡ 1 = ap length (one-byte (s .args .code) (c .if1 .taken)) in omega (arith, s .pre .1)
+room-one c = room (c .before .before) (one-byte _ (c .if1 .taken))
 
 room-two : (c : tie.Then2) → c .before .before .before .args .at + 2 ≤ length (c .before .before .before .args .output .now)
-room-two c =
-    let s = c .before .before .before in
-    let n : length (utf8Bytes (s .args .code)) ≡ 2 = ap length (two-bytes (s .args .code) (c .before .if1 .left) (c .if2 .taken)) in omega (arith, s .pre .1)
+room-two c = room (c .before .before .before) (two-bytes _ (c .before .if1 .left) (c .if2 .taken))
 
 room-three : (c : tie.Then3) → c .before .before .before .before .args .at + 3 ≤ length (c .before .before .before .before .args .output .now)
-room-three c =
-    let s = c .before .before .before .before in
-    let n : length (utf8Bytes (s .args .code)) ≡ 3 = ap length (three-bytes (s .args .code) (c .before .if2 .left) (c .if3 .taken)) in omega (arith, s .pre .1)
+room-three c = room (c .before .before .before .before) (three-bytes _ (c .before .if2 .left) (c .if3 .taken))
 
 room-four : (c : tie.Else3) → c .before .before .before .before .args .at + 4 ≤ length (c .before .before .before .before .args .output .now)
-room-four c =
-    let s = c .before .before .before .before in
-    let n : length (utf8Bytes (s .args .code)) ≡ 4 = ap length (four-bytes (s .args .code) (c .if3 .left)) in omega (arith, s .pre .1)
+room-four c = room (c .before .before .before .before) (four-bytes _ (c .if3 .left))
 
 cast-output : tie.Need-cast-output
 cast-output c = search needs

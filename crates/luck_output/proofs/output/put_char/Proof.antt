@@ -1,7 +1,6 @@
 -- `luck_output::output::put_char` meets its contract. Assumes nothing.
 use mathlib.Core.Path.{_∙_}
 use native.Mathlib.Omega.{arith}
-use Rattle.luck_utf8.specs.Utf8.{utf8Bytes}
 use Rattle.luck_output.proofs.Outputs.{stores-fit, stores-none}
 use borrow.Author.Needs.{needs}
 use Rattle.luck_output.proofs.output.put_char.Statement.{statement}
@@ -11,13 +10,13 @@ char-width-requires : tie.Need-char-width-requires
 char-width-requires c κs = search needs
 
 returns : tie.Need-returns
-returns c = (c .before .char-width .ensures, stores-none (c .before .before .before .args .output .now) (c .before .before .before .args .at) (utf8Bytes (c .before .before .before .args .code)) (omega (arith, c .if1 .taken)))
+returns c = (c .before .char-width .ensures, stores-none _ _ _ (omega (arith, c .if1 .taken)))
 
 sub-if2 : tie.Need-sub-if2
 sub-if2 c = search needs
 
 returns-2 : tie.Need-returns-2
-returns-2 c = (c .before .before .char-width .ensures, stores-none (c .before .before .before .before .args .output .now) (c .before .before .before .before .args .at) (utf8Bytes (c .before .before .before .before .args .code)) (omega (arith, c .before .before .char-width .ensures, c .if2 .taken)))
+returns-2 c = (c .before .before .char-width .ensures, stores-none _ _ _ (omega (arith, c .before .before .char-width .ensures, c .if2 .taken)))
 
 write-char-requires : tie.Need-write-char-requires
 write-char-requires c κs = (c .before .before .before .before .before .pre, omega (arith, c .before .before .before .char-width .ensures, c .before .if2 .left, c .before .before .if1 .left))
@@ -26,7 +25,9 @@ same-length : tie.Need-same-length
 same-length c = search needs
 
 returns-3 : tie.Need-returns-3
-returns-3 c = (c .before .before .write-char .ensures .0, c .before .before .write-char .ensures .1 ∙ stores-fit (c .before .before .before .before .before .before .before .before .args .output .now) (c .before .before .before .before .before .before .before .before .args .at) (utf8Bytes (c .before .before .before .before .before .before .before .before .args .code)) (omega (arith, c .before .before .before .before .before .before .char-width .ensures, c .before .before .before .before .if2 .left, c .before .before .before .before .before .if1 .left)))
+returns-3 c =
+    let w = c .before .before .write-char .ensures in
+    (w .0, w .1 ∙ stores-fit _ _ _ (omega (arith, c .before .before .before .before .before .before .char-width .ensures, c .before .before .before .before .if2 .left, c .before .before .before .before .before .if1 .left)))
 
 pub put-char-spec : {M : Type 1} → statement M
 put-char-spec =

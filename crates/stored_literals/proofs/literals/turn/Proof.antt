@@ -1,11 +1,16 @@
 -- `stored_literals::literals::turn` meets its contract. Assumes nothing.
 use native.Mathlib.Omega.{arith}
-use mathlib.Core.Path.{subst}
+use mathlib.Core.Path.{_≡_, subst}
 use lib.ListN.{length}
 use Rattle.stored_literals.specs.Literals.{LiesBehind}
+use Rattle.stored_literals.specs.declared.literals.Read.{Read}
 use borrow.Author.Needs.{needs}
 use Rattle.stored_literals.proofs.literals.turn.Statement.{statement}
 use Rattle.stored_literals.proofs.literals.turn.Tie as tie
+
+-- what is known of the record that was read
+read : (c : tie.After-record-at) {x : Read} → c .record-at .result ≡ x → LiesBehind (c .before .before .args .at) (length (c .before .before .args .file .now)) x
+read c e = subst (LiesBehind _ _) e (c .record-at .ensures)
 
 record-at-requires : tie.Need-record-at-requires
 record-at-requires c κs = search needs
@@ -17,19 +22,13 @@ slice-aggregate-agrees : tie.Need-slice-aggregate-agrees
 slice-aggregate-agrees c = search needs
 
 agrees-requires : tie.Need-agrees-requires
-agrees-requires c κs =
-    let args = c .before .before .before .before .before .before .args in
-    let h = subst (LiesBehind (args .at) (length (args .file .now))) (c .before .before .read .given .1) (c .before .before .before .before .record-at .ensures) in
-    (h .0, omega arith)
+agrees-requires c κs = (read (c .before .before .before .before) (c .before .before .read .given .1) .0, omega arith)
 
 enum-told : tie.Need-enum-told
 enum-told c = search needs
 
 returns : tie.Need-returns
-returns c =
-    let args = c .before .before .before .before .before .before .before .before .args in
-    let h = subst (LiesBehind (args .at) (length (args .file .now))) (c .before .before .before .before .read .given .1) (c .before .before .before .before .before .before .record-at .ensures) in
-    (h .1, h .0 .inside)
+returns c = let h = read (c .before .before .before .before .before .before) (c .before .before .before .before .read .given .1) in (h .1, h .0 .inside)
 
 returns-2 : tie.Need-returns-2
 returns-2 c = search needs
