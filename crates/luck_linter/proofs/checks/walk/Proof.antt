@@ -15,30 +15,6 @@ of-arm : (rules : Rules) (body : List ℕ) (check variant : Check) (a : Answer) 
     → a ≡ walkOf (checkMeant check) rules body
 of-arm rules body check variant a is e = e ∙ ap (λ x. walkOf (checkMeant x) rules body) (sym is)
 
-returns : tie.Need-returns
-unfolding walkOf
-returns c = search of-arm
-
-returns-2 : tie.Need-returns-2
-unfolding walkOf
-returns-2 c = search of-arm
-
-returns-3 : tie.Need-returns-3
-unfolding walkOf
-returns-3 c = search of-arm
-
-returns-4 : tie.Need-returns-4
-unfolding walkOf
-returns-4 c = search of-arm
-
-returns-5 : tie.Need-returns-5
-unfolding walkOf
-returns-5 c = search of-arm
-
-returns-6 : tie.Need-returns-6
-unfolding walkOf
-returns-6 c = search of-arm
-
 pub walk-spec : {M : Type 1} → statement M
 walk-spec =
     tie.close
@@ -49,4 +25,9 @@ walk-spec =
     (λ c. search needs) (λ c κs. search needs)
     (λ c. search needs) (λ c κs. search needs)
     (λ c. search needs) (λ c κs. search needs)
-    returns returns-2 returns-3 returns-4 returns-5 returns-6)
+    (λ c. unfold walkOf in search of-arm)
+    (λ c. unfold walkOf in search of-arm)
+    (λ c. unfold walkOf in search of-arm)
+    (λ c. unfold walkOf in search of-arm)
+    (λ c. unfold walkOf in search of-arm)
+    (λ c. unfold walkOf in search of-arm))

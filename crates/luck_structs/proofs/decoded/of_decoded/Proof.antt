@@ -1,29 +1,14 @@
 -- `luck_structs::decoded::of_decoded` meets its contract. Assumes nothing.
-use Rattle.luck_token.specs.Decode.{numbered}
-use mathlib.Core.Path.{sym, ap, _∙_}
+use mathlib.Core.Path.{_≡_, sym, ap, _∙_}
+use Rattle.luck_token.specs.Decode.{Answer, numbered}
+use Rattle.luck_token.specs.declared.string.Decoded.{Decoded}
 use borrow.Author.Needs.{needs}
 use Rattle.luck_structs.proofs.decoded.of_decoded.Statement.{statement}
 use Rattle.luck_structs.proofs.decoded.of_decoded.Tie as tie
 
-returns : tie.Need-returns
-unfolding numbered
-returns c = ap numbered (sym (c .before .decoded .given .1))
-
-returns-2 : tie.Need-returns-2
-unfolding numbered
-returns-2 c = c .refused .ensures ∙ ap numbered (sym (c .before .enum-told .given .1))
-
-returns-3 : tie.Need-returns-3
-unfolding numbered
-returns-3 c = c .refused2 .ensures ∙ ap numbered (sym (c .before .before .decoded2 .given .1))
-
-returns-4 : tie.Need-returns-4
-unfolding numbered
-returns-4 c = c .refused3 .ensures ∙ ap numbered (sym (c .before .enum-told2 .given .1))
-
-returns-5 : tie.Need-returns-5
-unfolding numbered
-returns-5 c = c .refused4 .ensures ∙ ap numbered (sym (c .before .enum-told3 .given .1))
+-- an arm gives the numbers of the answer that it is for
+of-arm : (decoded variant : Decoded) (a : Answer) → decoded ≡ variant → a ≡ numbered variant → a ≡ numbered decoded
+of-arm decoded variant a is e = e ∙ ap numbered (sym is)
 
 pub of-decoded-spec : {M : Type 1} → statement M
 of-decoded-spec =
@@ -34,4 +19,8 @@ of-decoded-spec =
     (λ c. search needs) (λ c κs. search needs)
     (λ c. search needs) (λ c κs. search needs)
     (λ c. search needs) (λ c κs. search needs)
-    returns returns-2 returns-3 returns-4 returns-5)
+    (λ c. unfold numbered in search of-arm)
+    (λ c. unfold numbered in search of-arm)
+    (λ c. unfold numbered in search of-arm)
+    (λ c. unfold numbered in search of-arm)
+    (λ c. unfold numbered in search of-arm))
