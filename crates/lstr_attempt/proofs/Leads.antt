@@ -102,7 +102,7 @@ module _ (sub : List ℕ) (budget : ℕ) where
     by-reach t e = ap (λ (y : Reach). maxExpand y ending shortest 1 cs) (e ∙ w)
 
     pub test-unpaid : r .«is_spent» ≡ true → stopped 27 0 (r .steps) ≡ taken
-    test-unpaid e = repeats.expand-spent ending shortest 1 cs (r .steps) ∙ by-reach (spent (r .steps)) (repeats.reach-is-spent r e)
+    test-unpaid e = repeats.spent-expands r _ w ending shortest 1 cs e
 
     module _ (e : r .«is_spent» ≡ false) (h : shortest ≤ r .end) where
       at-reach : ending (r .end) 2 cs (r .steps) ≡ taken

@@ -140,7 +140,7 @@ AtEscape pat p = (p < length pat) × (byteAt pat p ≡ code "%")
 abbrev pub AtFrontier : List ℕ → ℕ → Type 0
 AtFrontier pat p = (p + 1 < length pat) × (byteAt pat p ≡ code "%") × (byteAt pat (p + 1) ≡ code "f")
 
--- the code's repeat, and the repeat's in the code
+-- the code's repeat, and back
 abbrev pub repeatAs : Repeated → Repeat
 repeatAs coded.Once = once
 repeatAs coded.Optional = optional
@@ -161,13 +161,6 @@ isOnce optional = false
 isOnce star = false
 isOnce plus = false
 isOnce minus = false
-
-abbrev pub isOptional : Repeat → Bool
-isOptional once = false
-isOptional optional = true
-isOptional star = false
-isOptional plus = false
-isOptional minus = false
 
 -- a single that has to fit is not passed over
 abbrev pub hasToFit : Repeat → Bool

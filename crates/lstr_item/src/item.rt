@@ -6,7 +6,7 @@ ghost use Rattle.luck_text.specs.Bytes.{byteAt};
 ghost use Rattle.luck_pattern.specs.Reading.{setEnd};
 ghost use Rattle.luck_pattern.specs.Items.{repeatOf};
 ghost use Rattle.lstr_class.specs.Inner.{foundOf};
-ghost use Rattle.lstr_item.specs.Inner.{closingOf, ClosesIn, AtSet, AtEscape, AtFrontier, repeatAs, isOnce, isOptional, hasToFit, isGreedy, repeatRead, ItemAt};
+ghost use Rattle.lstr_item.specs.Inner.{closingOf, ClosesIn, AtSet, AtEscape, AtFrontier, repeatAs, isOnce, hasToFit, isGreedy, repeatRead, ItemAt};
 use lstr_class::subject::Found;
 
 // The kinds of an error in a pattern, by lstrlib.c's message.
@@ -50,19 +50,6 @@ pub fn is_once(repeat: Repeat) -> bool
     match repeat {
         Repeat::Once => true,
         Repeat::Optional => false,
-        Repeat::Star => false,
-        Repeat::Plus => false,
-        Repeat::Minus => false,
-    }
-}
-
-// Whether its repeat is `?`.
-pub fn is_optional(repeat: Repeat) -> bool
-    ensures { λ r. ⌜ r ≡ isOptional (repeatAs repeat) ⌝ }
-{
-    match repeat {
-        Repeat::Once => false,
-        Repeat::Optional => true,
         Repeat::Star => false,
         Repeat::Plus => false,
         Repeat::Minus => false,

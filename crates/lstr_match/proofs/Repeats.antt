@@ -11,14 +11,13 @@ use lib.ListN.{length}
 use lib.Dec.{eqb}
 use borrow.Author.Tests.{lt-ltb, le-ltb, ne-eqb}
 use Rattle.luck_text.specs.Bytes.{if_then_else_}
-use Rattle.luck_text.proofs.Cases.{if-true, if-false, order}
-use Rattle.lstr_item.proofs.Turns.{false-true}
-use Rattle.luck_pattern.specs.Items.{Single, Repeat, once, optional, star, plus, minus}
+use Rattle.luck_text.proofs.Cases.{order}
+use Rattle.luck_pattern.specs.Items.{Single, optional, star, plus, minus}
 use Rattle.lstr_class.specs.Class.{matchClass}
 use Rattle.lstr_item.specs.Match.{Capture, Outcome, matched, failed, stopped, Rest, due, newLevel, orElse, Reach, reached, spent, longestFirst, maxExpand, fitsAt, reach, minExpand, expand}
-use Rattle.lstr_item.specs.Inner.{heldAs, reachOf, isOptional, capturesIn, KeptIn}
+use Rattle.lstr_item.specs.Inner.{heldAs, reachOf, capturesIn, KeptIn}
 use Rattle.lstr_class.specs.Inner.{foundOf}
-use Rattle.lstr_match.specs.Inner.{outcomeBy, outcomeOf, AttemptIn, EndsAs, MatchesAs, atNewLevels}
+use Rattle.lstr_match.specs.Inner.{outcomeBy, outcomeOf, AttemptIn, EndsAs, MatchesAs}
 use Rattle.lstr_match.specs.declared.outcome.Attempt.{Attempt}
 use Rattle.lstr_item.specs.declared.capture.Held.{Held}
 use Rattle.lstr_item.specs.declared.single.Reached.{Reached}
@@ -91,64 +90,22 @@ module _ (sub : List ℕ) (budget : ℕ) (x : Single) (rest : Rest) (s l : ℕ) 
   unfolding expand
   plus-on t e = ap (λ y. maxExpand y rest (s + 1) l cs) e
 
-pub as-repeat : (sub : List ℕ) (budget : ℕ) (x : Single) (j k : Repeat) → j ≡ k → (rest : Rest) (s l : ℕ) (cs : List Capture) (u : ℕ)
-    → expand matchClass sub budget x j rest s l cs u ≡ expand matchClass sub budget x k rest s l cs u
-as-repeat sub budget x j k e rest s l cs u = ap (λ (i : Repeat). expand matchClass sub budget x i rest s l cs u) e
-
--- what is tried at new levels, and what is left of a single that fits
-module _ (sub : List ℕ) (budget : ℕ) (x : Single) (k : Repeat) (rest : Rest) (s l : ℕ) (cs : List Capture) (u : ℕ) where
-  abbrev tried : Outcome
-  tried = atNewLevels sub budget x k rest s l cs u
-
-  abbrev fitting : Outcome
-  fitting = expand matchClass sub budget x k rest s l cs u
-
-  pub levels-optional : isOptional k ≡ true → newLevel l u (λ m. rest (s + 1) m cs u) ≡ tried
-  unfolding atNewLevels
-  levels-optional e = sym (if-true _ _ _ e)
-
-  pub levels-other : isOptional k ≡ false → fitting ≡ tried
-  unfolding atNewLevels
-  levels-other e = sym (if-false _ _ _ e)
-
-  pub levels-star : k ≡ star → (t : Reach) → t ≡ reach matchClass sub budget x (length sub - (s + 1)) (s + 1) u → (n : ℕ) → n ≡ s → maxExpand t rest n l cs ≡ tried
-  levels-star e t f n g =
-      ap (λ (m : ℕ). maxExpand t rest m l cs) g ∙ star-on sub budget x rest s l cs u t f ∙ as-repeat sub budget x star k (sym e) rest s l cs u
-      ∙ levels-other (ap isOptional e)
-
-  pub levels-plus : k ≡ plus → (t : Reach) → t ≡ reach matchClass sub budget x (length sub - (s + 1)) (s + 1) u → (n : ℕ) → n ≡ s + 1 → maxExpand t rest n l cs ≡ tried
-  levels-plus e t f n g =
-      ap (λ (m : ℕ). maxExpand t rest m l cs) g ∙ plus-on sub budget x rest s l cs u t f ∙ as-repeat sub budget x plus k (sym e) rest s l cs u
-      ∙ levels-other (ap isOptional e)
-
-  optional-else : (r : Repeat) → isOptional r ≡ true
-      → orElse (newLevel l u (λ m. rest (s + 1) m cs u)) (λ v. rest s l cs v) ≡ expand matchClass sub budget x r rest s l cs u
+-- `?` behind its byte, at a new level, and then without it
+module _ (sub : List ℕ) (budget : ℕ) (x : Single) (rest : Rest) (s l : ℕ) (cs : List Capture) (u : ℕ) (r : Attempt) (kept : List ℕ)
+    (w : outcomeOf r kept ≡ newLevel l u (λ m. rest (s + 1) m cs u)) where
+  pub optional-ends : (r .number ≡ 1 → ⊥) → outcomeOf r kept ≡ expand matchClass sub budget x optional rest s l cs u
   unfolding expand
-  optional-else once e = absurd (false-true e)
-  optional-else optional e = refl
-  optional-else star e = absurd (false-true e)
-  optional-else plus e = absurd (false-true e)
-  optional-else minus e = absurd (false-true e)
+  optional-ends n = ends-it r kept n _ w _
 
-  module _ (r : Attempt) (kept : List ℕ) (w : outcomeOf r kept ≡ tried) where
-    ends-by : (b : Bool) → isOptional k ≡ b → (r .number ≡ 1 → ⊥) → outcomeOf r kept ≡ fitting
-    ends-by true e n = ends-it r kept n _ (w ∙ sym (levels-optional e)) _ ∙ optional-else k e
-    ends-by false e n = w ∙ sym (levels-other e)
+  pub optional-fails : r .number ≡ 1 → rest s l cs (r .steps) ≡ expand matchClass sub budget x optional rest s l cs u
+  unfolding expand
+  optional-fails e = goes-on r kept e _ w (λ v. rest s l cs v)
 
-    pub levels-end : (r .number ≡ 1 → ⊥) → outcomeOf r kept ≡ fitting
-    levels-end n = ends-by (isOptional k) refl n
-
-    pub levels-fail : isOptional k ≡ false → r .number ≡ 1 → failed (r .steps) ≡ fitting
-    levels-fail e f = sym (is-failure r kept f) ∙ w ∙ sym (levels-other e)
-
-    pub levels-on : isOptional k ≡ true → r .number ≡ 1 → rest s l cs (r .steps) ≡ fitting
-    levels-on e f = goes-on r kept f _ (w ∙ sym (levels-optional e)) (λ v. rest s l cs v) ∙ optional-else k e
-
-pub expand-spent : (rest : Rest) (s l : ℕ) (cs : List Capture) (u : ℕ) → stopped 27 0 u ≡ maxExpand (spent u) rest s l cs
+expand-spent : (rest : Rest) (s l : ℕ) (cs : List Capture) (u : ℕ) → stopped 27 0 u ≡ maxExpand (spent u) rest s l cs
 unfolding maxExpand
 expand-spent rest s l cs u = refl
 
-pub expand-from : (rest : Rest) (e s l : ℕ) (cs : List Capture) (u : ℕ) → longestFirst rest (e - s) s l cs u ≡ maxExpand (reached e u) rest s l cs
+expand-from : (rest : Rest) (e s l : ℕ) (cs : List Capture) (u : ℕ) → longestFirst rest (e - s) s l cs u ≡ maxExpand (reached e u) rest s l cs
 unfolding maxExpand
 expand-from rest e s l cs u = refl
 
@@ -234,8 +191,16 @@ pub found-as : {r : Found} (shape : Found) → r ≡ shape → (o : Option ℕ) 
 found-as shape e o w = subst (λ x. foundOf x ≡ o) e w
 
 module _ (r : Reached) where
-  pub reach-is-spent : r .«is_spent» ≡ true → spent (r .steps) ≡ reachOf r
+  reach-is-spent : r .«is_spent» ≡ true → spent (r .steps) ≡ reachOf r
   reach-is-spent e = rw e
 
   pub reach-is : r .«is_spent» ≡ false → reached (r .end) (r .steps) ≡ reachOf r
   reach-is e = rw e
+
+  -- what max_expand makes of it
+  module _ (t : Reach) (w : reachOf r ≡ t) (rest : Rest) (s l : ℕ) (cs : List Capture) where
+    pub spent-expands : r .«is_spent» ≡ true → stopped 27 0 (r .steps) ≡ maxExpand t rest s l cs
+    spent-expands e = expand-spent rest s l cs (r .steps) ∙ ap (λ (x : Reach). maxExpand x rest s l cs) (reach-is-spent e ∙ w)
+
+    pub reach-expands : r .«is_spent» ≡ false → longestFirst rest (r .end - s) s l cs (r .steps) ≡ maxExpand t rest s l cs
+    reach-expands e = expand-from rest (r .end) s l cs (r .steps) ∙ ap (λ (x : Reach). maxExpand x rest s l cs) (reach-is e ∙ w)

@@ -1,16 +1,13 @@
 -- What the functions of the matching promise each other and the trial. This crate is for the trial only, and no contract of `gsub` rests on these.
 -- Assumes nothing.
-use Prim.Native.Nat.{ℕ, _+_, _≤_}
+use Prim.Native.Nat.{ℕ, _≤_}
 use mathlib.Core.Path.{_≡_}
 use mathlib.Core.Bool.{Bool, true, false}
 use mathlib.Core.List.{List}
 use lib.Dec.{eqb}
-use Rattle.luck_text.specs.Bytes.{if_then_else_}
-use Rattle.luck_pattern.specs.Items.{Single, Repeat}
-use Rattle.lstr_class.specs.Class.{matchClass}
-use Rattle.lstr_item.specs.Match.{Capture, Outcome, matched, failed, stopped, Rest, newLevel, expand}
+use Rattle.lstr_item.specs.Match.{Outcome, matched, failed, stopped}
 use Rattle.lstr_match.specs.declared.outcome.Attempt.{Attempt}
-use Rattle.lstr_item.specs.Inner.{isOptional, capturesIn, KeptIn}
+use Rattle.lstr_item.specs.Inner.{capturesIn, KeptIn}
 
 -- number 0 is a match, 1 a failure, another what stopped the attempt
 unfoldable pub outcomeBy : Bool → Bool → Attempt → List ℕ → Outcome
@@ -35,8 +32,3 @@ abbrev pub MatchesAs : Attempt → ℕ → ℕ → ℕ → Type 0
 MatchesAs r e n u =
     (kept : List ℕ) (len : ℕ) → e ≤ len → KeptIn len n kept
     → (outcomeOf r kept ≡ matched e (capturesIn n kept) u) × AttemptIn r kept len
-
--- what a single that fits tries at new levels: with `?` the rest behind the byte, and then the single is passed over at its own level
-unfoldable pub atNewLevels : List ℕ → ℕ → Single → Repeat → Rest → ℕ → ℕ → List Capture → ℕ → Outcome
-atNewLevels sub budget x k rest s l cs u =
-    if isOptional k then newLevel l u (λ m. rest (s + 1) m cs u) else expand matchClass sub budget x k rest s l cs u

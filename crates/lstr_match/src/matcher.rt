@@ -1,14 +1,13 @@
 // The matching of an attempt, in the shape of its definition (Match.antt of lstr_item): items, repeats and captures that call each other.
 ghost use mathlib.Core.Path.{_≡_};
-ghost use mathlib.Core.Bool.{false};
 ghost use Prim.Native.Nat.{_+_, _-_, _<_, _≤_};
 ghost use lib.ListN.{length};
 ghost use Rattle.luck_pattern.specs.Items.{items, minus};
 ghost use Rattle.lstr_class.specs.Class.{matchClass};
-ghost use Rattle.lstr_item.specs.Match.{newLevel, startCapture, endCapture, captureToClose, longestFirst, expand, match};
+ghost use Rattle.lstr_item.specs.Match.{newLevel, startCapture, endCapture, captureToClose, reach, maxExpand, expand, match};
 ghost use Rattle.lstr_class.specs.Inner.{AreMasks};
-ghost use Rattle.lstr_item.specs.Inner.{SingleIn, singleOf, repeatAs, isOnce, captureOf, capturesOf, positional, Sound};
-ghost use Rattle.lstr_match.specs.Inner.{outcomeOf, AttemptIn, atNewLevels};
+ghost use Rattle.lstr_item.specs.Inner.{SingleIn, singleOf, captureOf, capturesOf, positional, Sound};
+ghost use Rattle.lstr_match.specs.Inner.{outcomeOf, AttemptIn};
 use crate::outcome;
 use crate::outcome::Attempt;
 use lstr_class::subject;
@@ -157,47 +156,97 @@ pub fn do_match(
                     at = end + 1;
                     continue 'items;
                 }
-                if item::is_once(repeat) {
-                    place += 1;
-                    at = end;
-                    continue 'items;
+                match repeat {
+                    Repeat::Once => {
+                        place += 1;
+                        at = end;
+                    }
+                    Repeat::Optional => {
+                        let next = end + 1;
+                        let r = do_match(
+                            masks,
+                            subject,
+                            pattern,
+                            next,
+                            place + 1,
+                            deeper,
+                            budget,
+                            steps,
+                            captures,
+                            kept,
+                        );
+                        if r.number != outcome::FAILED {
+                            return outcome::answer(r);
+                        }
+                        steps = r.steps;
+                        at = next;
+                    }
+                    Repeat::Star => {
+                        let r = max_expand(
+                            masks,
+                            subject,
+                            pattern,
+                            at,
+                            end,
+                            place,
+                            place,
+                            deeper,
+                            budget,
+                            steps,
+                            captures,
+                            kept,
+                        );
+                        return outcome::answer(r);
+                    }
+                    Repeat::Plus => {
+                        let r = max_expand(
+                            masks,
+                            subject,
+                            pattern,
+                            at,
+                            end,
+                            place,
+                            place + 1,
+                            deeper,
+                            budget,
+                            steps,
+                            captures,
+                            kept,
+                        );
+                        return outcome::answer(r);
+                    }
+                    Repeat::Minus => {
+                        let r = min_expand(
+                            masks,
+                            subject,
+                            pattern,
+                            at,
+                            end,
+                            place,
+                            deeper,
+                            budget,
+                            steps,
+                            captures,
+                            kept,
+                        );
+                        return outcome::answer(r);
+                    }
                 }
-                let r = expand(
-                    masks,
-                    subject,
-                    pattern,
-                    at,
-                    end,
-                    repeat,
-                    place,
-                    deeper,
-                    budget,
-                    steps,
-                    captures,
-                    kept,
-                );
-                if r.number != outcome::FAILED {
-                    return outcome::answer(r);
-                }
-                if !item::is_optional(repeat) {
-                    return outcome::failed(r.steps);
-                }
-                steps = r.steps;
-                at = end + 1;
             }
         }
     }
 }
 
-// A single that fits at `place`, with a repeat: what is tried at new levels. Where `?` fails with its byte, the caller goes on without it.
-fn expand(
+// max_expand: the single that fitted at `place` is tested further, and the rest of the pattern tried at new levels, from the last byte that fitted down to
+// `shortest`, which is `place` or the place after it. No level is opened where what the rest tests first fails.
+fn max_expand(
     masks: &[u8; 256],
     subject: &[u8],
     pattern: &[u8],
     at: usize,
     end: usize,
-    repeat: Repeat,
     place: usize,
+    shortest: usize,
     level: u32,
     budget: u32,
     steps: u32,
@@ -206,106 +255,29 @@ fn expand(
 ) -> Attempt
     requires { ⌜
         AreMasks (now masks) × SingleIn (now pattern) at end × (end < length (now pattern)) × (place < length (now subject))
-        × (isOnce (repeatAs repeat) ≡ false) × Sound place captures
+        × (place ≤ shortest) × (shortest ≤ place + 1) × Sound place captures
         ⌝ }
     ensures { λ r. ⌜
         (outcomeOf r (now (kept .exit)) ≡
-        atNewLevels (now (subject .entry)) budget (singleOf (now (pattern .entry)) at end) (repeatAs repeat) (match matchClass (now (subject .entry)) budget (items (now (pattern .entry)) (end + 1))) place level (capturesOf captures) steps)
+        maxExpand (reach matchClass (now (subject .entry)) budget (singleOf (now (pattern .entry)) at end) (length (now (subject .entry)) - (place + 1)) (place + 1) steps) (match matchClass (now (subject .entry)) budget (items (now (pattern .entry)) (end + 1))) shortest level (capturesOf captures))
         × AttemptIn r (now (kept .exit)) (length (now (subject .entry)))
         ⌝ }
 {
-    let next = end + 1;
-    let mut shortest = place;
-    match repeat {
-        Repeat::Optional => {
-            let r = do_match(
-                masks,
-                subject,
-                pattern,
-                next,
-                place + 1,
-                level,
-                budget,
-                steps,
-                captures,
-                kept,
-            );
-            return outcome::answer(r);
-        }
-        Repeat::Minus => {
-            let r = min_expand(
-                masks,
-                subject,
-                pattern,
-                at,
-                end,
-                place,
-                level,
-                budget,
-                steps,
-                captures,
-                kept,
-            );
-            return outcome::answer(r);
-        }
-        Repeat::Plus => shortest += 1,
-        Repeat::Star => {}
-        Repeat::Once => {}
-    }
     let reach = single::reach(masks, subject, pattern, at, end, place + 1, budget, steps);
     if reach.is_spent {
         return outcome::spent(reach.steps);
     }
-    let r = max_expand(
-        masks,
-        subject,
-        pattern,
-        next,
-        shortest,
-        reach.end,
-        level,
-        budget,
-        reach.steps,
-        captures,
-        kept,
-    );
-    outcome::answer(r)
-}
-
-// max_expand's second loop: the rest of the pattern at new levels, from `longest` down to `shortest`. Where what it tests first fails, no level is
-// opened.
-fn max_expand(
-    masks: &[u8; 256],
-    subject: &[u8],
-    pattern: &[u8],
-    next: usize,
-    shortest: usize,
-    longest: usize,
-    level: u32,
-    budget: u32,
-    steps: u32,
-    captures: Captures,
-    kept: &mut [usize; 64],
-) -> Attempt
-    requires { ⌜
-        AreMasks (now masks) × (next ≤ length (now pattern)) × (shortest ≤ longest) × (longest ≤ length (now subject)) × Sound shortest captures
-        ⌝ }
-    ensures { λ r. ⌜
-        (outcomeOf r (now (kept .exit)) ≡
-        longestFirst (match matchClass (now (subject .entry)) budget (items (now (pattern .entry)) next)) (longest - shortest) shortest level (capturesOf captures) steps)
-        × AttemptIn r (now (kept .exit)) (length (now (subject .entry)))
-        ⌝ }
-{
+    let next = end + 1;
     let mut is_open = false;
     let count = captures.count;
     if 0 < count {
         is_open = captures.pairs[count - 1].len == capture::UNFINISHED;
     }
     let first = ahead::first_test(pattern, next, level, is_open);
-    let mut place = longest;
-    let mut steps = steps;
+    let mut tried = reach.end;
+    let mut steps = reach.steps;
     loop {
-        if ahead::fails_at(masks, subject, pattern, first, place, budget, steps) {
+        if ahead::fails_at(masks, subject, pattern, first, tried, budget, steps) {
             steps += first.steps;
         } else {
             let r = do_match(
@@ -313,7 +285,7 @@ fn max_expand(
                 subject,
                 pattern,
                 next,
-                place,
+                tried,
                 level,
                 budget,
                 steps,
@@ -325,10 +297,10 @@ fn max_expand(
             }
             steps = r.steps;
         }
-        if place <= shortest {
+        if tried <= shortest {
             return outcome::failed(steps);
         }
-        place -= 1;
+        tried -= 1;
     }
 }
 

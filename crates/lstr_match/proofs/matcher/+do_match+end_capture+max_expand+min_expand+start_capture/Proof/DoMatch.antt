@@ -5,24 +5,23 @@ use native.Mathlib.Omega.{arith}
 use borrow.Author.Needs.{needs}
 use borrow.Author.Tests.{not-true, not-false}
 use lib.ListN.{length}
-use Rattle.luck_pattern.specs.Items.{Repeat, items}
+use Rattle.luck_pattern.specs.Items.{Repeat, once, optional, star, plus, minus, items}
 use Rattle.lstr_item.specs.Match.{Outcome, newLevel, match}
 use Rattle.lstr_class.specs.Class.{matchClass}
 use Rattle.lstr_class.specs.Inner.{AreMasks, FoundIn}
-use Rattle.lstr_item.specs.Inner.{capturesOf, repeatAs, ItemAt, HeldIn, Sound}
+use Rattle.lstr_item.specs.Inner.{capturesOf, repeatAs, Single-then, ItemAt, HeldIn, Sound}
 use Rattle.lstr_item.proofs.Turns as turns
 use Rattle.lstr_match.proofs.Repeats as repeats
 use Rattle.lstr_item.proofs.Captures.{sound-later, kept-later, is-open, is-position}
 use Rattle.lstr_item.proofs.Singles.{fits-inside}
 use Rattle.lstr_item.specs.declared.item.Item.{Item}
+use Rattle.lstr_item.specs.declared.item.Repeat.{Repeat as Coded}
 use Rattle.lstr_item.specs.declared.capture.Held.the-variants as held
 use Rattle.lstr_class.specs.declared.subject.Found.the-variants as found
 use Rattle.lstr_class.proofs.subject.match_balance.Reads as match-balance-reads
 use Rattle.lstr_item.proofs.capture.keep.Reads as keep-reads
 use Rattle.lstr_item.proofs.capture.match_capture.Reads as match-capture-reads
 use Rattle.lstr_item.proofs.item.has_to_fit.Reads as has-to-fit-reads
-use Rattle.lstr_item.proofs.item.is_once.Reads as is-once-reads
-use Rattle.lstr_item.proofs.item.is_optional.Reads as is-optional-reads
 use Rattle.lstr_item.proofs.item.read.Reads as read-reads
 use Rattle.lstr_item.proofs.single.fits.Reads as fits-reads
 use Rattle.lstr_item.proofs.single.is_frontier.Reads as is-frontier-reads
@@ -34,13 +33,14 @@ use Rattle.lstr_match.proofs.outcome.spent.Reads as spent-reads
 use Rattle.lstr_match.proofs.outcome.too_deep.Reads as too-deep-reads
 use Rattle.lstr_match.proofs.matcher.do_match.Reads as do-match
 use Rattle.lstr_match.proofs.matcher.end_capture.Reads as end-capture
-use Rattle.lstr_match.proofs.matcher.expand.Reads as expand
+use Rattle.lstr_match.proofs.matcher.max_expand.Reads as max-expand
+use Rattle.lstr_match.proofs.matcher.min_expand.Reads as min-expand
 use Rattle.lstr_match.proofs.matcher.start_capture.Reads as start-capture
-use Rattle.lstr_match.proofs.matcher.+do_match+end_capture+expand+max_expand+min_expand+start_capture.Lts-do_match as lts
-use Rattle.lstr_match.proofs.matcher.+do_match+end_capture+expand+max_expand+min_expand+start_capture.Proof.Frame.{do-match-at, end-capture-below, expand-below, start-capture-below}
+use Rattle.lstr_match.proofs.matcher.+do_match+end_capture+max_expand+min_expand+start_capture.Lts-do_match as lts
+use Rattle.lstr_match.proofs.matcher.+do_match+end_capture+max_expand+min_expand+start_capture.Proof.Frame.{do-match-at, do-match-below, end-capture-below, max-expand-below, min-expand-below, start-capture-below}
 
 abbrev E : ℕ → lts.Claims
-E t = (too-deep-reads.Asked, too-deep-reads.Learnt, spent-reads.Asked, spent-reads.Learnt, read-reads.Asked, read-reads.Learnt, keep-reads.Asked, keep-reads.Learnt, matched-reads.Asked, matched-reads.Learnt, failed-reads.Asked, failed-reads.Learnt, raised-reads.Asked, raised-reads.Learnt, start-capture-below t, start-capture.Post, answer-reads.Asked, answer-reads.Learnt, end-capture-below t, end-capture.Post, match-capture-reads.Asked, match-capture-reads.Learnt, match-balance-reads.Asked, match-balance-reads.Learnt, is-frontier-reads.Asked, is-frontier-reads.Learnt, fits-reads.Asked, fits-reads.Learnt, has-to-fit-reads.Asked, has-to-fit-reads.Learnt, is-once-reads.Asked, is-once-reads.Learnt, expand-below t, expand.Post, is-optional-reads.Asked, is-optional-reads.Learnt)
+E t = (too-deep-reads.Asked, too-deep-reads.Learnt, spent-reads.Asked, spent-reads.Learnt, read-reads.Asked, read-reads.Learnt, keep-reads.Asked, keep-reads.Learnt, matched-reads.Asked, matched-reads.Learnt, failed-reads.Asked, failed-reads.Learnt, raised-reads.Asked, raised-reads.Learnt, start-capture-below t, start-capture.Post, answer-reads.Asked, answer-reads.Learnt, end-capture-below t, end-capture.Post, match-capture-reads.Asked, match-capture-reads.Learnt, match-balance-reads.Asked, match-balance-reads.Learnt, is-frontier-reads.Asked, is-frontier-reads.Learnt, fits-reads.Asked, fits-reads.Learnt, has-to-fit-reads.Asked, has-to-fit-reads.Learnt, do-match-below t, do-match.Post, max-expand-below t, max-expand.Post, min-expand-below t, min-expand.Post)
 
 abbrev Inv : lts.InvT-items
 Inv masks subject pattern at place level budget steps captures kept₀ deeper at₀ place₀ steps₀ kept at' place' steps' =
@@ -106,9 +106,20 @@ module _ (t : ℕ) where
       × ((entry d .args .at ≤ p) × ((p ≤ length (entry d .args .pattern .now)) × ((entry d .args .place ≤ s) × (s ≤ length (entry d .args .subject .now)))))
   again d p s u f g h i w = (w ∙ so-far d, omega (arith, turn d .items .inv .1))
 
-  -- the repeat of a single
-  abbrev kind : lts.After-fits2 (E t) (do-match-at t) do-match.Post Inv μ → Repeat
+  -- a single, and its repeat
+  abbrev Fits : Type 0
+  Fits = lts.After-fits2 (E t) (do-match-at t) do-match.Post Inv μ
+
+  abbrev kind : Fits → Repeat
   kind f = repeatAs (f .before .before .item8 .given .0 .1 .0)
+
+  as-repeat : (f : Fits) (k : Coded) → f .before .before .item8 .given .0 .1 .0 ≡ k
+      → let d = f .before .before .before .before in
+      Single-then (entry d .args .pattern .now) (turn d .items .at) (f .before .before .item8 .given .0 .0) (repeatAs k)
+  as-repeat f k e =
+      let d = f .before .before .before .before in
+      subst (λ (x : Coded). Single-then (entry d .args .pattern .now) (turn d .items .at) (f .before .before .item8 .given .0 .0) (repeatAs x)) e
+      (item d _ (f .before .before .item8 .given .1))
 
   -- ---- The needs
 
@@ -419,38 +430,51 @@ module _ (t : ℕ) where
       let b = turns.behind-repeat _ _ _ _ (kind (c .before .before .before)) (i .on) (turns.passed-repeats (kind (c .before .before .before)) (sym (c .before .has-to-fit .ensures) ∙ c .if6 .left)) in
       again d _ _ _ (b .0) (b .1) (omega arith) (inside d) (turns.unfit-passed _ _ _ _ _ _ _ _ (paid d) _ _ (kind (c .before .before .before)) (i .on) (sym (c .before .has-to-fit .ensures) ∙ c .if6 .left) (sym (c .before .before .before .fits2 .ensures) ∙ not-true _ (c .before .before .if5 .taken)))
 
-  is-once-requires : lts.Need-is-once-requires (E t) (do-match-at t) do-match.Post Inv μ
-  is-once-requires c κs = search needs
+  enum-told-6 : lts.Need-enum-told-6 (E t) (do-match-at t) do-match.Post Inv μ
+  enum-told-6 c = search needs
 
   add-place-2 : lts.Need-add-place-2 (E t) (do-match-at t) do-match.Post Inv μ
   add-place-2 c =
-      let d = c .before .before .before .before .before .before .before in
-      let i = item d _ (c .before .before .before .before .before .item8 .given .1) in
       let g = fits-inside _ _ _ _ (sym (c .before .before .before .fits2 .ensures) ∙ not-false _ (c .before .before .if5 .left)) in
       omega (arith, g)
 
   items-less-5 : lts.Need-items-less-5 (E t) (do-match-at t) do-match.Post Inv μ
   items-less-5 c =
       let d = c .before .before .before .before .before .before .before in
-      let i = item d _ (c .before .before .before .before .before .item8 .given .1) in
-      let b = turns.behind-once _ _ _ _ (kind (c .before .before .before)) (i .on) (sym (c .before .is-once .ensures) ∙ c .if7 .taken) in
+      let i = as-repeat (c .before .before .before) _ (c .enum-told6 .given .1) in
+      let b = turns.behind-once _ _ _ _ once (i .on) refl in
       omega (arith, b)
 
   items-again-5 : lts.Need-items-again-5 (E t) (do-match-at t) do-match.Post Inv μ
   items-again-5 c =
       let d = c .before .before .before .before .before .before .before in
-      let i = item d _ (c .before .before .before .before .before .item8 .given .1) in
-      let b = turns.behind-once _ _ _ _ (kind (c .before .before .before)) (i .on) (sym (c .before .is-once .ensures) ∙ c .if7 .taken) in
+      let i = as-repeat (c .before .before .before) _ (c .enum-told6 .given .1) in
+      let b = turns.behind-once _ _ _ _ once (i .on) refl in
       let g = fits-inside _ _ _ _ (sym (c .before .before .before .fits2 .ensures) ∙ not-false _ (c .before .before .if5 .left)) in
-      again d _ _ _ (b .0) (b .1) (omega arith) (omega (arith, g)) (turns.fit-once _ _ _ _ _ _ _ _ (paid d) _ _ (kind (c .before .before .before)) (i .on) (sym (c .before .is-once .ensures) ∙ c .if7 .taken) (sym (c .before .before .before .fits2 .ensures) ∙ not-false _ (c .before .before .if5 .left)))
+      again d _ _ _ (b .0) (b .1) (omega arith) (omega (arith, g)) (turns.fit-once _ _ _ _ _ _ _ _ (paid d) _ _ once (i .on) refl (sym (c .before .before .before .fits2 .ensures) ∙ not-false _ (c .before .before .if5 .left)))
 
-  expand-requires : lts.Need-expand-requires (E t) (do-match-at t) do-match.Post Inv μ
-  expand-requires c κs =
+  enum-told-7 : lts.Need-enum-told-7 (E t) (do-match-at t) do-match.Post Inv μ
+  enum-told-7 c = search needs
+
+  add-next : lts.Need-add-next (E t) (do-match-at t) do-match.Post Inv μ
+  add-next c =
+      let d = c .before .before .before .before .before .before .before in
+      let i = as-repeat (c .before .before .before) _ (c .enum-told7 .given .1) in
+      let b = turns.behind-repeat _ _ _ _ optional (i .on) refl in
+      omega (arith, b)
+
+  add-do-match : lts.Need-add-do-match (E t) (do-match-at t) do-match.Post Inv μ
+  add-do-match c =
+      let g = fits-inside _ _ _ _ (sym (c .before .before .before .fits2 .ensures) ∙ not-false _ (c .before .before .if5 .left)) in
+      omega (arith, g)
+
+  do-match-requires : lts.Need-do-match-requires (E t) (do-match-at t) do-match.Post Inv μ
+  do-match-requires c κs =
       let d = c .before .before .before .before .before .before .before .before in
-      let i = item d _ (c .before .before .before .before .before .before .item8 .given .1) in
-      let b = turns.behind-repeat _ _ _ _ (kind (c .before .before .before .before)) (i .on) (sym (c .before .before .is-once .ensures) ∙ c .before .if7 .left) in
+      let i = as-repeat (c .before .before .before .before) _ (c .before .enum-told7 .given .1) in
+      let b = turns.behind-repeat _ _ _ _ optional (i .on) refl in
       let g = fits-inside _ _ _ _ (sym (c .before .before .before .before .fits2 .ensures) ∙ not-false _ (c .before .before .before .if5 .left)) in
-      (omega (arith, b, i .single .some, c .before .before .before .before .before .before .before .before .before .before .items .inv .1), (masks d, i .single, omega (arith, b), g, (sym (c .before .before .is-once .ensures) ∙ c .before .if7 .left), sound d))
+      (omega (arith, below d _ (b .0) (b .1)), (masks d, b .1, omega (arith, g), sound-later _ _ _ (omega arith) (sound d)))
 
   answer-requires-4 : lts.Need-answer-requires-4 (E t) (do-match-at t) do-match.Post Inv μ
   answer-requires-4 c κs = search needs
@@ -458,41 +482,92 @@ module _ (t : ℕ) where
   returns-15 : lts.Need-returns-15 (E t) (do-match-at t) do-match.Post Inv μ
   returns-15 c =
       let d = c .before .before .before .before .before .before .before .before .before .before .before .before in
-      let i = item d _ (c .before .before .before .before .before .before .before .before .before .before .item8 .given .1) in
-      repeats.answered _ _ _ _ _ _ (c .answer4 .ensures) (repeats.levels-end _ _ _ (kind (c .before .before .before .before .before .before .before .before)) _ _ _ _ _ _ _ (c .before .before .before .expand .ensures .0) (c .before .if8 .taken), c .before .before .before .expand .ensures .1) (turns.fit-more _ _ _ _ _ _ _ _ (paid d) _ _ (kind (c .before .before .before .before .before .before .before .before)) (i .on) (sym (c .before .before .before .before .before .before .is-once .ensures) ∙ c .before .before .before .before .before .if7 .left) (sym (c .before .before .before .before .before .before .before .before .fits2 .ensures) ∙ not-false _ (c .before .before .before .before .before .before .before .if5 .left)) ∙ so-far d)
-
-  is-optional-requires : lts.Need-is-optional-requires (E t) (do-match-at t) do-match.Post Inv μ
-  is-optional-requires c κs = search needs
-
-  failed-requires-6 : lts.Need-failed-requires-6 (E t) (do-match-at t) do-match.Post Inv μ
-  failed-requires-6 c κs = search needs
-
-  returns-16 : lts.Need-returns-16 (E t) (do-match-at t) do-match.Post Inv μ
-  returns-16 c =
-      let d = c .before .before .before .before .before .before .before .before .before .before .before .before .before .before in
-      let i = item d _ (c .before .before .before .before .before .before .before .before .before .before .before .before .item8 .given .1) in
-      repeats.ended _ _ _ _ _ (c .failed6 .ensures) (repeats.levels-fail _ _ _ (kind (c .before .before .before .before .before .before .before .before .before .before)) _ _ _ _ _ _ _ (c .before .before .before .before .before .expand .ensures .0) (sym (c .before .before .is-optional .ensures) ∙ not-true _ (c .before .if9 .taken)) (c .before .before .before .if8 .left) ∙ turns.fit-more _ _ _ _ _ _ _ _ (paid d) _ _ (kind (c .before .before .before .before .before .before .before .before .before .before)) (i .on) (sym (c .before .before .before .before .before .before .before .before .is-once .ensures) ∙ c .before .before .before .before .before .before .before .if7 .left) (sym (c .before .before .before .before .before .before .before .before .before .before .fits2 .ensures) ∙ not-false _ (c .before .before .before .before .before .before .before .before .before .if5 .left)) ∙ so-far d)
-
-  add-at-2 : lts.Need-add-at-2 (E t) (do-match-at t) do-match.Post Inv μ
-  add-at-2 c =
-      let d = c .before .before .before .before .before .before .before .before .before .before .before .before .before in
-      let i = item d _ (c .before .before .before .before .before .before .before .before .before .before .before .item8 .given .1) in
-      let b = turns.behind-repeat _ _ _ _ (kind (c .before .before .before .before .before .before .before .before .before)) (i .on) (sym (c .before .before .before .before .before .before .before .is-once .ensures) ∙ c .before .before .before .before .before .before .if7 .left) in
-      omega (arith, b)
+      let i = as-repeat (c .before .before .before .before .before .before .before .before) _ (c .before .before .before .before .before .enum-told7 .given .1) in
+      let b = turns.behind-repeat _ _ _ _ optional (i .on) refl in
+      let r = c .before .before .before .do-match .ensures in
+      repeats.answered _ _ _ _ _ _ (c .answer4 .ensures) (repeats.optional-ends _ _ _ _ _ _ _ _ _ _ (r .0) (c .before .if7 .taken), r .1) (turns.fit-more _ _ _ _ _ _ _ _ (paid d) _ _ optional (i .on) refl (sym (c .before .before .before .before .before .before .before .before .fits2 .ensures) ∙ not-false _ (c .before .before .before .before .before .before .before .if5 .left)) ∙ so-far d)
 
   items-less-6 : lts.Need-items-less-6 (E t) (do-match-at t) do-match.Post Inv μ
   items-less-6 c =
-      let d = c .before .before .before .before .before .before .before .before .before .before .before .before .before in
-      let i = item d _ (c .before .before .before .before .before .before .before .before .before .before .before .item8 .given .1) in
-      let b = turns.behind-repeat _ _ _ _ (kind (c .before .before .before .before .before .before .before .before .before)) (i .on) (sym (c .before .before .before .before .before .before .before .is-once .ensures) ∙ c .before .before .before .before .before .before .if7 .left) in
+      let d = c .before .before .before .before .before .before .before .before .before .before .before in
+      let i = as-repeat (c .before .before .before .before .before .before .before) _ (c .before .before .before .before .enum-told7 .given .1) in
+      let b = turns.behind-repeat _ _ _ _ optional (i .on) refl in
       omega (arith, b)
 
   items-again-6 : lts.Need-items-again-6 (E t) (do-match-at t) do-match.Post Inv μ
   items-again-6 c =
-      let d = c .before .before .before .before .before .before .before .before .before .before .before .before .before in
-      let i = item d _ (c .before .before .before .before .before .before .before .before .before .before .before .item8 .given .1) in
-      let b = turns.behind-repeat _ _ _ _ (kind (c .before .before .before .before .before .before .before .before .before)) (i .on) (sym (c .before .before .before .before .before .before .before .is-once .ensures) ∙ c .before .before .before .before .before .before .if7 .left) in
-      again d _ _ _ (b .0) (b .1) (omega arith) (inside d) (repeats.levels-on _ _ _ (kind (c .before .before .before .before .before .before .before .before .before)) _ _ _ _ _ _ _ (c .before .before .before .before .expand .ensures .0) (sym (c .before .is-optional .ensures) ∙ not-false _ (c .if9 .left)) (c .before .before .if8 .left) ∙ turns.fit-more _ _ _ _ _ _ _ _ (paid d) _ _ (kind (c .before .before .before .before .before .before .before .before .before)) (i .on) (sym (c .before .before .before .before .before .before .before .is-once .ensures) ∙ c .before .before .before .before .before .before .if7 .left) (sym (c .before .before .before .before .before .before .before .before .before .fits2 .ensures) ∙ not-false _ (c .before .before .before .before .before .before .before .before .if5 .left)))
+      let d = c .before .before .before .before .before .before .before .before .before .before .before in
+      let i = as-repeat (c .before .before .before .before .before .before .before) _ (c .before .before .before .before .enum-told7 .given .1) in
+      let b = turns.behind-repeat _ _ _ _ optional (i .on) refl in
+      again d _ _ _ (b .0) (b .1) (omega arith) (inside d) (repeats.optional-fails _ _ _ _ _ _ _ _ _ _ (c .before .before .do-match .ensures .0) (c .if7 .left) ∙ turns.fit-more _ _ _ _ _ _ _ _ (paid d) _ _ optional (i .on) refl (sym (c .before .before .before .before .before .before .before .fits2 .ensures) ∙ not-false _ (c .before .before .before .before .before .before .if5 .left)))
+
+  enum-told-8 : lts.Need-enum-told-8 (E t) (do-match-at t) do-match.Post Inv μ
+  enum-told-8 c = search needs
+
+  max-expand-requires : lts.Need-max-expand-requires (E t) (do-match-at t) do-match.Post Inv μ
+  max-expand-requires c κs =
+      let d = c .before .before .before .before .before .before .before .before in
+      let i = as-repeat (c .before .before .before .before) _ (c .before .enum-told8 .given .1) in
+      let b = turns.behind-repeat _ _ _ _ star (i .on) refl in
+      let g = fits-inside _ _ _ _ (sym (c .before .before .before .before .fits2 .ensures) ∙ not-false _ (c .before .before .before .if5 .left)) in
+      (below d _ (b .0) (b .1), (masks d, i .single, omega (arith, b), g, omega arith, omega arith, sound d))
+
+  answer-requires-5 : lts.Need-answer-requires-5 (E t) (do-match-at t) do-match.Post Inv μ
+  answer-requires-5 c κs = search needs
+
+  returns-16 : lts.Need-returns-16 (E t) (do-match-at t) do-match.Post Inv μ
+  returns-16 c =
+      let d = c .before .before .before .before .before .before .before .before .before .before in
+      let i = as-repeat (c .before .before .before .before .before .before) _ (c .before .before .before .enum-told8 .given .1) in
+      let b = turns.behind-repeat _ _ _ _ star (i .on) refl in
+      repeats.answered _ _ _ _ _ _ (c .answer5 .ensures) (c .before .max-expand .ensures) (repeats.star-on _ _ _ _ _ _ _ _ _ refl ∙ turns.fit-more _ _ _ _ _ _ _ _ (paid d) _ _ star (i .on) refl (sym (c .before .before .before .before .before .before .fits2 .ensures) ∙ not-false _ (c .before .before .before .before .before .if5 .left)) ∙ so-far d)
+
+  enum-told-9 : lts.Need-enum-told-9 (E t) (do-match-at t) do-match.Post Inv μ
+  enum-told-9 c = search needs
+
+  add-max-expand : lts.Need-add-max-expand (E t) (do-match-at t) do-match.Post Inv μ
+  add-max-expand c =
+      let g = fits-inside _ _ _ _ (sym (c .before .before .before .fits2 .ensures) ∙ not-false _ (c .before .before .if5 .left)) in
+      omega (arith, g)
+
+  max-expand-requires-2 : lts.Need-max-expand-requires-2 (E t) (do-match-at t) do-match.Post Inv μ
+  max-expand-requires-2 c κs =
+      let d = c .before .before .before .before .before .before .before .before in
+      let i = as-repeat (c .before .before .before .before) _ (c .before .enum-told9 .given .1) in
+      let b = turns.behind-repeat _ _ _ _ plus (i .on) refl in
+      let g = fits-inside _ _ _ _ (sym (c .before .before .before .before .fits2 .ensures) ∙ not-false _ (c .before .before .before .if5 .left)) in
+      (below d _ (b .0) (b .1), (masks d, i .single, omega (arith, b), g, omega arith, omega arith, sound d))
+
+  answer-requires-6 : lts.Need-answer-requires-6 (E t) (do-match-at t) do-match.Post Inv μ
+  answer-requires-6 c κs = search needs
+
+  returns-17 : lts.Need-returns-17 (E t) (do-match-at t) do-match.Post Inv μ
+  returns-17 c =
+      let d = c .before .before .before .before .before .before .before .before .before .before in
+      let i = as-repeat (c .before .before .before .before .before .before) _ (c .before .before .before .enum-told9 .given .1) in
+      let b = turns.behind-repeat _ _ _ _ plus (i .on) refl in
+      repeats.answered _ _ _ _ _ _ (c .answer6 .ensures) (c .before .max-expand2 .ensures) (repeats.plus-on _ _ _ _ _ _ _ _ _ refl ∙ turns.fit-more _ _ _ _ _ _ _ _ (paid d) _ _ plus (i .on) refl (sym (c .before .before .before .before .before .before .fits2 .ensures) ∙ not-false _ (c .before .before .before .before .before .if5 .left)) ∙ so-far d)
+
+  enum-told-10 : lts.Need-enum-told-10 (E t) (do-match-at t) do-match.Post Inv μ
+  enum-told-10 c = search needs
+
+  min-expand-requires : lts.Need-min-expand-requires (E t) (do-match-at t) do-match.Post Inv μ
+  min-expand-requires c κs =
+      let d = c .before .before .before .before .before .before .before .before in
+      let i = as-repeat (c .before .before .before .before) _ (c .before .enum-told10 .given .1) in
+      let b = turns.behind-repeat _ _ _ _ minus (i .on) refl in
+      let g = fits-inside _ _ _ _ (sym (c .before .before .before .before .fits2 .ensures) ∙ not-false _ (c .before .before .before .if5 .left)) in
+      (below d _ (b .0) (b .1), (masks d, i .single, omega (arith, b), g, sound d))
+
+  answer-requires-7 : lts.Need-answer-requires-7 (E t) (do-match-at t) do-match.Post Inv μ
+  answer-requires-7 c κs = search needs
+
+  returns-18 : lts.Need-returns-18 (E t) (do-match-at t) do-match.Post Inv μ
+  returns-18 c =
+      let d = c .before .before .before .before .before .before .before .before .before .before in
+      let i = as-repeat (c .before .before .before .before .before .before) _ (c .before .before .before .enum-told10 .given .1) in
+      let b = turns.behind-repeat _ _ _ _ minus (i .on) refl in
+      repeats.answered _ _ _ _ _ _ (c .answer7 .ensures) (c .before .min-expand .ensures) (turns.fit-more _ _ _ _ _ _ _ _ (paid d) _ _ minus (i .on) refl (sym (c .before .before .before .before .before .before .fits2 .ensures) ∙ not-false _ (c .before .before .before .before .before .if5 .left)) ∙ so-far d)
 
 pub do-match-proof : {M : Type 1} (t : ℕ) → lts.Closed (E t) (do-match-at t) do-match.Post M
 do-match-proof t =
@@ -567,16 +642,28 @@ do-match-proof t =
     (add-at t)
     (items-less-4 t)
     (items-again-4 t)
-    (is-once-requires t)
+    (enum-told-6 t)
     (add-place-2 t)
     (items-less-5 t)
     (items-again-5 t)
-    (expand-requires t)
+    (enum-told-7 t)
+    (add-next t)
+    (add-do-match t)
+    (do-match-requires t)
     (answer-requires-4 t)
     (returns-15 t)
-    (is-optional-requires t)
-    (failed-requires-6 t)
-    (returns-16 t)
-    (add-at-2 t)
     (items-less-6 t)
     (items-again-6 t)
+    (enum-told-8 t)
+    (max-expand-requires t)
+    (answer-requires-5 t)
+    (returns-16 t)
+    (enum-told-9 t)
+    (add-max-expand t)
+    (max-expand-requires-2 t)
+    (answer-requires-6 t)
+    (returns-17 t)
+    (enum-told-10 t)
+    (min-expand-requires t)
+    (answer-requires-7 t)
+    (returns-18 t)

@@ -8,8 +8,8 @@ use Rattle.lstr_match.proofs.outcome.answer.Reads as answer-reads
 use Rattle.lstr_match.proofs.outcome.raised.Reads as raised-reads
 use Rattle.lstr_match.proofs.matcher.do_match.Reads as do-match
 use Rattle.lstr_match.proofs.matcher.start_capture.Reads as start-capture
-use Rattle.lstr_match.proofs.matcher.+do_match+end_capture+expand+max_expand+min_expand+start_capture.Lts-start_capture as lts
-use Rattle.lstr_match.proofs.matcher.+do_match+end_capture+expand+max_expand+min_expand+start_capture.Proof.Frame.{do-match-below, start-capture-at}
+use Rattle.lstr_match.proofs.matcher.+do_match+end_capture+max_expand+min_expand+start_capture.Lts-start_capture as lts
+use Rattle.lstr_match.proofs.matcher.+do_match+end_capture+max_expand+min_expand+start_capture.Proof.Frame.{do-match-below, start-capture-at}
 
 abbrev E : ℕ → lts.Claims
 E t = (raised-reads.Asked, raised-reads.Learnt, do-match-below t, do-match.Post, answer-reads.Asked, answer-reads.Learnt)

@@ -11,8 +11,8 @@ use Rattle.lstr_match.proofs.outcome.answer.Reads as answer-reads
 use Rattle.lstr_match.proofs.outcome.raised.Reads as raised-reads
 use Rattle.lstr_match.proofs.matcher.do_match.Reads as do-match
 use Rattle.lstr_match.proofs.matcher.end_capture.Reads as end-capture
-use Rattle.lstr_match.proofs.matcher.+do_match+end_capture+expand+max_expand+min_expand+start_capture.Lts-end_capture as lts
-use Rattle.lstr_match.proofs.matcher.+do_match+end_capture+expand+max_expand+min_expand+start_capture.Proof.Frame.{do-match-below, end-capture-at}
+use Rattle.lstr_match.proofs.matcher.+do_match+end_capture+max_expand+min_expand+start_capture.Lts-end_capture as lts
+use Rattle.lstr_match.proofs.matcher.+do_match+end_capture+max_expand+min_expand+start_capture.Proof.Frame.{do-match-below, end-capture-at}
 
 abbrev E : ℕ → lts.Claims
 E t = (capture-to-close-reads.Asked, capture-to-close-reads.Learnt, do-match-below t, do-match.Post, answer-reads.Asked, answer-reads.Learnt, raised-reads.Asked, raised-reads.Learnt)

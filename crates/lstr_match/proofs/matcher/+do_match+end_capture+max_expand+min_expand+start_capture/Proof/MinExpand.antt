@@ -24,8 +24,8 @@ use Rattle.lstr_match.proofs.outcome.failed.Reads as failed-reads
 use Rattle.lstr_match.proofs.outcome.spent.Reads as spent-reads
 use Rattle.lstr_match.proofs.matcher.do_match.Reads as do-match
 use Rattle.lstr_match.proofs.matcher.min_expand.Reads as min-expand
-use Rattle.lstr_match.proofs.matcher.+do_match+end_capture+expand+max_expand+min_expand+start_capture.Lts-min_expand as lts
-use Rattle.lstr_match.proofs.matcher.+do_match+end_capture+expand+max_expand+min_expand+start_capture.Proof.Frame.{do-match-below, min-expand-at}
+use Rattle.lstr_match.proofs.matcher.+do_match+end_capture+max_expand+min_expand+start_capture.Lts-min_expand as lts
+use Rattle.lstr_match.proofs.matcher.+do_match+end_capture+max_expand+min_expand+start_capture.Proof.Frame.{do-match-below, min-expand-at}
 
 abbrev E : ℕ → lts.Claims
 E t = (first-test.Asked, first-test.Learnt, fails-at.Asked, fails-at.Learnt, do-match-below t, do-match.Post, answer-reads.Asked, answer-reads.Learnt, spent-reads.Asked, spent-reads.Learnt, fits-reads.Asked, fits-reads.Learnt, failed-reads.Asked, failed-reads.Learnt)

@@ -1,4 +1,4 @@
--- The measures of the cycle: twice what is left of the pattern for do_match, one more for the functions that go on at the same place, two for expand, which calls them. Assumes nothing.
+-- The measures of the cycle: twice what is left of the pattern for do_match, one more for the functions that go on at the same place. Assumes nothing.
 use Prim.Native.Nat.{ℕ, _+_, _-_, _<_}
 use lib.ListN.{length}
 use borrow.Fn.Kinds.{In}
@@ -7,8 +7,6 @@ use Rattle.lstr_match.proofs.matcher.do_match.Reads as do-match
 use Rattle.lstr_match.proofs.matcher.do_match.Kinds as do-match-kinds
 use Rattle.lstr_match.proofs.matcher.end_capture.Reads as end-capture
 use Rattle.lstr_match.proofs.matcher.end_capture.Kinds as end-capture-kinds
-use Rattle.lstr_match.proofs.matcher.expand.Reads as expand
-use Rattle.lstr_match.proofs.matcher.expand.Kinds as expand-kinds
 use Rattle.lstr_match.proofs.matcher.max_expand.Reads as max-expand
 use Rattle.lstr_match.proofs.matcher.max_expand.Kinds as max-expand-kinds
 use Rattle.lstr_match.proofs.matcher.min_expand.Reads as min-expand
@@ -37,17 +35,8 @@ end-capture-at t = and 4 end-capture-kinds.ps (is 4 end-capture-kinds.ps μ-end-
 abbrev pub end-capture-below : ℕ → In 4 end-capture-kinds.ps
 end-capture-below t = and 4 end-capture-kinds.ps (falls 4 end-capture-kinds.ps _<_ μ-end-capture t) end-capture.Pre
 
-abbrev pub μ-expand : Measures 4 expand-kinds.ps ℕ
-μ-expand κs a = left (length (a .1 .1 .0 .now)) (a .1 .1 .1 .1 .0 + 1) + 2
-
-abbrev pub expand-at : ℕ → In 4 expand-kinds.ps
-expand-at t = and 4 expand-kinds.ps (is 4 expand-kinds.ps μ-expand t) expand.Pre
-
-abbrev pub expand-below : ℕ → In 4 expand-kinds.ps
-expand-below t = and 4 expand-kinds.ps (falls 4 expand-kinds.ps _<_ μ-expand t) expand.Pre
-
 abbrev pub μ-max-expand : Measures 4 max-expand-kinds.ps ℕ
-μ-max-expand κs a = left (length (a .1 .1 .0 .now)) (a .1 .1 .1 .0) + 1
+μ-max-expand κs a = left (length (a .1 .1 .0 .now)) (a .1 .1 .1 .1 .0 + 1) + 1
 
 abbrev pub max-expand-at : ℕ → In 4 max-expand-kinds.ps
 max-expand-at t = and 4 max-expand-kinds.ps (is 4 max-expand-kinds.ps μ-max-expand t) max-expand.Pre
