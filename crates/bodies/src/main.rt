@@ -5,7 +5,8 @@ ghost use mathlib.Core.Bool.{false};
 ghost use Prim.Native.Nat.{_≤_, _<_};
 ghost use lib.ListN.{length, drop};
 ghost use Rattle.luck_text.specs.Bytes.{part};
-ghost use Rattle.luck_lines.specs.Stream.{lineLength, feed};
+ghost use Rattle.luck_line.specs.Line.{longest};
+ghost use Rattle.luck_lines.specs.Stream.{rowLength, lineLength, feed};
 ghost use Rattle.bodies.specs.Held.{Within, Unended, heldIn, GoesOn};
 use libc::STDIN_FILENO;
 use libc::STDOUT_FILENO;
@@ -44,7 +45,7 @@ fn write_rows(rows: &[u8]) -> bool {
 // The input has ended, with a last line that lacks its newline, or with nothing.
 fn finish(left: &[u8], output: &mut [u8], long: bool)
     requires { ⌜ lineLength (now left) ≡ length (now left) ⌝ }
-    requires { ⌜ 19 ≤ length (now output) ⌝ }
+    requires { ⌜ rowLength ≤ length (now output) ⌝ }
 {
     let wrote = stream::finish(left, output, long);
     write_rows(&output[0..wrote]);
@@ -53,7 +54,7 @@ fn finish(left: &[u8], output: &mut [u8], long: bool)
 // No whole line is left: what there is moves to the front, and more is read after it.
 fn read_more(input: &mut [u8], output: &mut [u8], at: usize, end: usize, long: bool) -> Held
     requires { ⌜ Unended (part (now input) at end) (length (now input)) ⌝ }
-    requires { ⌜ 19 ≤ length (now output) ⌝ }
+    requires { ⌜ rowLength ≤ length (now output) ⌝ }
     ensures { λ r. ⌜ Within r (length (now (input .exit))) ⌝ }
     ensures { λ r. ⌜ GoesOn (part (now (input .entry)) at end) long r (now (input .exit)) ⌝ }
 {
@@ -79,8 +80,8 @@ fn read_more(input: &mut [u8], output: &mut [u8], at: usize, end: usize, long: b
 // Takes what the output has room for, and reads more where nothing can be taken.
 fn list_some(input: &mut [u8], output: &mut [u8], held: Held) -> Held
     requires { ⌜ Within held (length (now input)) ⌝ }
-    requires { ⌜ 4005 < length (now input) ⌝ }
-    requires { ⌜ 19 ≤ length (now output) ⌝ }
+    requires { ⌜ longest < length (now input) ⌝ }
+    requires { ⌜ rowLength ≤ length (now output) ⌝ }
     ensures { λ r. ⌜ Within r (length (now (input .exit))) ⌝ }
     ensures { λ r. ⌜
         GoesOn (drop (feed (heldIn held (now (input .entry))) (length (now (output .entry))) (held .long) .used) (heldIn held (now (input .entry))))
@@ -106,8 +107,8 @@ fn list_some(input: &mut [u8], output: &mut [u8], held: Held) -> Held
 
 // A proved loop has to end, and nothing says that an input does: it counts its turns down, from a number that no run uses up.
 fn list(input: &mut [u8], output: &mut [u8])
-    requires { ⌜ 4005 < length (now input) ⌝ }
-    requires { ⌜ 19 ≤ length (now output) ⌝ }
+    requires { ⌜ longest < length (now input) ⌝ }
+    requires { ⌜ rowLength ≤ length (now output) ⌝ }
 {
     let mut held = Held {
         at: 0,
