@@ -143,14 +143,15 @@ required-fails sub budget s l cs u h x k r is f =
     if-true _ _ _ (lt-ltb u budget h) ∙ if-false _ _ _ f ∙ sym (turns.not-passed (match matchClass sub budget is) s l cs (u + 1) k r)
 
 module _ (pat : List ℕ) where
-  pub no-lead : (x : Lead) → x .steps ≡ 0 → x .«goes_on» ≡ false → x .«is_last» ≡ false → x .«is_skipped» ≡ false → LeadIn pat x
-  no-lead x z g l k =
+  pub no-lead : (x : Lead) → x .steps ≡ 0 → x .«goes_on» ≡ false → x .«is_last» ≡ false → x .«is_skipped» ≡ false → x .«is_captured» ≡ false → LeadIn pat x
+  no-lead x z g l k n =
       record {
         single = λ h. absurd (omega arith);
         fails = λ h. absurd (omega arith);
         skips = λ e. absurd (turns.false-true (sym k ∙ e));
         goes = λ e. absurd (turns.false-true (sym g ∙ e));
         last = λ e. absurd (turns.false-true (sym l ∙ e));
+        captured = λ e. absurd (turns.false-true (sym n ∙ e));
       }
 
   -- the single stands first

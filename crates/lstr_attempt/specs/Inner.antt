@@ -5,11 +5,11 @@ use mathlib.Core.Path.{_≡_}
 use mathlib.Core.Bool.{Bool, true, false}
 use mathlib.Core.List.{List, [], _∷_}
 use lib.ListN.{length}
-use Rattle.luck_pattern.specs.Items.{Single, Repeat, Item, single, items}
+use Rattle.luck_pattern.specs.Items.{Single, Repeat, Item, start-capture, single, items}
 use Rattle.lstr_class.specs.Class.{matchClass}
 use Rattle.lstr_item.specs.Match.{failed, fitsAt, maxExpand, reach, match}
 use Rattle.lstr_attempt.specs.declared.attempt.Lead.{Lead}
-use Rattle.lstr_item.specs.Inner.{singleOf, SingleIn, hasToFit}
+use Rattle.lstr_item.specs.Inner.{singleOf, SingleIn, Then, hasToFit}
 
 -- ---- Leads
 
@@ -46,3 +46,4 @@ pub record LeadIn (pat : List ℕ) (lead : Lead) : Type 0 where
   pub skips : lead .«is_skipped» ≡ true → GoesOn pat (singleOf pat (lead .at) (lead .end)) false (lead .end + 1) 0
   pub goes : lead .«goes_on» ≡ true → GoesOn pat (singleOf pat (lead .at) (lead .end)) true (lead .end) 1
   pub last : lead .«is_last» ≡ true → LastIn pat (singleOf pat (lead .at) (lead .end))
+  pub captured : lead .«is_captured» ≡ true → Then pat 0 start-capture (lead .at)

@@ -4,11 +4,11 @@ ghost use mathlib.Core.Bool.{true};
 ghost use mathlib.Core.List.{List, [], _∷_};
 ghost use Prim.Native.Nat.{ℕ, _+_, _-_, _<_, _≤_};
 ghost use lib.ListN.{length};
-ghost use Rattle.luck_pattern.specs.Items.{items};
+ghost use Rattle.luck_pattern.specs.Items.{start-capture, items};
 ghost use Rattle.lstr_class.specs.Class.{matchClass};
 ghost use Rattle.lstr_item.specs.Match.{startCapture, maxExpand, fitsAt, reach, match};
 ghost use Rattle.lstr_class.specs.Inner.{AreMasks};
-ghost use Rattle.lstr_item.specs.Inner.{SingleIn, singleOf, captureOf, capturesOf, positional, Sound};
+ghost use Rattle.lstr_item.specs.Inner.{SingleIn, Then, singleOf, captureOf, capturesOf, positional, Sound};
 ghost use Rattle.lstr_match.specs.Inner.{outcomeOf, AttemptIn};
 ghost use Rattle.lstr_attempt.specs.Inner.{LeadsTo, LeadIn};
 use lstr_item::capture;
@@ -246,6 +246,8 @@ pub struct Lead {
     pub is_last: bool,
     // where it does not fit, it is passed over with its repeat
     pub is_skipped: bool,
+    // a capture starts before it
+    pub is_captured: bool,
 }
 
 // A pattern that begins otherwise.
@@ -259,12 +261,13 @@ fn no_lead() -> Lead
         goes_on: false,
         is_last: false,
         is_skipped: false,
+        is_captured: false,
     }
 }
 
-// The single behind the pattern's first capture, whose start takes a step.
-fn lead_behind(pattern: &[u8], at: usize) -> Lead
-    requires { ⌜ LeadsTo (now pattern) at 2 ⌝ }
+// The single behind the pattern's first capture, whose start takes a step. A position is no start.
+fn lead_behind(pattern: &[u8], at: usize, is_captured: bool) -> Lead
+    requires { ⌜ LeadsTo (now pattern) at 2 × («is_captured» ≡ true → Then (now pattern) 0 start-capture at) ⌝ }
     ensures { λ r. ⌜ LeadIn (now (pattern .entry)) r ⌝ }
 {
     let item = item::read(pattern, at);
@@ -280,6 +283,7 @@ fn lead_behind(pattern: &[u8], at: usize) -> Lead
                 goes_on: false,
                 is_last: false,
                 is_skipped: false,
+                is_captured,
             }
         }
         _ => no_lead(),
@@ -304,10 +308,11 @@ pub fn lead_of(pattern: &[u8]) -> Lead
                 goes_on: item::is_once(repeat),
                 is_last,
                 is_skipped: !item::has_to_fit(repeat),
+                is_captured: false,
             }
         }
-        Item::StartCapture(next) => lead_behind(pattern, next),
-        Item::PositionCapture(next) => lead_behind(pattern, next),
+        Item::StartCapture(next) => lead_behind(pattern, next, true),
+        Item::PositionCapture(next) => lead_behind(pattern, next, false),
         _ => no_lead(),
     }
 }
@@ -381,6 +386,20 @@ fn attempt_fitting(
             place + 1,
             budget,
             begun,
+            kept,
+        );
+        return outcome::answer(r);
+    }
+    if lead.is_captured {
+        let r = first_capture(
+            masks,
+            subject,
+            pattern,
+            lead.at,
+            place,
+            budget,
+            begun,
+            capture::UNFINISHED,
             kept,
         );
         return outcome::answer(r);

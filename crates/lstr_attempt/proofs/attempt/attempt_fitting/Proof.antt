@@ -2,7 +2,9 @@
 use native.Mathlib.Omega.{arith}
 use mathlib.Core.Path.{refl}
 use borrow.Author.Needs.{needs}
+use Rattle.lstr_item.proofs.Captures.{is-open}
 use Rattle.lstr_item.proofs.Singles.{fits-inside}
+use Rattle.lstr_item.proofs.Turns as turns
 use Rattle.lstr_match.proofs.Repeats as repeats
 use Rattle.lstr_attempt.proofs.attempt.attempt_fitting.Statement.{statement}
 use Rattle.lstr_attempt.proofs.attempt.attempt_fitting.Tie as tie
@@ -43,16 +45,31 @@ returns-2 c =
     let w = q .1 .goes (c .before .before .before .if2 .taken) .on (a .subject .now) (a .budget) (a .place) _ (a .used) refl (q .3) (q .4) in
     repeats.answered _ _ _ _ _ _ (c .answer2 .ensures) (c .before .attempt-from .ensures) w
 
-attempt-requires : tie.Need-attempt-requires
-attempt-requires c κs =
-    let q = c .before .before .before .before .before .pre in
-    (q .0, omega arith, omega (arith, fits-inside _ _ _ _ (q .4)))
+first-capture-requires : tie.Need-first-capture-requires
+first-capture-requires c κs =
+    let q = c .before .before .before .before .before .before .pre in
+    (q .0, q .1 .captured (c .before .if3 .taken) .inside, omega (arith, fits-inside _ _ _ _ (q .4)), omega arith)
 
 answer-requires-3 : tie.Need-answer-requires-3
 answer-requires-3 c κs = search needs
 
 returns-3 : tie.Need-returns-3
-returns-3 c = repeats.answered _ _ _ _ _ _ (c .answer3 .ensures) (c .before .attempt .ensures) refl
+returns-3 c =
+    let a = c .before .before .before .before .before .before .before .before .args in
+    let q = c .before .before .before .before .before .before .before .before .pre in
+    repeats.answered _ _ _ _ _ _ (c .answer3 .ensures) (c .before .first-capture .ensures)
+    (turns.at-start (a .subject .now) (a .pattern .now) (a .budget) 0 (a .place) 1 _ (a .used) (q .3) _ _ (is-open _ _ refl) (q .1 .captured (c .before .before .before .if3 .taken)))
+
+attempt-requires : tie.Need-attempt-requires
+attempt-requires c κs =
+    let q = c .before .before .before .before .before .before .pre in
+    (q .0, omega arith, omega (arith, fits-inside _ _ _ _ (q .4)))
+
+answer-requires-4 : tie.Need-answer-requires-4
+answer-requires-4 c κs = search needs
+
+returns-4 : tie.Need-returns-4
+returns-4 c = repeats.answered _ _ _ _ _ _ (c .answer4 .ensures) (c .before .attempt .ensures) refl
 
 pub attempt-fitting-spec : {M : Type 1} → statement M
 attempt-fitting-spec =
@@ -66,6 +83,9 @@ attempt-fitting-spec =
     attempt-from-requires
     answer-requires-2
     returns-2
-    attempt-requires
+    first-capture-requires
     answer-requires-3
-    returns-3)
+    returns-3
+    attempt-requires
+    answer-requires-4
+    returns-4)

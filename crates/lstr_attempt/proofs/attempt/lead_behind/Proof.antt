@@ -32,10 +32,11 @@ returns-2 c =
     let k = repeatAs (c .before .before .before .item .given .0 .1 .0) in
     record {
       single = λ h. it .single;
-      fails = λ h n. c .before .before .before .before .before .before .before .pre _ k _ (sym (c .before .has-to-fit .ensures) ∙ not-false _ (c .if1 .left)) (it .on .is);
+      fails = λ h n. c .before .before .before .before .before .before .before .pre .0 _ k _ (sym (c .before .has-to-fit .ensures) ∙ not-false _ (c .if1 .left)) (it .on .is);
       skips = λ e. absurd (false-true e);
       goes = λ e. absurd (false-true e);
       last = λ e. absurd (false-true e);
+      captured = c .before .before .before .before .before .before .before .pre .1;
     }
 
 returns-3 : tie.Need-returns-3

@@ -40,7 +40,7 @@ lead-behind-requires : tie.Need-lead-behind-requires
 lead-behind-requires c κs =
     let a = c .before .before .before .before .before .args in
     let it = subst (ItemAt (a .pattern .now) 0) (c .before .item2 .given .1) (c .before .before .before .read .ensures) in
-    leads.leads-start (a .pattern .now) _ it
+    (leads.leads-start (a .pattern .now) _ it, λ e. it)
 
 enum-known-item-3 : tie.Need-enum-known-item-3
 enum-known-item-3 c = search needs
@@ -49,7 +49,7 @@ lead-behind-requires-2 : tie.Need-lead-behind-requires-2
 lead-behind-requires-2 c κs =
     let a = c .before .before .before .before .before .args in
     let it = subst (ItemAt (a .pattern .now) 0) (c .before .item3 .given .1) (c .before .before .before .read .ensures) in
-    leads.leads-position (a .pattern .now) _ it
+    (leads.leads-position (a .pattern .now) _ it, λ e. absurd (turns.false-true e))
 
 no-lead-requires : tie.Need-no-lead-requires
 no-lead-requires c κs = search needs
@@ -67,6 +67,7 @@ returns c =
       last = λ e.
           ⊎-elim (λ w. leads.only-greedy (a .pattern .now) _ _ k (it .on) (sym (c .before .before .before .is-greedy .ensures) ∙ w .0 .taken) (leb-true _ _ (sym (w .1) ∙ e)))
           (λ w. absurd (turns.false-true (sym (w .1) ∙ e))) (c .before .before .if1 .came);
+      captured = λ e. absurd (turns.false-true e);
     }
 
 returns-2 : tie.Need-returns-2
