@@ -316,7 +316,7 @@ class Luck:
     ) -> TrialInto:
         """The same, to the front of `output`; the rest of it stays as it was.
 
-        It takes up to 450 KiB of stack: a thread with a smaller one (threading.stack_size) must not call it.
+        It takes up to 476 KiB of stack: a thread with less than 512 KiB (threading.stack_size) must not call it.
         """
         texts = (*_text("pattern", pattern), *_text("replacement", replacement), *_text("subject", subject))
         steps = _number("budget", budget, UINT32_MAX)

@@ -9,8 +9,8 @@ use mathlib.Core.List.{List, [], _∷_}
 use lib.ListN.{length, take, drop, length-drop}
 use lib.Seq.{take-at, take-take, take-length}
 use borrow.Rule.Slice.PartMut.{putMid, take-put}
-use Rattle.luck_text.specs.Bytes.{part}
-use Rattle.luck_lines.specs.Stream.{feed, fedOf, inFront}
+use Rattle.luck_text.specs.Bytes.{part, inFront}
+use Rattle.luck_lines.specs.Stream.{feed, fedOf}
 use Rattle.luck_lines.specs.declared.stream.Fed.{Fed}
 use Rattle.luck_lines.proofs.Buffers.{part-left}
 use Rattle.luck_lines.proofs.Promises.{leaves}

@@ -1,4 +1,5 @@
--- What is promised of the trial of gsub: demand 3. `gsub` and `outputAfter` are in specs/Gsub.antt, the checks in the specs of luck_pattern.
+-- What is promised of the trial of gsub: demand 3, and then its part of demand 1. `gsub` and `outputAfter` are in specs/Gsub.antt, the checks in the specs of
+-- luck_pattern and luck_replacement.
 -- Assumes nothing.
 use Prim.Native.Nat.{ℕ, _≤_}
 use native.Mathlib.Omega.{arith}

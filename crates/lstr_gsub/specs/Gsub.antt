@@ -104,7 +104,7 @@ module _ (inClass : ℕ → ℕ → Bool) (sub : List ℕ) (budget room : ℕ) (
       let all = rounds (items pat 0) 0 none [] 0 0 in
       if eqb (byteAt pat 0) (code "^") then anchored else all
 
--- the writer of a replacement, strict or not by document 01's row "strict replacement"
+-- the writer of a replacement, strict or not by document 01's row "strict replacement, checked date"
 unfoldable pub writerOf : ℕ → List ℕ → List ℕ → ℕ → Writer
 writerOf version rep sub room s e cs out = addPieces sub room s e cs (isStrict (rulesOf version)) (pieces rep) out
 

@@ -23,7 +23,7 @@ pub record AttemptIn (r : Attempt) (kept : List ℕ) (len : ℕ) : Type 0 where
   pub end : r .number ≡ 0 → r .end ≤ len
   pub captures : r .number ≡ 0 → KeptIn len (r .count) kept
 
--- an attempt that does not match, whatever was kept
+-- how an attempt ends, whatever was kept
 abbrev pub EndsAs : Attempt → Outcome → Type 0
 EndsAs r o = (kept : List ℕ) (len : ℕ) → (outcomeOf r kept ≡ o) × AttemptIn r kept len
 

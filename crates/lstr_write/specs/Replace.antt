@@ -52,7 +52,7 @@ module _ (sub : List ℕ) (room s e : ℕ) (cs : List Capture) where
       else if leb d (length cs) then capture
       else if eqb d 1 then whole else ended 29 10 out
 
-  -- by document 01's row "strict replacement": 5.1, which is not strict, writes the byte after a `%`, and C's closing zero byte
+  -- by document 01's row "strict replacement, checked date": 5.1, which is not strict, writes the byte after a `%`, and C's closing zero byte
   -- for a final `%`
   unfoldable pub addPiece : Bool → Piece → List ℕ → Wrote
   addPiece strict (literal b) out = append room (b ∷ []) out

@@ -8,8 +8,7 @@ use native.Mathlib.Omega.{arith}
 use mathlib.Core.List.{List, [], _∷_, _++_}
 use lib.ListN.{length, getD, set, take, drop, take-append-drop, length-drop}
 use lib.Seq.{take-nil, take-suc, take-all, take-suc-set, drop-set-lt, drop-drop, getD-drop, length-take-le}
-use Rattle.luck_text.specs.Bytes.{part}
-use Rattle.luck_lines.specs.Stream.{inFront}
+use Rattle.luck_text.specs.Bytes.{part, inFront}
 
 module _ (first buffer : List ℕ) (at to : ℕ) (same : length buffer ≡ length first)
     (front : take to buffer ≡ take to (drop at first)) (rest : drop to buffer ≡ drop to first) where

@@ -11,7 +11,7 @@ use lib.Seq.{take-at, drop-at, take-all, length-take-le, take-append-add, take-a
 use lib.Dec.{eqb, ltb}
 use borrow.Author.Tests.{lt-ltb, le-ltb, ne-eqb, eq-eqb}
 use borrow.Rule.Slice.PartMut.{putMid}
-use Rattle.luck_text.specs.Bytes.{if_then_else_, byteAt, part}
+use Rattle.luck_text.specs.Bytes.{if_then_else_, byteAt, part, inFront}
 use Rattle.luck_text.specs.Scan.{neither}
 use Rattle.luck_text.specs.Walk.{stop, goes, walkFrom}
 use Rattle.luck_text.proofs.Walk.{walk-end, walk-stop, walk-goes}
@@ -21,7 +21,7 @@ use Rattle.luck_text.proofs.Neither.{neither-first}
 use Rattle.luck_answer.specs.Answer.{refused}
 use Rattle.luck_line.specs.Line.{longest, lineAnswer}
 use Rattle.luck_line.specs.Row.{answerRow}
-use Rattle.luck_lines.specs.Stream.{lineLength, rowOf, Taken, taken, State, state, unended, lineTurn, feedTurn, feed, finish, fedOf, inFront}
+use Rattle.luck_lines.specs.Stream.{lineLength, rowOf, Taken, taken, State, state, unended, lineTurn, feedTurn, feed, finish, fedOf}
 use Rattle.luck_lines.specs.Inner.{unendedAt}
 use Rattle.luck_lines.specs.declared.stream.Fed.{Fed}
 use Rattle.luck_line.proofs.Heads.{part-whole}

@@ -74,10 +74,6 @@ finish long left room =
 abbrev pub fedOf : Taken → Fed
 fedOf t = record { used = t .used; wrote = length (t .written); long = t .long }
 
--- an output that had these bytes: what was written at its front, the rest as it was
-abbrev pub inFront : List ℕ → List ℕ → List ℕ
-inFront written output = written ++ drop (length written) output
-
 -- what was taken of a line and is not kept: nothing, or too many bytes; which ones makes no difference, so that zeros stand for them
 unfoldable pub passed : Bool → List ℕ
 passed false = []

@@ -2,8 +2,7 @@
 ghost use mathlib.Core.Path.{_≡_};
 ghost use Prim.Native.Nat.{_≤_};
 ghost use lib.ListN.{length};
-ghost use Rattle.luck_text.specs.Bytes.{part};
-ghost use Rattle.luck_lines.specs.Stream.{inFront};
+ghost use Rattle.luck_text.specs.Bytes.{part, inFront};
 
 // Moves the bytes from `at` to `end` to the front, and answers how many there are.
 pub fn keep(buffer: &mut [u8], at: usize, end: usize) -> usize

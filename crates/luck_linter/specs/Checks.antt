@@ -36,7 +36,7 @@ checkOf kind captures =
     else if eqb kind (code "G") then some (replacement captures)
     else if eqb kind (code "D") then some date else none
 
--- what is checked of a body that is UTF-8
+-- what is checked of a body that is UTF-8; of a pattern without a test of ranges, as checkPattern does it
 unfoldable pub walkOf : Check → Rules → List ℕ → Answer
 walkOf format rules body = formatWalk rules body
 walkOf pattern rules body = patternWalk false body

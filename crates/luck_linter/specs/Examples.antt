@@ -80,7 +80,7 @@ examples =
     ∷ (pack true, packsizes)
     ∷ []
 
--- the same texts as literals, by their kind letters and counts of captures
+-- the same texts as literals, by their kind letters and counts of captures; and a byte that is no kind letter
 abbrev pub literals : List ((ℕ × Option ℕ) × List Example)
 literals =
     ((code "P", none), quoted patterns)
@@ -95,7 +95,7 @@ literals =
 
 -- ---- What is said of them
 
--- the numbers that are answered to examples, and those that they name
+-- the numbers that are answered to examples
 abbrev pub answers : (ℕ → List ℕ → Answer) → List Example → List ℕ
 answers ask [] = []
 answers ask (gives version text number ∷ more) = ask version text .number ∷ answers ask more
@@ -104,6 +104,7 @@ answers ask (gives version text number ∷ more) = ask version text .number ∷ 
 abbrev literalOf : ℕ → Option ℕ → ℕ → List ℕ → Answer
 literalOf kind captures version text = checkLiteral kind version captures 0 text .answer
 
+-- and those that they name
 abbrev pub named : List Example → List ℕ
 named [] = []
 named (gives version text number ∷ more) = number ∷ named more

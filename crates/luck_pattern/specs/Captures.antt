@@ -11,12 +11,13 @@ use lib.ListN.{getD, set}
 abbrev pub maxCaptures : ℕ
 maxCaptures = 32
 
--- capture_to_close of lstrlib.c: the latest open capture, counted from 0, none where no capture is open
+-- by the first capture, and the latest open one of those behind it
 abbrev pub openBy : Bool → Option ℕ → Option ℕ
 openBy closed (some i) = some (suc i)
 openBy true none = none
 openBy false none = some 0
 
+-- capture_to_close of lstrlib.c: the latest open capture, counted from 0, none where no capture is open
 unfoldable pub latestOpen : List Bool → Option ℕ
 latestOpen [] = none
 latestOpen (closed ∷ later) = openBy closed (latestOpen later)

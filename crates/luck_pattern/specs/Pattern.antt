@@ -88,7 +88,7 @@ module _ (ranges : Bool) (pat : List ℕ) where
 unfoldable pub checkPatternAs : Bool → ℕ → List ℕ → Answer
 checkPatternAs ranges version pat = checkText version pat (patternWalk ranges pat)
 
--- the check: `true`, with 39, once the code tests ranges
+-- the check. It does not test ranges yet: 39 and what stands behind `ranges` are for F-10 of document 02
 unfoldable pub checkPattern : ℕ → List ℕ → Answer
 checkPattern version pat = checkPatternAs false version pat
 

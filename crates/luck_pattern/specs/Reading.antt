@@ -1,5 +1,4 @@
--- What stands at a place of a pattern, as `match` (document 01 calls it do_match), classEnd and matchbracketclass of lstrlib.c
--- 5.4 read it: the byte there, the byte after a `%`, the members of a set and where it ends. The check (Pattern.antt) and the
+-- What stands at a place of a pattern, as `match` (document 01 calls it do_match) and classEnd of lstrlib.c 5.4 read it: the byte there, the byte after a `%`, the members of a set and where it ends. The check (Pattern.antt) and the
 -- items that a trial runs (Items.antt) both go by it; the elements of a set are in Elements.antt.
 -- Assumes nothing.
 use Prim.Native.Nat.{ℕ, _+_, _-_}

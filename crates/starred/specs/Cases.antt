@@ -51,11 +51,12 @@ tell version (trial sub pat rep budget output) =
 pub data Case : Type 0 where
   case : List ℕ → Asked → Told → Case
 
--- what is told, and what is wanted, of each case under each of its versions
+-- f of each
 abbrev pub each : {A B : Type 0} → (A → B) → List A → List B
 each f [] = []
 each f (a ∷ more) = f a ∷ each f more
 
+-- what is told, and what is wanted, of each case under each of its versions
 abbrev pub told : List Case → List Told
 told [] = []
 told (case versions asked answer ∷ more) = each (λ version. tell version asked) versions ++ told more

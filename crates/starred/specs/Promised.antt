@@ -1,5 +1,5 @@
--- Demand 1: what is promised of every answer of every entry, whatever it is asked, by document 01's records and
--- refusals.
+-- Demand 1: what is promised of every answer of every function of include/luck.h, whatever it is asked, by document 01's
+-- records and refusals. (A line of `bodies`: `Fits` of luck_line's proofs/Answers.antt.)
 -- Assumes nothing.
 use Prim.Native.Nat.{ℕ, _≤_}
 use mathlib.Core.Path.{_≡_}
@@ -22,7 +22,8 @@ use Rattle.lstr_gsub.specs.Gsub.{Report, report, outputAfter, gsub}
 use Rattle.starred.specs.Cases.{Asked, format, pattern, pack, packsize, date, replacement, literal, decode, trial}
 
 -- a check answers one of these numbers to a text of this length: accepted, with a count and nothing else, or refused,
--- with an offset and no count. The first character comes only with 2, 3, 6, 10, 14 and 18, the second only with 6
+-- with an offset and no count, both at most the length. The first character comes only with 2, 3, 6, 10, 14 and 18,
+-- the second only with 6
 pub record Checks (numbers : List ℕ) (len : ℕ) (a : Answer) : Type 0 where
   pub numbered : among (a .number) numbers ≡ true
   pub offset-within : a .offset ≤ len
@@ -32,7 +33,7 @@ pub record Checks (numbers : List ℕ) (len : ℕ) (a : Answer) : Type 0 where
   pub first-character : among (a .number) (2 ∷ 3 ∷ 6 ∷ 10 ∷ 14 ∷ 18 ∷ []) ≡ false → a .first ≡ 0
   pub second-character : (a .number ≡ 6 → ⊥) → a .second ≡ 0
 
--- a literal besides: skipped it has nothing else; a span comes exactly with the refusals of its body
+-- a literal's answer is such an answer; a skipped literal has nothing else; a span comes exactly with the refusals of its body
 pub record ChecksLiteral (numbers : List ℕ) (len : ℕ) (a : LiteralAnswer) : Type 0 where
   pub answers : Checks numbers len (a .answer)
   pub skipped-empty : a .skipped ≡ true

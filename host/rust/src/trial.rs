@@ -152,7 +152,7 @@ impl From<raw::Trial> for Trial {
 /// Tries `string.gsub(subject, pattern, replacement)` within a budget of steps, and writes the result to the front of `output`; the rest
 /// of the output is as it was. The texts are not checked first.
 ///
-/// The budget bounds the steps and not the time: a step may read the whole pattern or the whole subject. It takes up to 450 KiB of stack.
+/// The budget bounds the steps and not the time: a step may read the whole pattern or the whole subject. It takes up to 476 KiB of stack.
 ///
 /// ```
 /// use luck::{Ending, Version};

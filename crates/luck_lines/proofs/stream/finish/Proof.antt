@@ -2,7 +2,7 @@
 use mathlib.Core.Path.{sym, ap}
 use lib.ListN.{length}
 use native.Mathlib.Omega.{arith}
-use Rattle.luck_lines.specs.Stream.{inFront}
+use Rattle.luck_text.specs.Bytes.{inFront}
 use Rattle.luck_lines.proofs.Streams as streams
 use borrow.Author.Needs.{needs}
 use Rattle.luck_lines.proofs.stream.finish.Statement.{statement}
