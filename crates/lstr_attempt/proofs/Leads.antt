@@ -13,7 +13,7 @@ use Rattle.luck_text.specs.Bytes.{if_then_else_}
 use Rattle.luck_text.proofs.Cases.{if-true, if-false, order}
 use Rattle.luck_pattern.specs.Items.{Single, Repeat, once, optional, star, plus, minus, repeatWidth, Item, start-capture, position-capture, single, items}
 use Rattle.lstr_class.specs.Class.{matchClass}
-use Rattle.lstr_item.specs.Match.{Capture, opened, position, Outcome, matched, failed, stopped, Rest, due, newLevel, orElse, startCapture, Reach, reach, reached, spent, longestFirst, maxExpand, fitsAt, expand, doItem, match}
+use Rattle.lstr_item.specs.Match.{Capture, opened, position, Outcome, matched, failed, stopped, Rest, due, newLevel, orElse, startCapture, Reach, reach, reached, longestFirst, maxExpand, fitsAt, expand, doItem, match}
 use Rattle.lstr_item.specs.Inner.{Then, isOnce, hasToFit, isGreedy, reachOf, capturesIn, KeptIn, positional, noPair, pairsOf, capturesOf, PairIn, Sound}
 use Rattle.lstr_match.specs.Inner.{outcomeOf, AttemptIn, MatchesAs}
 use Rattle.lstr_attempt.specs.Inner.{FailsBy, LeadsTo, GoesOn, LastIn, LeadIn}

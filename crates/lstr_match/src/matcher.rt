@@ -135,8 +135,8 @@ pub fn do_match(
             Item::Balance(opening, closing, next) => {
                 let found = subject::match_balance(subject, opening, closing, place);
                 match found {
-                    Found::At(end) => {
-                        place = end;
+                    Found::At(after) => {
+                        place = after;
                         at = next;
                     }
                     Found::Nothing => return outcome::failed(steps),
@@ -156,6 +156,7 @@ pub fn do_match(
                     at = end + 1;
                     continue 'items;
                 }
+                // not in a function of its own, whose copy of the captures would lie on the stack of every level
                 match repeat {
                     Repeat::Once => {
                         place += 1;

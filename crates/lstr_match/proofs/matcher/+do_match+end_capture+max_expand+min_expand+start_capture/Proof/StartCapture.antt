@@ -1,5 +1,5 @@
 -- `lstr_match::matcher::start_capture` meets its contract. Assumes nothing.
-use Prim.Native.Nat.{ℕ, _+_, _-_}
+use Prim.Native.Nat.{ℕ}
 use native.Mathlib.Omega.{arith}
 use borrow.Author.Needs.{needs}
 use Rattle.lstr_match.proofs.Repeats as repeats
