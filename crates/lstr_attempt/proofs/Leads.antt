@@ -12,17 +12,18 @@ use borrow.Author.Tests.{lt-ltb, le-ltb}
 use Rattle.luck_text.specs.Bytes.{if_then_else_}
 use Rattle.luck_text.proofs.Cases.{if-true, if-false, order}
 use Rattle.luck_pattern.specs.Items.{Single, Repeat, once, optional, star, plus, minus, repeatWidth, Item, start-capture, position-capture, single, items}
-use Rattle.lstr_class.specs.Class.{matchClass}
 use Rattle.lstr_item.specs.Match.{Capture, opened, position, Outcome, matched, failed, stopped, Rest, due, newLevel, orElse, startCapture, Reach, reach, reached, longestFirst, maxExpand, fitsAt, expand, doItem, match}
-use Rattle.lstr_item.specs.Inner.{Then, isOnce, hasToFit, isGreedy, reachOf, capturesIn, KeptIn, positional, noPair, pairsOf, capturesOf, PairIn, Sound}
+use Rattle.lstr_item.specs.Inner.{singleOf, Then, isOnce, hasToFit, isGreedy, reachOf, capturesIn, KeptIn, positional, noPair, pairsOf, capturesOf, PairIn, Sound}
 use Rattle.lstr_match.specs.Inner.{outcomeOf, AttemptIn, MatchesAs}
-use Rattle.lstr_attempt.specs.Inner.{FailsBy, LeadsTo, GoesOn, LastIn, LeadIn}
-use Rattle.lstr_attempt.specs.declared.attempt.Lead.{Lead}
+use Rattle.lstr_item.specs.Ahead.{SingleAhead, Sure}
+use Rattle.lstr_attempt.specs.Inner.{GoesOn, LastIn, LeadIn, leadBy}
+use Rattle.lstr_item.specs.declared.ahead.Ahead.{Ahead}
 use Rattle.lstr_item.specs.declared.capture.Captures.{Captures}
 use Rattle.lstr_item.specs.declared.capture.Pair.{Pair}
 use Rattle.lstr_match.specs.declared.outcome.Attempt.{Attempt}
 use Rattle.lstr_item.specs.declared.single.Reached.{Reached}
 use Rattle.lstr_item.proofs.Items.{items-end}
+use Rattle.lstr_item.proofs.FirstTests.{opens-start, opens-position, sure-two}
 use Rattle.lstr_item.proofs.Turns as turns
 use Rattle.lstr_match.proofs.Repeats as repeats
 
@@ -63,10 +64,10 @@ unfolding if_then_else_ orElse
 end-or-spent true e cs u v k = refl
 end-or-spent false e cs u v k = refl
 
-module _ (sub : List ℕ) (budget : ℕ) where
+module _ (inClass : ℕ → ℕ → Bool) (sub : List ℕ) (budget : ℕ) where
   -- the pattern's end
   abbrev ending : Rest
-  ending = match matchClass sub budget []
+  ending = match inClass sub budget []
 
   end-spent : (e l : ℕ) (cs : List Capture) (u : ℕ) → budget ≤ u → stopped 27 0 u ≡ ending e l cs u
   unfolding match due
@@ -94,9 +95,9 @@ module _ (sub : List ℕ) (budget : ℕ) where
   longest-taken e s cs u h = longest-is e s cs u h
 
   -- what the code's reach makes of it
-  module _ (x : Single) (s u : ℕ) (r : Reached) (w : reachOf r ≡ reach matchClass sub budget x (length sub - s) s u) (shortest : ℕ) (cs : List Capture) where
+  module _ (x : Single) (s u : ℕ) (r : Reached) (w : reachOf r ≡ reach inClass sub budget x (length sub - s) s u) (shortest : ℕ) (cs : List Capture) where
     abbrev taken : Outcome
-    taken = maxExpand (reach matchClass sub budget x (length sub - s) s u) ending shortest 1 cs
+    taken = maxExpand (reach inClass sub budget x (length sub - s) s u) ending shortest 1 cs
 
     by-reach : (t : Reach) → t ≡ reachOf r → maxExpand t ending shortest 1 cs ≡ taken
     by-reach t e = ap (λ (y : Reach). maxExpand y ending shortest 1 cs) (e ∙ w)
@@ -114,107 +115,89 @@ module _ (sub : List ℕ) (budget : ℕ) where
       pub end-paid : r .steps < budget → matched (r .end) cs (r .steps + 1) ≡ taken
       end-paid l = end-matches (r .end) 2 cs (r .steps) l ∙ at-reach
 
-  module _ (pat : List ℕ) (p s : ℕ) (cs : List Capture) (u : ℕ) (h : u < budget) (e : ℕ) (x : Single) (f : fitsAt matchClass sub x s ≡ true) where
+  module _ (pat : List ℕ) (p s : ℕ) (cs : List Capture) (u : ℕ) (h : u < budget) (e : ℕ) (x : Single) (f : fitsAt inClass sub x s ≡ true) where
     rest-ends : (r : Repeat) (q : ℕ) → length pat ≤ q → Then pat p (single x r) q
-        → expand matchClass sub budget x r ending s 1 cs (u + 1) ≡ match matchClass sub budget (items pat p) s 1 cs u
+        → expand inClass sub budget x r ending s 1 cs (u + 1) ≡ match inClass sub budget (items pat p) s 1 cs u
     rest-ends r q last t =
-        ap (λ (is : List Item). expand matchClass sub budget x r (match matchClass sub budget is) s 1 cs (u + 1)) (sym (items-end pat q last))
-        ∙ turns.fitting sub pat budget p s 1 cs u h q x r t f
+        ap (λ (is : List Item). expand inClass sub budget x r (match inClass sub budget is) s 1 cs (u + 1)) (sym (items-end pat q last))
+        ∙ turns.fitting inClass sub pat budget p s 1 cs u h q x r t f
 
     -- with the least bytes that its repeat takes
     pub last-greedy : (k : Repeat) → isGreedy k ≡ true → length pat ≤ e + 1 → Then pat p (single x k) (e + repeatWidth k)
         → (shortest : ℕ)
         × (shortest ≤ s + 1)
-        × (maxExpand (reach matchClass sub budget x (length sub - (s + 1)) (s + 1) (u + 1)) ending shortest 1 cs
-        ≡ match matchClass sub budget (items pat p) s 1 cs u)
+        × (maxExpand (reach inClass sub budget x (length sub - (s + 1)) (s + 1) (u + 1)) ending shortest 1 cs
+        ≡ match inClass sub budget (items pat p) s 1 cs u)
     unfolding repeatWidth
     last-greedy once g l t = absurd (turns.false-true g)
     last-greedy optional g l t = absurd (turns.false-true g)
-    last-greedy star g l t = (s, omega arith, repeats.star-on sub budget x ending s 1 cs (u + 1) _ refl ∙ rest-ends star (e + 1) l t)
-    last-greedy plus g l t = (s + 1, omega arith, repeats.plus-on sub budget x ending s 1 cs (u + 1) _ refl ∙ rest-ends plus (e + 1) l t)
+    last-greedy star g l t = (s, omega arith, repeats.star-on inClass sub budget x ending s 1 cs (u + 1) _ refl ∙ rest-ends star (e + 1) l t)
+    last-greedy plus g l t = (s + 1, omega arith, repeats.plus-on inClass sub budget x ending s 1 cs (u + 1) _ refl ∙ rest-ends plus (e + 1) l t)
     last-greedy minus g l t = absurd (turns.false-true g)
 
 -- ---- The first test
 
-required-fails : (sub : List ℕ) (budget s l : ℕ) (cs : List Capture) (u : ℕ) → u < budget → (x : Single) (k : Repeat) → hasToFit k ≡ true → (is : List Item)
-    → fitsAt matchClass sub x s ≡ false → match matchClass sub budget (single x k ∷ is) s l cs u ≡ failed (u + 1)
-unfolding match due doItem
-required-fails sub budget s l cs u h x k r is f =
-    if-true _ _ _ (lt-ltb u budget h) ∙ if-false _ _ _ f ∙ sym (turns.not-passed (match matchClass sub budget is) s l cs (u + 1) k r)
-
 module _ (pat : List ℕ) where
-  pub no-lead : (x : Lead) → x .steps ≡ 0 → x .«goes_on» ≡ false → x .«is_last» ≡ false → x .«is_skipped» ≡ false → x .«is_captured» ≡ false → LeadIn pat x
-  no-lead x z g l k n =
-      record {
-        single = λ h. absurd (omega arith);
-        fails = λ h. absurd (omega arith);
-        skips = λ e. absurd (turns.false-true (sym k ∙ e));
-        goes = λ e. absurd (turns.false-true (sym g ∙ e));
-        last = λ e. absurd (turns.false-true (sym l ∙ e));
-        captured = λ e. absurd (turns.false-true (sym n ∙ e));
-      }
+  -- a capture's start or a position stands before the single, or another item
+  module _ (a : Ahead) where
+    opening : (started : Bool) → (0 < a .steps → Sure pat 0 0 0 false a) → (0 < a .steps → started ≡ true → Then pat 0 start-capture (a .at)) → LeadIn pat (leadBy a started)
+    opening started sure start =
+        record {
+          single = λ z. sure z .single;
+          fails = λ z n. sure z;
+          skips = λ e. absurd (turns.false-true e);
+          goes = λ e. absurd (turns.false-true e);
+          last = λ e. absurd (turns.false-true e);
+          captured = start;
+        }
+
+    pub no-lead : a .steps ≡ 0 → LeadIn pat (leadBy a false)
+    no-lead z = opening false (λ h. absurd (omega arith)) (λ h e. absurd (omega arith))
+
+    pub start-leads : (q : ℕ) → Then pat 0 start-capture q → SingleAhead pat q 2 a → LeadIn pat (leadBy a true)
+    start-leads q t b =
+        opening true (sure-two 0 false pat 0 0 a start-capture q (opens-start 0 false (omega arith)) (omega arith) t b) (λ z e. rw (b .at z) t)
+
+    pub position-leads : (q : ℕ) → Then pat 0 position-capture q → SingleAhead pat q 2 a → LeadIn pat (leadBy a false)
+    position-leads q t b =
+        opening false (sure-two 0 false pat 0 0 a position-capture q (opens-position 0 false (omega arith)) (omega arith) t b)
+        (λ z e. absurd (turns.false-true e))
 
   -- the single stands first
   module _ (x : Single) (e : ℕ) (k : Repeat) (at : Then pat 0 (single x k) (e + repeatWidth k)) where
-    pub first-required : hasToFit k ≡ true → FailsBy pat 1 x
-    first-required r sub budget s u h f =
-        ap (λ (i : List Item). match matchClass sub budget i s 1 [] u) (at .is)
-        ∙ required-fails sub budget s 1 [] u (omega arith) x k r (items pat (e + repeatWidth k)) f
-
     pub first-passed : isOnce k ≡ true → GoesOn pat x true e 1
     first-passed o =
         record {
           inside = turns.behind-once pat 0 e x k at o .1;
-          on = λ sub budget s t u z h f.
-              ap (λ (y : ℕ). match matchClass sub budget (items pat e) y 1 [] (u + 1)) z ∙ turns.fit-once sub pat budget 0 s 1 [] u h e x k at o f;
+          on = λ inClass sub budget s t u z h f.
+              ap (λ (y : ℕ). match inClass sub budget (items pat e) y 1 [] (u + 1)) z ∙ turns.fit-once inClass sub pat budget 0 s 1 [] u h e x k at o f;
         }
 
     pub first-skipped : hasToFit k ≡ false → GoesOn pat x false (e + 1) 0
     first-skipped r =
         record {
           inside = turns.behind-repeat pat 0 e x k at (turns.passed-repeats k r) .1;
-          on = λ sub budget s t u z h f.
+          on = λ inClass sub budget s t u z h f.
               let y : t ≡ s = omega arith in
-              ap (λ (n : ℕ). match matchClass sub budget (items pat (e + 1)) n 1 [] (u + 1)) y ∙ turns.unfit-passed sub pat budget 0 s 1 [] u h e x k at r f;
+              ap (λ (n : ℕ). match inClass sub budget (items pat (e + 1)) n 1 [] (u + 1)) y ∙ turns.unfit-passed inClass sub pat budget 0 s 1 [] u h e x k at r f;
         }
 
     pub only-greedy : isGreedy k ≡ true → length pat ≤ e + 1 → LastIn pat x
-    only-greedy g l sub budget s u h f = last-greedy sub budget pat 0 s [] u h e x f k g l at
-
-  -- a capture stands before it
-  module _ (q : ℕ) (sub : List ℕ) (budget s u : ℕ) (h : u < budget) where
-    behind-start : Then pat 0 start-capture q
-        → match matchClass sub budget (items pat 0) s 1 [] u ≡ match matchClass sub budget (items pat q) s 2 (opened s ∷ []) (u + 1)
-    unfolding match due doItem startCapture newLevel if_then_else_
-    behind-start t = rw (t .is, lt-ltb u budget h)
-
-    behind-position : Then pat 0 position-capture q
-        → match matchClass sub budget (items pat 0) s 1 [] u ≡ match matchClass sub budget (items pat q) s 2 (position s ∷ []) (u + 1)
-    unfolding match due doItem startCapture newLevel if_then_else_
-    behind-position t = rw (t .is, lt-ltb u budget h)
-
-  module _ (q : ℕ) (c : ℕ → Capture)
-      (on : (sub : List ℕ) (budget s u : ℕ) → u < budget
-      → match matchClass sub budget (items pat 0) s 1 [] u ≡ match matchClass sub budget (items pat q) s 2 (c s ∷ []) (u + 1)) where
-    leads-behind : LeadsTo pat q 2
-    leads-behind x k is r e sub budget s u h f =
-        on sub budget s u (omega arith)
-        ∙ ap (λ (i : List Item). match matchClass sub budget i s 2 (c s ∷ []) (u + 1)) e
-        ∙ required-fails sub budget s 2 (c s ∷ []) (u + 1) (omega arith) x k r is f ∙ ap failed (omega arith)
-
-  pub leads-start : (q : ℕ) → Then pat 0 start-capture q → LeadsTo pat q 2
-  leads-start q t = leads-behind q opened (λ sub budget s u h. behind-start q sub budget s u h t)
-
-  pub leads-position : (q : ℕ) → Then pat 0 position-capture q → LeadsTo pat q 2
-  leads-position q t = leads-behind q position (λ sub budget s u h. behind-position q sub budget s u h t)
+    only-greedy g l inClass sub budget s u h f = last-greedy inClass sub budget pat 0 s [] u h e x f k g l at
 
 -- ---- do_match at the first level
 
 -- a new level below none is the first
-pub first-level : (sub : List ℕ) (budget : ℕ) (is : List Item) (s u : ℕ) (captures : Captures) → captures .count ≡ 0 → (o : Outcome)
-    → o ≡ newLevel 0 u (λ m. match matchClass sub budget is s m (capturesOf captures) u) → o ≡ match matchClass sub budget is s 1 [] u
+pub first-level : (inClass : ℕ → ℕ → Bool) (sub : List ℕ) (budget : ℕ) (is : List Item) (s u : ℕ) (captures : Captures) → captures .count ≡ 0 → (o : Outcome)
+    → o ≡ newLevel 0 u (λ m. match inClass sub budget is s m (capturesOf captures) u) → o ≡ match inClass sub budget is s 1 [] u
 unfolding newLevel if_then_else_ pairsOf
-first-level sub budget is s u captures z o e = e ∙ ap (λ (n : ℕ). match matchClass sub budget is s 1 (pairsOf n (captures .pairs)) u) z
+first-level inClass sub budget is s u captures z o e = e ∙ ap (λ (n : ℕ). match inClass sub budget is s 1 (pairsOf n (captures .pairs)) u) z
 
 pub none-sound : (s : ℕ) (captures : Captures) → captures .count ≡ 0 → Sound s captures
 none-sound s captures z = record { few = omega arith; each = λ i h. absurd (omega arith) }
+
+-- an attempt that fails by its first test
+pub fails-first : (inClass : ℕ → ℕ → Bool) (sub pat : List ℕ) (budget s u : ℕ) (a : Ahead) → Sure pat 0 0 0 false a → u + a .steps ≤ budget
+    → fitsAt inClass sub (singleOf pat (a .at) (a .suffix)) s ≡ false → failed (u + a .steps) ≡ match inClass sub budget (items pat 0) s 1 [] u
+fails-first inClass sub pat budget s u a sure h f =
+    sure .fails inClass sub budget s [] u (omega arith) (λ e. absurd (turns.false-true e)) h f ∙ turns.level-opens 0 u _ (omega arith)

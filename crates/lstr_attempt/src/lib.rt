@@ -1,2 +1,3 @@
-// An attempt of the trial at a place of the subject: what is decided without captures, and the test that comes first.
+// An attempt of the trial at a place of the subject: shortcuts to the answer of lstr_match's do_match, which is the rule.
 pub mod attempt;
+pub mod lead;

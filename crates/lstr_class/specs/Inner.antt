@@ -2,13 +2,12 @@
 -- Assumes nothing.
 use Prim.Native.Nat.{ℕ, _+_, _<_, _≤_}
 use Prim.Native.Char.{code}
-use mathlib.Core.Path.{_≡_}
-use mathlib.Core.Bool.{Bool, true, false}
+use mathlib.Core.Bool.{Bool, true, false, not}
 use mathlib.Core.List.{List}
 use mathlib.Core.Option.{Option, none, some}
-use lib.ListN.{getD}
-use lib.Dec.{eqb}
-use Rattle.luck_text.specs.Bytes.{if_then_else_, isDigit, isXdigit, isLuaWhitespace}
+use lib.Bits.{bitAnd}
+use lib.Dec.{eqb, ltb}
+use Rattle.luck_text.specs.Bytes.{if_then_else_, byteAt, isDigit, isXdigit, isLuaWhitespace}
 use Rattle.lstr_class.specs.Class.{isLower, isUpper, isCntrl, isPunct, toLower}
 use Rattle.lstr_class.specs.declared.subject.Found.{Found}
 use Rattle.lstr_class.specs.declared.subject.Found.the-variants as found
@@ -50,10 +49,6 @@ maskOf c =
     bit cntrl (isCntrl c) + bit digit (isDigit c) + bit lower (isLower c) + bit punct (isPunct c) + bit space (isLuaWhitespace c) + bit upper (isUpper c)
     + bit xdigit (isXdigit c) + bit zeroByte (eqb c 0)
 
--- the table has the mask of each byte
-unfoldable pub AreMasks : List ℕ → Type 0
-AreMasks masks = (c : ℕ) → c < 256 → getD masks c 0 ≡ maskOf c
-
 -- the bits of the class that a small letter names, 0 where it names none
 unfoldable pub classBits : ℕ → ℕ
 classBits letter =
@@ -72,6 +67,24 @@ classBits letter =
 -- and those of a letter, small or capital
 unfoldable pub bitsOf : ℕ → ℕ
 bitsOf cl = classBits (toLower cl)
+
+-- ---- The table of classes that is lent: the masks of the 256 bytes, then the bits of the class that each of them names
+
+abbrev pub maskIn : List ℕ → ℕ → ℕ
+maskIn table c = if ltb c 256 then byteAt table c else 0
+
+abbrev pub bitsIn : List ℕ → ℕ → ℕ
+bitsIn table cl = byteAt table (256 + cl)
+
+-- a byte without bits is itself; a capital, which stands before the small letters, is the complement
+abbrev pub byMask : ℕ → ℕ → ℕ → ℕ → Bool
+byMask bits mask cl c =
+    if eqb bits 0 then eqb cl c
+    else if ltb cl (code "a") then eqb (bitAnd mask bits) 0 else not (eqb (bitAnd mask bits) 0)
+
+-- the class test that a table stands for
+unfoldable pub classIn : List ℕ → ℕ → ℕ → Bool
+classIn table cl c = byMask (bitsIn table cl) (maskIn table c) cl c
 
 -- ---- The subject
 

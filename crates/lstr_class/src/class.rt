@@ -1,11 +1,12 @@
-// The classes of a pattern, by a mask for each byte.
+// The classes of a pattern, by a table: a mask for each byte, and the bits of the class that each byte names behind a `%`.
 ghost use mathlib.Core.Path.{_≡_};
-ghost use Rattle.lstr_class.specs.Class.{matchClass};
-ghost use Rattle.lstr_class.specs.Inner.{AreMasks, bitsOf};
+ghost use Rattle.lstr_class.specs.Class.{classOf};
+ghost use Rattle.lstr_class.specs.Inner.{bitsIn, classIn};
 
 // A bit for each class from which the others are made: control 1, digit 2, lower 4, punctuation 8, space 16, upper 32, hexadecimal digit 64,
-// the zero byte 128.
-const MASKS: [u8; 256] = [
+// the zero byte 128. The masks of the 256 bytes come first; then, for each of the 256 bytes, the bits of the class that it names, small or
+// capital, 0 where it names none.
+const CLASSES: [u8; 512] = [
     129,
     1,
     1,
@@ -262,55 +263,297 @@ const MASKS: [u8; 256] = [
     0,
     0,
     0,
+    0,
+    0,
+    0,
+    0,
+    0,
+    0,
+    0,
+    0,
+    0,
+    0,
+    0,
+    0,
+    0,
+    0,
+    0,
+    0,
+    0,
+    0,
+    0,
+    0,
+    0,
+    0,
+    0,
+    0,
+    0,
+    0,
+    0,
+    0,
+    0,
+    0,
+    0,
+    0,
+    0,
+    0,
+    0,
+    0,
+    0,
+    0,
+    0,
+    0,
+    0,
+    0,
+    0,
+    0,
+    0,
+    0,
+    0,
+    0,
+    0,
+    0,
+    0,
+    0,
+    0,
+    0,
+    0,
+    0,
+    0,
+    0,
+    0,
+    0,
+    0,
+    0,
+    0,
+    0,
+    0,
+    36,
+    0,
+    1,
+    2,
+    0,
+    0,
+    46,
+    0,
+    0,
+    0,
+    0,
+    4,
+    0,
+    0,
+    0,
+    8,
+    0,
+    0,
+    16,
+    0,
+    32,
+    0,
+    38,
+    64,
+    0,
+    128,
+    0,
+    0,
+    0,
+    0,
+    0,
+    0,
+    36,
+    0,
+    1,
+    2,
+    0,
+    0,
+    46,
+    0,
+    0,
+    0,
+    0,
+    4,
+    0,
+    0,
+    0,
+    8,
+    0,
+    0,
+    16,
+    0,
+    32,
+    0,
+    38,
+    64,
+    0,
+    128,
+    0,
+    0,
+    0,
+    0,
+    0,
+    0,
+    0,
+    0,
+    0,
+    0,
+    0,
+    0,
+    0,
+    0,
+    0,
+    0,
+    0,
+    0,
+    0,
+    0,
+    0,
+    0,
+    0,
+    0,
+    0,
+    0,
+    0,
+    0,
+    0,
+    0,
+    0,
+    0,
+    0,
+    0,
+    0,
+    0,
+    0,
+    0,
+    0,
+    0,
+    0,
+    0,
+    0,
+    0,
+    0,
+    0,
+    0,
+    0,
+    0,
+    0,
+    0,
+    0,
+    0,
+    0,
+    0,
+    0,
+    0,
+    0,
+    0,
+    0,
+    0,
+    0,
+    0,
+    0,
+    0,
+    0,
+    0,
+    0,
+    0,
+    0,
+    0,
+    0,
+    0,
+    0,
+    0,
+    0,
+    0,
+    0,
+    0,
+    0,
+    0,
+    0,
+    0,
+    0,
+    0,
+    0,
+    0,
+    0,
+    0,
+    0,
+    0,
+    0,
+    0,
+    0,
+    0,
+    0,
+    0,
+    0,
+    0,
+    0,
+    0,
+    0,
+    0,
+    0,
+    0,
+    0,
+    0,
+    0,
+    0,
+    0,
+    0,
+    0,
+    0,
+    0,
+    0,
+    0,
+    0,
+    0,
+    0,
+    0,
+    0,
+    0,
+    0,
+    0,
+    0,
+    0,
+    0,
+    0,
+    0,
+    0,
+    0,
+    0,
+    0,
 ];
 
-// The table, to be copied once and lent: a constant is built anew at each read.
-pub fn masks() -> [u8; 256]
-    ensures { λ r. ⌜ AreMasks r ⌝ }
+// The table of a version's classes, to be copied once and lent: a constant is built anew at each read.
+pub fn classes(version: u32) -> [u8; 512]
+    ensures { λ r. ⌜ classIn r ≡ classOf version ⌝ }
 {
-    MASKS
+    CLASSES
 }
 
-// The bits of the class that a letter names, small or capital; 0 where it names none.
-pub fn class_bits(class: u8) -> u8
-    ensures { λ r. ⌜ r ≡ bitsOf class ⌝ }
+// The bits of the class that a byte names.
+pub fn class_bits(classes: &[u8; 512], class: u8) -> u8
+    ensures { λ r. ⌜ r ≡ bitsIn (now (classes .entry)) class ⌝ }
 {
-    match class {
-        b'a' | b'A' => 36,
-        b'c' | b'C' => 1,
-        b'd' | b'D' => 2,
-        b'g' | b'G' => 46,
-        b'l' | b'L' => 4,
-        b'p' | b'P' => 8,
-        b's' | b'S' => 16,
-        b'u' | b'U' => 32,
-        b'w' | b'W' => 38,
-        b'x' | b'X' => 64,
-        b'z' | b'Z' => 128,
-        _ => 0,
-    }
+    classes[256 + class as usize]
 }
 
-// Whether a byte fits `%` and the byte `class`, whose bits were found before.
-pub fn match_bits(masks: &[u8; 256], class: u8, bits: u8, byte: u8) -> bool
-    requires { ⌜ AreMasks (now masks) × (bits ≡ bitsOf class) ⌝ }
-    ensures { λ r. ⌜ r ≡ matchClass class byte ⌝ }
+// Whether a byte fits `%` and the byte `class`, whose bits were found before. A capital is the complement.
+pub fn match_bits(classes: &[u8; 512], class: u8, bits: u8, byte: u8) -> bool
+    requires { ⌜ bits ≡ bitsIn (now classes) class ⌝ }
+    ensures { λ r. ⌜ r ≡ classIn (now (classes .entry)) class byte ⌝ }
 {
     if bits == 0 {
         return class == byte;
     }
-    let mask = masks[byte as usize];
+    let mask = classes[byte as usize];
     if class < b'a' {
         return mask & bits == 0;
     }
     mask & bits != 0
 }
 
-// Whether a byte fits `%` and the byte `class`.
-pub fn match_class(masks: &[u8; 256], class: u8, byte: u8) -> bool
-    requires { ⌜ AreMasks (now masks) ⌝ }
-    ensures { λ r. ⌜ r ≡ matchClass class byte ⌝ }
+// match_class: whether a byte fits `%` and the byte `class`.
+pub fn match_class(classes: &[u8; 512], class: u8, byte: u8) -> bool
+    ensures { λ r. ⌜ r ≡ classIn (now (classes .entry)) class byte ⌝ }
 {
-    let bits = class_bits(class);
-    match_bits(masks, class, bits, byte)
+    let bits = class_bits(classes, class);
+    match_bits(classes, class, bits, byte)
 }

@@ -18,7 +18,7 @@ use Rattle.luck_pattern.specs.Items.{Item, items}
 use Rattle.luck_token.specs.Version.{isVersion, rulesOf}
 use Rattle.luck_token.specs.declared.version.Rules.{Rules}
 use Rattle.luck_replacement.specs.Replacement.{isStrict, pieces}
-use Rattle.lstr_class.specs.Class.{matchClass, classOf}
+use Rattle.lstr_class.specs.Class.{classOf}
 use Rattle.lstr_item.specs.Match.{Outcome, matched, failed, stopped, match}
 use Rattle.lstr_write.specs.Replace.{Wrote, append, addPieces}
 use Rattle.lstr_gsub.specs.Gsub.{Answer, answer, andWrote, Rounds, Writer, endsAgain, copyByte, copyRest, round, anchoredRound, roundsFrom, rounds, strGsub, writerOf, gsub}
@@ -131,12 +131,12 @@ unfolding endsAgain lastOf
 again-false e zero h = refl
 again-false e (suc last) h = ne-eqb e last (λ q. h (omega arith))
 
-module _ (sub : List ℕ) (budget : ℕ) (strict : Bool) (rep : List ℕ) (is : List Item) (entry : List ℕ) where
+module _ (inClass : ℕ → ℕ → Bool) (sub : List ℕ) (budget : ℕ) (strict : Bool) (rep : List ℕ) (is : List Item) (entry : List ℕ) where
   abbrev write : Writer
   write = writerBy strict rep sub (length entry)
 
   abbrev all : Rounds
-  all = rounds matchClass sub budget (length entry) write is
+  all = rounds inClass sub budget (length entry) write is
 
   abbrev whole : Answer
   whole = all 0 none [] 0 0
@@ -154,24 +154,24 @@ module _ (sub : List ℕ) (budget : ℕ) (strict : Bool) (rep : List ℕ) (is : 
   starts = record { inside = omega arith; upto = begins 0 entry (omega arith); few = omega arith; steps = omega arith; answers = refl }
 
   module _ (place after at n u : ℕ) (output : List ℕ) (going : Going place after at n u output) (r : Attempt) (kept : List ℕ)
-      (o : outcomeOf r kept ≡ match matchClass sub budget is place 1 [] u) where
+      (o : outcomeOf r kept ≡ match inClass sub budget is place 1 [] u) where
     abbrev out : List ℕ
     out = take at output
 
     turn : round sub (length entry) write all (outcomeOf r kept) place (lastOf after) out n ≡ whole
     turn =
         ap (λ (x : Outcome). round sub (length entry) write all x place (lastOf after) out n) o
-        ∙ sym (one-round matchClass sub budget (length entry) write is place (lastOf after) out n u) ∙ going .answers
+        ∙ sym (one-round inClass sub budget (length entry) write is place (lastOf after) out n u) ∙ going .answers
 
     pub stopping : 1 < r .number → answer (r .number) (r .kind) out n (r .steps) ≡ whole
     unfolding round
     stopping h = sym (ap (λ (x : Outcome). round sub (length entry) write all x place (lastOf after) out n) (is-stop r kept h)) ∙ turn
 
-    on-match : (z : r .number ≡ 0) → Onward matchClass sub budget place (u + 1) (matched (r .end) (capturesIn (r .count) kept) (r .steps))
-    on-match z = subst (λ (x : Outcome). Onward matchClass sub budget place (u + 1) x) (sym o ∙ is-match r kept z) (onward matchClass sub budget is place u)
+    on-match : (z : r .number ≡ 0) → Onward inClass sub budget place (u + 1) (matched (r .end) (capturesIn (r .count) kept) (r .steps))
+    on-match z = subst (λ (x : Outcome). Onward inClass sub budget place (u + 1) x) (sym o ∙ is-match r kept z) (onward inClass sub budget is place u)
 
-    on-failure : (z : r .number ≡ 1) → Onward matchClass sub budget place (u + 1) (failed (r .steps))
-    on-failure z = subst (λ (x : Outcome). Onward matchClass sub budget place (u + 1) x) (sym o ∙ is-failure r kept z) (onward matchClass sub budget is place u)
+    on-failure : (z : r .number ≡ 1) → Onward inClass sub budget place (u + 1) (failed (r .steps))
+    on-failure z = subst (λ (x : Outcome). Onward inClass sub budget place (u + 1) x) (sym o ∙ is-failure r kept z) (onward inClass sub budget is place u)
 
     pub ends-later : r .number ≡ 0 → place ≤ r .end
     ends-later z = on-match z .ends .0
@@ -293,10 +293,10 @@ module _ (room : ℕ) (bytes before : List ℕ) (w : Written) (out : List ℕ) (
       ∙ ap (λ (x : Wrote). andWrote x n u (λ now. answer 0 0 now n u)) (sym (is-ended w out m) ∙ e))
       (order (w .number) 1)
 
-module _ (sub : List ℕ) (budget : ℕ) (strict : Bool) (rep : List ℕ) (is : List Item) (entry : List ℕ) (r : Attempt) (kept : List ℕ)
-    (o : outcomeOf r kept ≡ match matchClass sub budget is 0 1 [] 0) where
+module _ (inClass : ℕ → ℕ → Bool) (sub : List ℕ) (budget : ℕ) (strict : Bool) (rep : List ℕ) (is : List Item) (entry : List ℕ) (r : Attempt) (kept : List ℕ)
+    (o : outcomeOf r kept ≡ match inClass sub budget is 0 1 [] 0) where
   abbrev anchored : Answer
-  anchored = anchoredRound sub (length entry) (writerBy strict rep sub (length entry)) (match matchClass sub budget is 0 1 [] 0)
+  anchored = anchoredRound sub (length entry) (writerBy strict rep sub (length entry)) (match inClass sub budget is 0 1 [] 0)
 
   by-outcome : (x : Outcome) → outcomeOf r kept ≡ x → anchoredRound sub (length entry) (writerBy strict rep sub (length entry)) x ≡ anchored
   by-outcome x e = ap (anchoredRound sub (length entry) (writerBy strict rep sub (length entry))) (sym e ∙ o)
@@ -345,18 +345,18 @@ module _ (version : ℕ) (pat rep sub : List ℕ) (budget room : ℕ) where
   unfolding gsub
   no-version e = sym (if-false _ _ _ e)
 
-  -- by the row of the version
-  module _ (e : isVersion version ≡ true) (rules : Rules) (row : rules ≡ rulesOf version) where
+  -- by the row of the version, and its classes
+  module _ (e : isVersion version ≡ true) (rules : Rules) (row : rules ≡ rulesOf version) (inClass : ℕ → ℕ → Bool) (k : inClass ≡ classOf version) where
     pub gsub-anchored : byteAt pat 0 ≡ 94
-        → anchoredRound sub room (writerBy (isStrict rules) rep sub room) (match matchClass sub budget (items pat 1) 0 1 [] 0)
+        → anchoredRound sub room (writerBy (isStrict rules) rep sub room) (match inClass sub budget (items pat 1) 0 1 [] 0)
         ≡ gsub version pat rep sub budget room
-    unfolding gsub strGsub classOf writerBy writerOf
-    gsub-anchored h = rw row (sym (if-true _ _ _ e ∙ if-true _ _ _ (eq-eqb (byteAt pat 0) 94 h)))
+    unfolding gsub strGsub writerBy writerOf
+    gsub-anchored h = rw (row, k) (sym (if-true _ _ _ e ∙ if-true _ _ _ (eq-eqb (byteAt pat 0) 94 h)))
 
     pub gsub-free : (byteAt pat 0 ≡ 94 → ⊥)
-        → rounds matchClass sub budget room (writerBy (isStrict rules) rep sub room) (items pat 0) 0 none [] 0 0 ≡ gsub version pat rep sub budget room
-    unfolding gsub strGsub classOf writerBy writerOf
-    gsub-free h = rw row (sym (if-true _ _ _ e ∙ if-false _ _ _ (ne-eqb (byteAt pat 0) 94 h)))
+        → rounds inClass sub budget room (writerBy (isStrict rules) rep sub room) (items pat 0) 0 none [] 0 0 ≡ gsub version pat rep sub budget room
+    unfolding gsub strGsub writerBy writerOf
+    gsub-free h = rw (row, k) (sym (if-true _ _ _ e ∙ if-false _ _ _ (ne-eqb (byteAt pat 0) 94 h)))
 
 pub first-none : (pat : List ℕ) → length pat ≤ 0 → byteAt pat 0 ≡ 94 → ⊥
 first-none [] h e = omega arith

@@ -5,12 +5,12 @@ ghost use mathlib.Core.Option.{none};
 ghost use Prim.Native.Nat.{_≤_};
 ghost use lib.ListN.{length};
 ghost use Rattle.luck_pattern.specs.Items.{items};
-ghost use Rattle.lstr_class.specs.Class.{matchClass};
 ghost use Rattle.lstr_item.specs.Match.{match};
 ghost use Rattle.lstr_gsub.specs.Gsub.{outputAfter, report, reportOf, anchoredRound, rounds, gsub};
-ghost use Rattle.lstr_class.specs.Inner.{AreMasks};
+ghost use Rattle.lstr_class.specs.Inner.{classIn};
 ghost use Rattle.lstr_gsub.specs.Inner.{writerBy, Reported};
 use lstr_attempt::attempt;
+use lstr_attempt::lead;
 use lstr_class::class;
 use lstr_write::replace;
 use luck_token::version;
@@ -27,7 +27,7 @@ pub struct Trial {
 
 // The rounds over the subject: at each place an attempt, whose match is replaced unless it ends where the last one did.
 fn run_rounds(
-    masks: &[u8; 256],
+    classes: &[u8; 512],
     is_strict: bool,
     pattern: &[u8],
     replacement: &[u8],
@@ -35,13 +35,12 @@ fn run_rounds(
     budget: u32,
     output: &mut [u8],
 ) -> Trial
-    requires { ⌜ AreMasks (now masks) ⌝ }
     ensures { λ r. ⌜
         Reported r (now (output .entry)) (now (output .exit))
-        (rounds matchClass (now (subject .entry)) budget (length (now (output .entry))) (writerBy «is_strict» (now (replacement .entry)) (now (subject .entry)) (length (now (output .entry)))) (items (now (pattern .entry)) 0) 0 none [] 0 0)
+        (rounds (classIn (now (classes .entry))) (now (subject .entry)) budget (length (now (output .entry))) (writerBy «is_strict» (now (replacement .entry)) (now (subject .entry)) (length (now (output .entry)))) (items (now (pattern .entry)) 0) 0 none [] 0 0)
         ⌝ }
 {
-    let lead = attempt::lead_of(pattern);
+    let lead = lead::lead_of(pattern);
     let mut kept = [0usize; 64];
     let mut place = 0;
     // one more than the end of the last match, 0 where there was none
@@ -51,7 +50,7 @@ fn run_rounds(
     let mut steps = 0;
     'rounds: loop {
         let attempt = attempt::attempt_at(
-            masks,
+            classes,
             subject,
             pattern,
             lead,
@@ -126,7 +125,7 @@ fn run_rounds(
 
 // The one attempt of an anchored pattern; the rest of the subject is copied.
 fn run_anchored(
-    masks: &[u8; 256],
+    classes: &[u8; 512],
     is_strict: bool,
     pattern: &[u8],
     replacement: &[u8],
@@ -134,14 +133,14 @@ fn run_anchored(
     budget: u32,
     output: &mut [u8],
 ) -> Trial
-    requires { ⌜ AreMasks (now masks) × (1 ≤ length (now pattern)) ⌝ }
+    requires { ⌜ (1 ≤ length (now pattern)) ⌝ }
     ensures { λ r. ⌜
         Reported r (now (output .entry)) (now (output .exit))
-        (anchoredRound (now (subject .entry)) (length (now (output .entry))) (writerBy «is_strict» (now (replacement .entry)) (now (subject .entry)) (length (now (output .entry)))) (match matchClass (now (subject .entry)) budget (items (now (pattern .entry)) 1) 0 1 [] 0))
+        (anchoredRound (now (subject .entry)) (length (now (output .entry))) (writerBy «is_strict» (now (replacement .entry)) (now (subject .entry)) (length (now (output .entry)))) (match (classIn (now (classes .entry))) (now (subject .entry)) budget (items (now (pattern .entry)) 1) 0 1 [] 0))
         ⌝ }
 {
     let mut kept = [0usize; 64];
-    let attempt = attempt::attempt(masks, subject, pattern, 1, 0, budget, 0, &mut kept);
+    let attempt = attempt::attempt(classes, subject, pattern, 1, 0, budget, 0, &mut kept);
     let steps = attempt.steps;
     if 1 < attempt.number {
         return Trial {
@@ -210,12 +209,12 @@ pub fn gsub(
         ⌝ }
 {
     if version::is_version(version) {
-        let masks = class::masks();
+        let classes = class::classes(version);
         let rules = version::rules_of(version);
         if 0 < pattern.len() {
             if pattern[0] == b'^' {
                 return run_anchored(
-                    &masks,
+                    &classes,
                     rules.strict_gsub_replacement,
                     pattern,
                     replacement,
@@ -226,7 +225,7 @@ pub fn gsub(
             }
         }
         return run_rounds(
-            &masks,
+            &classes,
             rules.strict_gsub_replacement,
             pattern,
             replacement,

@@ -3,75 +3,104 @@
 use Prim.Native.Nat.{ℕ, _+_, _-_, _≤_, _<_}
 use native.Mathlib.Omega.{arith}
 use mathlib.Core.Path.{_≡_, refl, sym, ap, subst, _∙_}
-use mathlib.Core.Bool.{Bool, true}
-use mathlib.Core.List.{List}
+use mathlib.Core.Bool.{Bool, true, false}
+use mathlib.Core.List.{List, [], _∷_, _++_}
 use mathlib.Core.Option.{Option, none, some}
-use lib.ListN.{length, List·getD-eq-default}
-use lib.Dec.{eqb}
-use borrow.Author.Tests.{eqb-true}
-use Rattle.luck_text.specs.Bytes.{byteAt}
-use Rattle.luck_text.proofs.Cases.{by-test}
-use Rattle.luck_pattern.specs.Items.{Repeat, end-capture, repeatOf}
-use Rattle.lstr_item.specs.Match.{Capture, captureToClose, failed, Rest, newLevel, endCapture}
+use lib.ListN.{length}
+use borrow.Author.Tests.{lt-ltb}
+use Rattle.luck_text.specs.Bytes.{if_then_else_}
+use Rattle.luck_pattern.specs.Items.{Repeat, Item, start-capture, position-capture, end-capture}
+use Rattle.lstr_item.specs.Match.{Capture, opened, position, captureToClose, failed, Rest, newLevel, startCapture, endCapture, doItem}
 use Rattle.lstr_item.specs.Inner.{singleOf, hasToFit, Then, Single-then}
-use Rattle.lstr_item.specs.Ahead.{SingleEnds, MustFit, Sure}
-use Rattle.lstr_item.proofs.Turns.{on, level-opens, at-close, unfit-fails}
-use Rattle.lstr_item.proofs.Reading.{as-read}
+use Rattle.lstr_item.specs.Ahead.{MustFit, SingleAhead, Sure}
+use Rattle.lstr_item.specs.declared.ahead.Ahead.{Ahead}
+use Rattle.lstr_item.proofs.Turns.{on, item, level-opens, unfit-fails}
 
--- ---- A single that is to fit
-
-abbrev Fits : Repeat → Type 0
-Fits k = hasToFit k ≡ true
-
-required : (b : ℕ) → (b ≡ 63 → ⊥) → (b ≡ 42 → ⊥) → (b ≡ 45 → ⊥) → Fits (repeatOf b)
-unfolding repeatOf
-required b o s m =
-    by-test Fits (eqb b 63) _ _ (λ e. absurd (o (eqb-true b 63 e)))
-    (λ n. by-test Fits (eqb b 42) _ _ (λ e. absurd (s (eqb-true b 42 e)))
-    (λ n. by-test Fits (eqb b 43) _ _ (λ e. refl)
-    (λ n. by-test Fits (eqb b 45) _ _ (λ e. absurd (m (eqb-true b 45 e))) (λ n. refl))))
+-- ---- A single that has to fit
 
 module _ (pat : List ℕ) (p e : ℕ) where
-  to-fit : (k : Repeat) → hasToFit k ≡ true → Single-then pat p e k → MustFit pat p e
-  to-fit k h i =
-      record { single = i .single; fails = λ sub budget s l cs u g f. unfit-fails sub pat budget p s l cs u g e (singleOf pat p e) k (i .on) h f }
+  pub must-fit : (k : Repeat) → hasToFit k ≡ true → Single-then pat p e k → MustFit pat p e
+  must-fit k h i =
+      record {
+        single = i .single;
+        fails = λ inClass sub budget s l cs u g f. unfit-fails inClass sub pat budget p s l cs u g e (singleOf pat p e) k (i .on) h f;
+      }
 
-  pub must-fit : (byteAt pat e ≡ 63 → ⊥) → (byteAt pat e ≡ 42 → ⊥) → (byteAt pat e ≡ 45 → ⊥) → SingleEnds pat p e → MustFit pat p e
-  must-fit o s m i =
-      let k = repeatOf (byteAt pat e) in
-      to-fit k (required (byteAt pat e) o s m) (subst (Single-then pat p e) (sym (as-read k)) i)
+pub nothing-ahead : (pat : List ℕ) (p n : ℕ) (a : Ahead) → a .steps ≡ 0 → SingleAhead pat p n a
+nothing-ahead pat p n a z = record { at = λ h. absurd (omega arith); steps = λ h. absurd (omega arith); fits = λ h. absurd (omega arith) }
 
-  pub must-fit-last : length pat ≤ e → SingleEnds pat p e → MustFit pat p e
-  must-fit-last h i =
-      let z : byteAt pat e ≡ 0 = List·getD-eq-default pat 0 h in
-      must-fit (λ b. omega arith) (λ b. omega arith) (λ b. omega arith) i
+-- what the code says of a single that was read
+abbrev Required : ℕ → ℕ → Repeat → ℕ → Ahead → Type 0
+Required p e k n a = 0 < a .steps → (hasToFit k ≡ true) × (a .steps ≡ n) × (a .at ≡ p) × (a .suffix ≡ e)
+
+pub single-ahead : (pat : List ℕ) (p e : ℕ) (k : Repeat) (n : ℕ) (a : Ahead) → Single-then pat p e k → Required p e k n a → SingleAhead pat p n a
+single-ahead pat p e k n a i f =
+    record { at = λ h. f h .2; steps = λ h. f h .1; fits = λ h. rw (f h .3) (must-fit pat p e k (f h .0) i) }
 
 -- ---- At a new level
 
-module _ (rest : Rest) (s l : ℕ) (cs : List Capture) (u v : ℕ) where
-  closes : (o : Option ℕ) → (o ≡ none → ⊥) → ((ds : List Capture) → failed v ≡ newLevel l u (λ m. rest s m ds u)) → failed v ≡ endCapture o rest s l cs u
+-- what stands before the single fails where what follows it fails, at a new level with whatever captures
+abbrev Opens : ℕ → Bool → Item → Type 0
+Opens count isOpen i =
+    (inClass : ℕ → ℕ → Bool) (sub : List ℕ) (budget : ℕ) (rest : Rest) (s l : ℕ) (cs : List Capture) (u v : ℕ)
+    → length cs ≤ count → (isOpen ≡ true → captureToClose cs ≡ none → ⊥)
+    → ((ds : List Capture) → failed v ≡ newLevel l u (λ m. rest s m ds u)) → failed v ≡ doItem inClass sub budget i rest s l cs u
+
+module _ (count : ℕ) (isOpen : Bool) where
+  starts : (c : Capture) (rest : Rest) (s l : ℕ) (cs : List Capture) (u v : ℕ) → count < 32 → length cs ≤ count
+      → ((ds : List Capture) → failed v ≡ newLevel l u (λ m. rest s m ds u)) → failed v ≡ startCapture c rest s l cs u
+  unfolding startCapture if_then_else_
+  starts c rest s l cs u v h n f = rw (lt-ltb (length cs) 32 (omega arith)) (f _)
+
+  pub opens-start : count < 32 → Opens count isOpen start-capture
+  unfolding doItem
+  opens-start h inClass sub budget rest s l cs u v n o f = starts (opened s) rest s l cs u v h n f
+
+  pub opens-position : count < 32 → Opens count isOpen position-capture
+  unfolding doItem
+  opens-position h inClass sub budget rest s l cs u v n o f = starts (position s) rest s l cs u v h n f
+
+  closes : (rest : Rest) (s l : ℕ) (cs : List Capture) (u v : ℕ) (o : Option ℕ) → (o ≡ none → ⊥)
+      → ((ds : List Capture) → failed v ≡ newLevel l u (λ m. rest s m ds u)) → failed v ≡ endCapture o rest s l cs u
   unfolding endCapture
-  closes none n h = absurd (n refl)
-  closes (some i) n h = h _
+  closes rest s l cs u v none n f = absurd (n refl)
+  closes rest s l cs u v (some i) n f = f _
 
-module _ (pat : List ℕ) (next l : ℕ) (isOpen : Bool) (e : ℕ) where
-  pub sure-one : l < 200 → MustFit pat next e → Sure pat next l isOpen (record { steps = 1; at = next; end = e })
-  sure-one h m =
-      record {
-        single = m .single;
-        fails = λ sub budget s cs u o g f. m .fails sub budget s (l + 1) cs u (omega arith) f ∙ sym (level-opens l u _ h);
-      }
+  pub opens-end : isOpen ≡ true → Opens count isOpen end-capture
+  unfolding doItem
+  opens-end h inClass sub budget rest s l cs u v n o f = closes rest s l cs u v (captureToClose cs) (o h) f
 
-  pub sure-two : l + 1 < 200 → isOpen ≡ true → Then pat next end-capture (next + 1) → MustFit pat (next + 1) e
-      → Sure pat next l isOpen (record { steps = 2; at = next + 1; end = e })
-  sure-two h o t m =
-      record {
-        single = m .single;
-        fails = λ sub budget s cs u n g f.
-            let k : u + 2 ≡ u + 1 + 1 = omega arith in
-            ap failed k
-            ∙ closes (on sub pat budget (next + 1)) s (l + 1) cs (u + 1) (u + 1 + 1) (captureToClose cs) (n o)
-            (λ ds. m .fails sub budget s (l + 1 + 1) ds (u + 1) (omega arith) f ∙ sym (level-opens (l + 1) (u + 1) _ h))
-            ∙ at-close sub pat budget next s (l + 1) cs u (omega arith) (next + 1) t
-            ∙ sym (level-opens l u _ (omega arith));
-      }
+  -- the single stands first, or behind such an item
+  module _ (pat : List ℕ) (next l : ℕ) (a : Ahead) where
+    pub sure-one : l < 200 → SingleAhead pat next 1 a → 0 < a .steps → Sure pat next l count isOpen a
+    sure-one h b z =
+        let p = b .at z in
+        let m = b .fits z in
+        record {
+          single = rw p (m .single);
+          fails = λ inClass sub budget s cs u n o g f.
+              ap (λ (v : ℕ). failed (u + v)) (b .steps z)
+              ∙ m .fails inClass sub budget s (l + 1) cs u (omega arith) (rw p at f)
+              ∙ sym (level-opens l u _ h);
+        }
+
+    pub sure-two : (i : Item) (after : ℕ) → Opens count isOpen i → l + 1 < 200 → Then pat next i after → SingleAhead pat after 2 a → 0 < a .steps
+        → Sure pat next l count isOpen a
+    sure-two i after opens h t b z =
+        let p = b .at z in
+        let m = b .fits z in
+        record {
+          single = rw p (m .single);
+          fails = λ inClass sub budget s cs u n o g f.
+              let k : u + a .steps ≡ u + 1 + 1 = omega (arith, b .steps z) in
+              ap failed k
+              ∙ opens inClass sub budget (on inClass sub pat budget after) s (l + 1) cs (u + 1) (u + 1 + 1) n o
+              (λ ds. m .fails inClass sub budget s (l + 1 + 1) ds (u + 1) (omega arith) (rw p at f) ∙ sym (level-opens (l + 1) (u + 1) _ h))
+              ∙ item inClass sub pat budget next s (l + 1) cs u (omega arith) i after t
+              ∙ sym (level-opens l u _ (omega arith));
+        }
+
+-- the single that a pattern begins with
+pub sure-first : (pat : List ℕ) (e : ℕ) (k : Repeat) → hasToFit k ≡ true → Single-then pat 0 e k → Sure pat 0 0 0 false (record { steps = 1; at = 0; suffix = e })
+sure-first pat e k h i =
+    sure-one 0 false pat 0 0 _ (omega arith) (single-ahead pat 0 e k 1 _ i (λ z. (h, refl, refl, refl))) (omega arith)

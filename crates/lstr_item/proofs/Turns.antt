@@ -11,7 +11,6 @@ use borrow.Author.Tests.{lt-ltb, le-ltb, eq-eqb, ne-eqb}
 use Rattle.luck_text.specs.Bytes.{if_then_else_}
 use Rattle.luck_text.proofs.Cases.{if-true, if-false}
 use Rattle.luck_pattern.specs.Items.{Set, Single, Repeat, once, optional, star, plus, minus, repeatWidth, Item, start-capture, position-capture, end-capture, end-anchor, balance, frontier, back-reference, single, raises, items}
-use Rattle.lstr_class.specs.Class.{matchClass}
 use Rattle.lstr_item.specs.Match.{Capture, opened, position, captureToClose, Outcome, matched, failed, stopped, raised, Rest, due, newLevel, startCapture, endCapture, backReference, goesOnAt, isFrontier, passedOver, fitsAt, expand, doItem, match}
 use Rattle.lstr_class.specs.Subject.{matchBalance}
 use Rattle.lstr_item.specs.Inner.{Then, isOnce, hasToFit, isGreedy}
@@ -98,11 +97,11 @@ module _ (pat : List ℕ) (p e : ℕ) (x : Single) (k : Repeat) (t : Then pat p 
 
 -- ---- A turn
 
-module _ (sub pat : List ℕ) (budget : ℕ) where
+module _ (inClass : ℕ → ℕ → Bool) (sub pat : List ℕ) (budget : ℕ) where
   abbrev pub on : ℕ → Rest
-  on p = match matchClass sub budget (items pat p)
+  on p = match inClass sub budget (items pat p)
 
-  pub steps-spent : (is : List Item) (s l : ℕ) (cs : List Capture) (u : ℕ) → budget ≤ u → stopped 27 0 u ≡ match matchClass sub budget is s l cs u
+  pub steps-spent : (is : List Item) (s l : ℕ) (cs : List Capture) (u : ℕ) → budget ≤ u → stopped 27 0 u ≡ match inClass sub budget is s l cs u
   unfolding match due if_then_else_
   steps-spent [] s l cs u h = rw (le-ltb u budget h)
   steps-spent (i ∷ is) s l cs u h = rw (le-ltb u budget h)
@@ -112,11 +111,11 @@ module _ (sub pat : List ℕ) (budget : ℕ) where
     unfolding match due if_then_else_
     at-end e = rw (e, lt-ltb u budget h)
 
-    last-item : (i : Item) → items pat p ≡ i ∷ [] → doItem matchClass sub budget i (match matchClass sub budget []) s l cs (u + 1) ≡ on p s l cs u
+    last-item : (i : Item) → items pat p ≡ i ∷ [] → doItem inClass sub budget i (match inClass sub budget []) s l cs (u + 1) ≡ on p s l cs u
     unfolding match due if_then_else_
     last-item i e = rw (e, lt-ltb u budget h)
 
-    item : (i : Item) (q : ℕ) → Then pat p i q → doItem matchClass sub budget i (on q) s l cs (u + 1) ≡ on p s l cs u
+    pub item : (i : Item) (q : ℕ) → Then pat p i q → doItem inClass sub budget i (on q) s l cs (u + 1) ≡ on p s l cs u
     unfolding match due if_then_else_
     item i q t = rw (t .is, lt-ltb u budget h)
 
@@ -161,34 +160,34 @@ module _ (sub pat : List ℕ) (budget : ℕ) where
       unfolding goesOnAt
       unbalanced x y t f = ap (λ o. goesOnAt o (on q) l cs (u + 1)) f ∙ at-balance x y t
 
-      pub at-frontier : (x : Set) → Then pat p (frontier x) q → isFrontier matchClass sub x s ≡ true → on q s l cs (u + 1) ≡ on p s l cs u
+      pub at-frontier : (x : Set) → Then pat p (frontier x) q → isFrontier inClass sub x s ≡ true → on q s l cs (u + 1) ≡ on p s l cs u
       unfolding doItem
       at-frontier x t f = sym (if-true _ _ _ f) ∙ item (frontier x) q t
 
-      pub no-frontier : (x : Set) → Then pat p (frontier x) q → isFrontier matchClass sub x s ≡ false → failed (u + 1) ≡ on p s l cs u
+      pub no-frontier : (x : Set) → Then pat p (frontier x) q → isFrontier inClass sub x s ≡ false → failed (u + 1) ≡ on p s l cs u
       unfolding doItem
       no-frontier x t f = sym (if-false _ _ _ f) ∙ item (frontier x) q t
 
       module _ (x : Single) (r : Repeat) (t : Then pat p (single x r) q) where
-        pub fitting : fitsAt matchClass sub x s ≡ true → expand matchClass sub budget x r (on q) s l cs (u + 1) ≡ on p s l cs u
+        pub fitting : fitsAt inClass sub x s ≡ true → expand inClass sub budget x r (on q) s l cs (u + 1) ≡ on p s l cs u
         unfolding doItem
         fitting f = sym (if-true _ _ _ f) ∙ item (single x r) q t
 
-        unfitting : fitsAt matchClass sub x s ≡ false → passedOver r (on q) s l cs (u + 1) ≡ on p s l cs u
+        unfitting : fitsAt inClass sub x s ≡ false → passedOver r (on q) s l cs (u + 1) ≡ on p s l cs u
         unfolding doItem
         unfitting f = sym (if-false _ _ _ f) ∙ item (single x r) q t
 
     -- a single that ends before place e, where its repeat stands
     module _ (e : ℕ) (x : Single) (k : Repeat) (t : Then pat p (single x k) (e + repeatWidth k)) where
-      pub unfit-fails : hasToFit k ≡ true → fitsAt matchClass sub x s ≡ false → failed (u + 1) ≡ on p s l cs u
+      pub unfit-fails : hasToFit k ≡ true → fitsAt inClass sub x s ≡ false → failed (u + 1) ≡ on p s l cs u
       unfit-fails h f = not-passed _ s l cs (u + 1) k h ∙ unfitting (e + repeatWidth k) x k t f
 
-      pub unfit-passed : hasToFit k ≡ false → fitsAt matchClass sub x s ≡ false → on (e + 1) s l cs (u + 1) ≡ on p s l cs u
+      pub unfit-passed : hasToFit k ≡ false → fitsAt inClass sub x s ≡ false → on (e + 1) s l cs (u + 1) ≡ on p s l cs u
       unfit-passed h f =
           ap (λ (q : ℕ). on q s l cs (u + 1)) (sym (after-repeat e k (passed-repeats k h)))
           ∙ passed _ s l cs (u + 1) k h ∙ unfitting (e + repeatWidth k) x k t f
 
-      once-expands : (r : Repeat) → isOnce r ≡ true → (rest : Rest) → rest (s + 1) l cs (u + 1) ≡ expand matchClass sub budget x r rest s l cs (u + 1)
+      once-expands : (r : Repeat) → isOnce r ≡ true → (rest : Rest) → rest (s + 1) l cs (u + 1) ≡ expand inClass sub budget x r rest s l cs (u + 1)
       unfolding expand
       once-expands once h rest = refl
       once-expands optional h rest = absurd (false-true h)
@@ -196,10 +195,10 @@ module _ (sub pat : List ℕ) (budget : ℕ) where
       once-expands plus h rest = absurd (false-true h)
       once-expands minus h rest = absurd (false-true h)
 
-      pub fit-once : isOnce k ≡ true → fitsAt matchClass sub x s ≡ true → on e (s + 1) l cs (u + 1) ≡ on p s l cs u
+      pub fit-once : isOnce k ≡ true → fitsAt inClass sub x s ≡ true → on e (s + 1) l cs (u + 1) ≡ on p s l cs u
       fit-once h f =
           ap (λ (q : ℕ). on q (s + 1) l cs (u + 1)) (sym (after-once e k h)) ∙ once-expands k h _ ∙ fitting (e + repeatWidth k) x k t f
 
-      pub fit-more : isOnce k ≡ false → fitsAt matchClass sub x s ≡ true → expand matchClass sub budget x k (on (e + 1)) s l cs (u + 1) ≡ on p s l cs u
+      pub fit-more : isOnce k ≡ false → fitsAt inClass sub x s ≡ true → expand inClass sub budget x k (on (e + 1)) s l cs (u + 1) ≡ on p s l cs u
       fit-more h f =
-          ap (λ (q : ℕ). expand matchClass sub budget x k (on q) s l cs (u + 1)) (sym (after-repeat e k h)) ∙ fitting (e + repeatWidth k) x k t f
+          ap (λ (q : ℕ). expand inClass sub budget x k (on q) s l cs (u + 1)) (sym (after-repeat e k h)) ∙ fitting (e + repeatWidth k) x k t f

@@ -11,7 +11,6 @@ use lib.Dec.{eqb}
 use Rattle.luck_text.specs.Bytes.{if_then_else_, byteAt}
 use Rattle.luck_pattern.specs.Reading.{SetEnd, closes-at, cut-at, unclosed}
 use Rattle.luck_pattern.specs.Items.{Single, any, class, among-set, byte, Repeat, once, optional, star, plus, minus, Item, start-capture, position-capture, end-capture, end-anchor, balance, frontier, back-reference, single, raises, setOf, repeatWidth, items}
-use Rattle.lstr_class.specs.Class.{matchClass}
 use Rattle.lstr_item.specs.Match.{Capture, opened, position, closed, failed, raised, Rest, Reach, reached, spent, reach}
 use Rattle.lstr_class.specs.declared.subject.Found.{Found}
 use Rattle.lstr_class.specs.declared.subject.Found.the-variants as found
@@ -48,8 +47,8 @@ abbrev pub reachOf : Reached → Reach
 reachOf r = elim (r .«is_spent») [ true ↦ spent (r .steps) | false ↦ reached (r .end) (r .steps) ]
 
 -- how far a class fits
-abbrev pub classReach : List ℕ → ℕ → ℕ → ℕ → ℕ → Reach
-classReach sub budget letter s u = reach matchClass sub budget (class letter) (length sub - s) s u
+abbrev pub classReach : (ℕ → ℕ → Bool) → List ℕ → ℕ → ℕ → ℕ → ℕ → Reach
+classReach inClass sub budget letter s u = reach inClass sub budget (class letter) (length sub - s) s u
 
 abbrev pub ReachIn : Reached → ℕ → ℕ → Type 0
 ReachIn r s len = (s ≤ r .end) × (r .end ≤ len)

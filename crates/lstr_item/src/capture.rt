@@ -6,6 +6,8 @@ ghost use Rattle.lstr_item.specs.Match.{Rest, captureToClose, backRefere
 ghost use Rattle.lstr_item.specs.Inner.{capturesOf, capturesIn, Sound, KeptIn, closeOf, CloseIn, heldAs, HeldIn};
 use lstr_class::subject;
 
+pub const LUA_MAXCAPTURES: usize = 32;
+
 // lstrlib.c's CAP_UNFINISHED and CAP_POSITION stand in the place of a length.
 pub const UNFINISHED: usize = 0xFFFF_FFFF_FFFF_FFFF;
 

@@ -36,7 +36,7 @@ pub enum Item {
     PositionCapture(usize),
     EndCapture(usize),
     BackReference(u8, usize),
-    // a single, with the place after it, where its repeat stands
+    // a single, with the place of its suffix, where its repeat may stand
     Single(usize, Repeat),
     Balance(u8, u8, usize),
     // the place of the set's `[`, and the place after the set
@@ -117,20 +117,20 @@ pub fn set_end(pattern: &[u8], opening: usize) -> Found
     Found::At(closing)
 }
 
-// A single that ends before `end`, with the repeat that may stand there.
-fn repeated(pattern: &[u8], end: usize) -> Item
-    ensures { λ r. ⌜ r ≡ repeatRead end (repeatOf (byteAt (now (pattern .entry)) end)) ⌝ }
+// A single, with the repeat that may stand at its suffix.
+fn repeated(pattern: &[u8], suffix: usize) -> Item
+    ensures { λ r. ⌜ r ≡ repeatRead suffix (repeatOf (byteAt (now (pattern .entry)) suffix)) ⌝ }
 {
-    if end < pattern.len() {
-        return match pattern[end] {
-            b'?' => Item::Single(end, Repeat::Optional),
-            b'*' => Item::Single(end, Repeat::Star),
-            b'+' => Item::Single(end, Repeat::Plus),
-            b'-' => Item::Single(end, Repeat::Minus),
-            _ => Item::Single(end, Repeat::Once),
+    if suffix < pattern.len() {
+        return match pattern[suffix] {
+            b'?' => Item::Single(suffix, Repeat::Optional),
+            b'*' => Item::Single(suffix, Repeat::Star),
+            b'+' => Item::Single(suffix, Repeat::Plus),
+            b'-' => Item::Single(suffix, Repeat::Minus),
+            _ => Item::Single(suffix, Repeat::Once),
         };
     }
-    Item::Single(end, Repeat::Once)
+    Item::Single(suffix, Repeat::Once)
 }
 
 // The set whose `[` stands at `at`.

@@ -13,7 +13,6 @@ use borrow.Author.Tests.{eqb-true}
 use Rattle.luck_text.proofs.Cases.{order}
 use Rattle.luck_pattern.specs.Items.{Single, minus}
 use Rattle.lstr_item.specs.Match.{Capture, captureToClose, Outcome, failed, Rest, newLevel, orElse, longestFirst, fitsAt, expand, stopped}
-use Rattle.lstr_class.specs.Class.{matchClass}
 use Rattle.lstr_item.specs.Inner.{unfinished, noPair, pairsOf}
 use Rattle.lstr_item.specs.Ahead.{Sure, FailsHere}
 use Rattle.lstr_match.specs.Inner.{outcomeOf}
@@ -33,10 +32,12 @@ latest-open n pairs h e f =
     omega arith
 
 -- without a call, since the single ahead does not fit
-pub passed-sure : (sub pat : List ℕ) (budget next s l : ℕ) (cs : List Capture) (u v : ℕ) (isOpen : Bool) (a : Ahead)
-    → FailsHere sub pat a s budget u → (0 < a .steps → Sure pat next l isOpen a) → (isOpen ≡ true → captureToClose cs ≡ none → ⊥) → v ≡ u + a .steps
-    → failed v ≡ newLevel l u (λ m. on sub pat budget next s m cs u)
-passed-sure sub pat budget next s l cs u v isOpen a h sure o e = ap failed e ∙ sure (h .known) .fails sub budget s cs u o (h .left) (h .unfit)
+pub passed-sure : (inClass : ℕ → ℕ → Bool) (sub pat : List ℕ) (budget next s l : ℕ) (cs : List Capture) (u v count : ℕ) (isOpen : Bool) (a : Ahead)
+    → FailsHere inClass sub pat a s budget u → (0 < a .steps → Sure pat next l count isOpen a)
+    → length cs ≤ count → (isOpen ≡ true → captureToClose cs ≡ none → ⊥) → v ≡ u + a .steps
+    → failed v ≡ newLevel l u (λ m. on inClass sub pat budget next s m cs u)
+passed-sure inClass sub pat budget next s l cs u v count isOpen a h sure n o e =
+    ap failed e ∙ sure (h .known) .fails inClass sub budget s cs u n o (h .left) (h .unfit)
 
 -- or by a call that failed
 pub passed-tried : (r : Attempt) (kept : List ℕ) (o : Outcome) (v : ℕ) → outcomeOf r kept ≡ o → r .number ≡ 1 → v ≡ r .steps → failed v ≡ o
@@ -52,7 +53,7 @@ module _ (rest : Rest) (i s l : ℕ) (cs : List Capture) (u v : ℕ) (w : failed
   passed-longest h = ap (λ x. orElse x (λ v. longestFirst rest (i - 1 - s) s l cs v)) w ∙ longer rest i s l cs u h
 
 -- min_expand, with the rest passed at i: as after a call that failed
-module _ (sub : List ℕ) (budget : ℕ) (x : Single) (rest : Rest) (l : ℕ) (cs : List Capture) where
+module _ (inClass : ℕ → ℕ → Bool) (sub : List ℕ) (budget : ℕ) (x : Single) (rest : Rest) (l : ℕ) (cs : List Capture) where
   module _ (i u v : ℕ) (w : failed v ≡ newLevel l u (λ m. rest i m cs u)) where
     abbrev failure : Attempt
     failure = record { end = 0; steps = v; number = 1; count = 0; kind = 0 }
@@ -60,28 +61,28 @@ module _ (sub : List ℕ) (budget : ℕ) (x : Single) (rest : Rest) (l : ℕ) (c
     as-called : outcomeOf failure [] ≡ newLevel l u (λ m. rest i m cs u)
     as-called = is-failure failure [] refl ∙ w
 
-    passed-first : from sub budget x rest l cs (i + 1) v ≡ expand matchClass sub budget x minus rest i l cs u
-    passed-first = first-fails sub budget x rest l cs i u failure [] as-called refl
+    passed-first : from inClass sub budget x rest l cs (i + 1) v ≡ expand inClass sub budget x minus rest i l cs u
+    passed-first = first-fails inClass sub budget x rest l cs i u failure [] as-called refl
 
-    passed-spent : budget ≤ v → stopped 27 0 v ≡ from sub budget x rest l cs i u
-    passed-spent h = later-spent sub budget x rest l cs i u failure [] as-called refl h
+    passed-spent : budget ≤ v → stopped 27 0 v ≡ from inClass sub budget x rest l cs i u
+    passed-spent h = later-spent inClass sub budget x rest l cs i u failure [] as-called refl h
 
-    passed-fails : v < budget → fitsAt matchClass sub x i ≡ false → failed (v + 1) ≡ from sub budget x rest l cs i u
-    passed-fails h f = later-fails sub budget x rest l cs i u failure [] as-called refl h f
+    passed-fails : v < budget → fitsAt inClass sub x i ≡ false → failed (v + 1) ≡ from inClass sub budget x rest l cs i u
+    passed-fails h f = later-fails inClass sub budget x rest l cs i u failure [] as-called refl h f
 
-    passed-next : v < budget → fitsAt matchClass sub x i ≡ true → i < length sub → from sub budget x rest l cs (i + 1) (v + 1) ≡ from sub budget x rest l cs i u
-    passed-next h f g = later-next sub budget x rest l cs i u failure [] as-called refl h f g
+    passed-next : v < budget → fitsAt inClass sub x i ≡ true → i < length sub → from inClass sub budget x rest l cs (i + 1) (v + 1) ≡ from inClass sub budget x rest l cs i u
+    passed-next h f g = later-next inClass sub budget x rest l cs i u failure [] as-called refl h f g
 
   -- from place s with u steps on
   module _ (s u : ℕ) where
     abbrev whole : Outcome
-    whole = expand matchClass sub budget x minus rest s l cs u
+    whole = expand inClass sub budget x minus rest s l cs u
 
     -- the rest is tried at i with v steps, and the latest byte tested stands at k
     pub record Trying (k i v : ℕ) : Type 0 where
       pub behind : s ≤ i
       pub first : i ≡ s → (v ≡ u) × (k ≡ s)
-      pub later : s < i → (k < i) × (from sub budget x rest l cs i v ≡ whole)
+      pub later : s < i → (k < i) × (from inClass sub budget x rest l cs i v ≡ whole)
 
     pub trying-starts : Trying s s u
     trying-starts = record { behind = omega arith; first = λ _. (refl, refl); later = λ h. absurd (omega arith) }
@@ -89,8 +90,8 @@ module _ (sub : List ℕ) (budget : ℕ) (x : Single) (rest : Rest) (l : ℕ) (c
     pub trying-as : (k i v k' v' : ℕ) → k' ≡ k → v' ≡ v → Trying k i v → Trying k' i v'
     trying-as k i v k' v' e f t = subst (λ (y : ℕ). Trying k' i y) (sym f) (subst (λ (y : ℕ). Trying y i v) (sym e) t)
 
-    as-first : (i v : ℕ) → i ≡ s → v ≡ u → expand matchClass sub budget x minus rest i l cs v ≡ whole
-    as-first i v e f = ap (λ (y : ℕ). expand matchClass sub budget x minus rest y l cs v) e ∙ ap (λ (y : ℕ). expand matchClass sub budget x minus rest s l cs y) f
+    as-first : (i v : ℕ) → i ≡ s → v ≡ u → expand inClass sub budget x minus rest i l cs v ≡ whole
+    as-first i v e f = ap (λ (y : ℕ). expand inClass sub budget x minus rest y l cs v) e ∙ ap (λ (y : ℕ). expand inClass sub budget x minus rest s l cs y) f
 
     module _ (k i v : ℕ) (t : Trying k i v) where
       pub at-first : i ≤ k → i ≡ s
@@ -101,8 +102,8 @@ module _ (sub : List ℕ) (budget : ℕ) (x : Single) (rest : Rest) (l : ℕ) (c
 
       pub trying-ends : (r : Attempt) (kept : List ℕ) → outcomeOf r kept ≡ newLevel l v (λ m. rest i m cs v) → (r .number ≡ 1 → ⊥) → outcomeOf r kept ≡ whole
       trying-ends r kept w n =
-          ⊎-elim (λ h. later-ends sub budget x rest l cs i v r kept w n ∙ t .later h .1)
-          (λ h. let e : i ≡ s = omega (arith, t .behind) in first-ends sub budget x rest l cs i v r kept w n ∙ as-first i v e (t .first e .0)) (order s i)
+          ⊎-elim (λ h. later-ends inClass sub budget x rest l cs i v r kept w n ∙ t .later h .1)
+          (λ h. let e : i ≡ s = omega (arith, t .behind) in first-ends inClass sub budget x rest l cs i v r kept w n ∙ as-first i v e (t .first e .0)) (order s i)
 
       module _ (after : ℕ) (w : failed after ≡ newLevel l v (λ m. rest i m cs v)) where
         pub trying-second : i ≤ k → Trying k (i + 1) after
@@ -117,10 +118,10 @@ module _ (sub : List ℕ) (budget : ℕ) (x : Single) (rest : Rest) (l : ℕ) (c
         pub trying-spent : k < i → budget ≤ after → stopped 27 0 after ≡ whole
         trying-spent n h = passed-spent i v after w h ∙ t .later (at-later n) .1
 
-        pub trying-fails : k < i → after < budget → fitsAt matchClass sub x i ≡ false → failed (after + 1) ≡ whole
+        pub trying-fails : k < i → after < budget → fitsAt inClass sub x i ≡ false → failed (after + 1) ≡ whole
         trying-fails n h f = passed-fails i v after w h f ∙ t .later (at-later n) .1
 
-        pub trying-next : k < i → after < budget → fitsAt matchClass sub x i ≡ true → i < length sub → Trying i (i + 1) (after + 1)
+        pub trying-next : k < i → after < budget → fitsAt inClass sub x i ≡ true → i < length sub → Trying i (i + 1) (after + 1)
         trying-next n h f g =
             record {
               behind = omega (arith, t .behind);

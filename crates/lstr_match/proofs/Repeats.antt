@@ -13,7 +13,6 @@ use borrow.Author.Tests.{lt-ltb, le-ltb, ne-eqb}
 use Rattle.luck_text.specs.Bytes.{if_then_else_}
 use Rattle.luck_text.proofs.Cases.{order}
 use Rattle.luck_pattern.specs.Items.{Single, optional, star, plus, minus}
-use Rattle.lstr_class.specs.Class.{matchClass}
 use Rattle.lstr_item.specs.Match.{Capture, Outcome, matched, failed, stopped, Rest, due, newLevel, orElse, Reach, reached, spent, longestFirst, maxExpand, fitsAt, reach, minExpand, expand}
 use Rattle.lstr_item.specs.Inner.{heldAs, reachOf, capturesIn, KeptIn}
 use Rattle.lstr_class.specs.Inner.{foundOf}
@@ -79,25 +78,25 @@ kept-matched r e n u kept len cs whole w h i f g =
 
 -- ---- Repeats
 
-module _ (sub : List ℕ) (budget : ℕ) (x : Single) (rest : Rest) (s l : ℕ) (cs : List Capture) (u : ℕ) where
-  pub star-on : (t : Reach) → t ≡ reach matchClass sub budget x (length sub - (s + 1)) (s + 1) u
-      → maxExpand t rest s l cs ≡ expand matchClass sub budget x star rest s l cs u
+module _ (inClass : ℕ → ℕ → Bool) (sub : List ℕ) (budget : ℕ) (x : Single) (rest : Rest) (s l : ℕ) (cs : List Capture) (u : ℕ) where
+  pub star-on : (t : Reach) → t ≡ reach inClass sub budget x (length sub - (s + 1)) (s + 1) u
+      → maxExpand t rest s l cs ≡ expand inClass sub budget x star rest s l cs u
   unfolding expand
   star-on t e = ap (λ y. maxExpand y rest s l cs) e
 
-  pub plus-on : (t : Reach) → t ≡ reach matchClass sub budget x (length sub - (s + 1)) (s + 1) u
-      → maxExpand t rest (s + 1) l cs ≡ expand matchClass sub budget x plus rest s l cs u
+  pub plus-on : (t : Reach) → t ≡ reach inClass sub budget x (length sub - (s + 1)) (s + 1) u
+      → maxExpand t rest (s + 1) l cs ≡ expand inClass sub budget x plus rest s l cs u
   unfolding expand
   plus-on t e = ap (λ y. maxExpand y rest (s + 1) l cs) e
 
 -- `?` behind its byte, at a new level, and then without it
-module _ (sub : List ℕ) (budget : ℕ) (x : Single) (rest : Rest) (s l : ℕ) (cs : List Capture) (u : ℕ) (r : Attempt) (kept : List ℕ)
+module _ (inClass : ℕ → ℕ → Bool) (sub : List ℕ) (budget : ℕ) (x : Single) (rest : Rest) (s l : ℕ) (cs : List Capture) (u : ℕ) (r : Attempt) (kept : List ℕ)
     (w : outcomeOf r kept ≡ newLevel l u (λ m. rest (s + 1) m cs u)) where
-  pub optional-ends : (r .number ≡ 1 → ⊥) → outcomeOf r kept ≡ expand matchClass sub budget x optional rest s l cs u
+  pub optional-ends : (r .number ≡ 1 → ⊥) → outcomeOf r kept ≡ expand inClass sub budget x optional rest s l cs u
   unfolding expand
   optional-ends n = ends-it r kept n _ w _
 
-  pub optional-fails : r .number ≡ 1 → rest s l cs (r .steps) ≡ expand matchClass sub budget x optional rest s l cs u
+  pub optional-fails : r .number ≡ 1 → rest s l cs (r .steps) ≡ expand inClass sub budget x optional rest s l cs u
   unfolding expand
   optional-fails e = goes-on r kept e _ w (λ v. rest s l cs v)
 
@@ -135,33 +134,33 @@ module _ (rest : Rest) (i s l : ℕ) (cs : List Capture) (u : ℕ) where
     longest-ends g n = ⊎-elim (λ h. ends-it r kept n here w _ ∙ longer h) (λ h. w ∙ shortest (omega arith)) (order s i)
 
 -- min_expand, with the rest tried at i
-module _ (sub : List ℕ) (budget : ℕ) (x : Single) (rest : Rest) (l : ℕ) (cs : List Capture) where
+module _ (inClass : ℕ → ℕ → Bool) (sub : List ℕ) (budget : ℕ) (x : Single) (rest : Rest) (l : ℕ) (cs : List Capture) where
   abbrev pub from : ℕ → ℕ → Outcome
-  from i u = orElse (newLevel l u (λ m. rest i m cs u)) (λ w. minExpand matchClass sub budget x rest (length sub - i) i l cs w)
+  from i u = orElse (newLevel l u (λ m. rest i m cs u)) (λ w. minExpand inClass sub budget x rest (length sub - i) i l cs w)
 
-  test-spent : (n i u : ℕ) → budget ≤ u → stopped 27 0 u ≡ minExpand matchClass sub budget x rest n i l cs u
+  test-spent : (n i u : ℕ) → budget ≤ u → stopped 27 0 u ≡ minExpand inClass sub budget x rest n i l cs u
   unfolding minExpand due if_then_else_
   test-spent zero i u h = rw (le-ltb u budget h)
   test-spent (suc n) i u h = rw (le-ltb u budget h)
 
-  test-fails : (n i u : ℕ) → u < budget → fitsAt matchClass sub x i ≡ false → failed (u + 1) ≡ minExpand matchClass sub budget x rest n i l cs u
+  test-fails : (n i u : ℕ) → u < budget → fitsAt inClass sub x i ≡ false → failed (u + 1) ≡ minExpand inClass sub budget x rest n i l cs u
   unfolding minExpand due if_then_else_
   test-fails zero i u h f = rw (lt-ltb u budget h)
   test-fails (suc n) i u h f = rw (lt-ltb u budget h, f)
 
-  test-fits : (i u : ℕ) → u < budget → fitsAt matchClass sub x i ≡ true → i < length sub
-      → from (i + 1) (u + 1) ≡ minExpand matchClass sub budget x rest (length sub - i) i l cs u
+  test-fits : (i u : ℕ) → u < budget → fitsAt inClass sub x i ≡ true → i < length sub
+      → from (i + 1) (u + 1) ≡ minExpand inClass sub budget x rest (length sub - i) i l cs u
   unfolding minExpand due if_then_else_
   test-fits i u h f g =
       let z : length sub - i ≡ suc (length sub - (i + 1)) = omega arith in
       rw (z, lt-ltb u budget h, f)
 
   module _ (s u : ℕ) (r : Attempt) (kept : List ℕ) (w : outcomeOf r kept ≡ newLevel l u (λ m. rest s m cs u)) where
-    pub first-ends : (r .number ≡ 1 → ⊥) → outcomeOf r kept ≡ expand matchClass sub budget x minus rest s l cs u
+    pub first-ends : (r .number ≡ 1 → ⊥) → outcomeOf r kept ≡ expand inClass sub budget x minus rest s l cs u
     unfolding expand
     first-ends n = ends-it r kept n _ w _
 
-    pub first-fails : r .number ≡ 1 → from (s + 1) (r .steps) ≡ expand matchClass sub budget x minus rest s l cs u
+    pub first-fails : r .number ≡ 1 → from (s + 1) (r .steps) ≡ expand inClass sub budget x minus rest s l cs u
     unfolding expand
     first-fails e = goes-on r kept e _ w (λ v. from (s + 1) v)
 
@@ -169,16 +168,16 @@ module _ (sub : List ℕ) (budget : ℕ) (x : Single) (rest : Rest) (l : ℕ) (c
     later-ends n = ends-it r kept n _ w _
 
     module _ (e : r .number ≡ 1) where
-      tested : minExpand matchClass sub budget x rest (length sub - s) s l cs (r .steps) ≡ from s u
-      tested = goes-on r kept e _ w (λ v. minExpand matchClass sub budget x rest (length sub - s) s l cs v)
+      tested : minExpand inClass sub budget x rest (length sub - s) s l cs (r .steps) ≡ from s u
+      tested = goes-on r kept e _ w (λ v. minExpand inClass sub budget x rest (length sub - s) s l cs v)
 
       pub later-spent : budget ≤ r .steps → stopped 27 0 (r .steps) ≡ from s u
       later-spent h = test-spent (length sub - s) s (r .steps) h ∙ tested
 
-      pub later-fails : r .steps < budget → fitsAt matchClass sub x s ≡ false → failed (r .steps + 1) ≡ from s u
+      pub later-fails : r .steps < budget → fitsAt inClass sub x s ≡ false → failed (r .steps + 1) ≡ from s u
       later-fails h f = test-fails (length sub - s) s (r .steps) h f ∙ tested
 
-      pub later-next : r .steps < budget → fitsAt matchClass sub x s ≡ true → s < length sub → from (s + 1) (r .steps + 1) ≡ from s u
+      pub later-next : r .steps < budget → fitsAt inClass sub x s ≡ true → s < length sub → from (s + 1) (r .steps + 1) ≡ from s u
       later-next h f g = test-fits s (r .steps) h f g ∙ tested
 
 -- ---- What the functions below found

@@ -3,9 +3,8 @@ ghost use mathlib.Core.Path.{_≡_};
 ghost use Prim.Native.Nat.{_+_, _-_, _<_, _≤_};
 ghost use lib.ListN.{length};
 ghost use Rattle.luck_pattern.specs.Items.{items, minus};
-ghost use Rattle.lstr_class.specs.Class.{matchClass};
 ghost use Rattle.lstr_item.specs.Match.{newLevel, startCapture, endCapture, captureToClose, reach, maxExpand, expand, match};
-ghost use Rattle.lstr_class.specs.Inner.{AreMasks};
+ghost use Rattle.lstr_class.specs.Inner.{classIn};
 ghost use Rattle.lstr_item.specs.Inner.{SingleIn, singleOf, captureOf, capturesOf, positional, Sound};
 ghost use Rattle.lstr_match.specs.Inner.{outcomeOf, AttemptIn};
 use crate::outcome;
@@ -25,12 +24,10 @@ use lstr_item::single;
 
 pub const MAXCCALLS: u32 = 200;
 
-pub const LUA_MAXCAPTURES: usize = 32;
-
 // do_match, at a new level: the 201st is 28. The items that go on at this level are turns of a loop, as lstrlib.c's `goto init`, so that the
 // pattern's length does not deepen the stack. The captures of a match are kept once, at its end.
 pub fn do_match(
-    masks: &[u8; 256],
+    classes: &[u8; 512],
     subject: &[u8],
     pattern: &[u8],
     at: usize,
@@ -41,10 +38,10 @@ pub fn do_match(
     captures: Captures,
     kept: &mut [usize; 64],
 ) -> Attempt
-    requires { ⌜ AreMasks (now masks) × (at ≤ length (now pattern)) × (place ≤ length (now subject)) × Sound place captures ⌝ }
+    requires { ⌜ (at ≤ length (now pattern)) × (place ≤ length (now subject)) × Sound place captures ⌝ }
     ensures { λ r. ⌜
         (outcomeOf r (now (kept .exit)) ≡
-        newLevel level steps (λ m. match matchClass (now (subject .entry)) budget (items (now (pattern .entry)) at) place m (capturesOf captures) steps))
+        newLevel level steps (λ m. match (classIn (now (classes .entry))) (now (subject .entry)) budget (items (now (pattern .entry)) at) place m (capturesOf captures) steps))
         × AttemptIn r (now (kept .exit)) (length (now (subject .entry)))
         ⌝ }
 {
@@ -76,7 +73,7 @@ pub fn do_match(
             Item::Raises(kind) => return outcome::raised(kind, steps),
             Item::StartCapture(next) => {
                 let r = start_capture(
-                    masks,
+                    classes,
                     subject,
                     pattern,
                     next,
@@ -92,7 +89,7 @@ pub fn do_match(
             }
             Item::PositionCapture(next) => {
                 let r = start_capture(
-                    masks,
+                    classes,
                     subject,
                     pattern,
                     next,
@@ -108,7 +105,7 @@ pub fn do_match(
             }
             Item::EndCapture(next) => {
                 let r = end_capture(
-                    masks,
+                    classes,
                     subject,
                     pattern,
                     next,
@@ -143,29 +140,29 @@ pub fn do_match(
                 }
             }
             Item::Frontier(opening, next) => {
-                if !single::is_frontier(masks, subject, pattern, opening, next - 1, place) {
+                if !single::is_frontier(classes, subject, pattern, opening, next - 1, place) {
                     return outcome::failed(steps);
                 }
                 at = next;
             }
-            Item::Single(end, repeat) => {
-                if !single::fits(masks, subject, pattern, at, end, place) {
+            Item::Single(suffix, repeat) => {
+                if !single::fits(classes, subject, pattern, at, suffix, place) {
                     if item::has_to_fit(repeat) {
                         return outcome::failed(steps);
                     }
-                    at = end + 1;
+                    at = suffix + 1;
                     continue 'items;
                 }
                 // not in a function of its own, whose copy of the captures would lie on the stack of every level
                 match repeat {
                     Repeat::Once => {
                         place += 1;
-                        at = end;
+                        at = suffix;
                     }
                     Repeat::Optional => {
-                        let next = end + 1;
+                        let next = suffix + 1;
                         let r = do_match(
-                            masks,
+                            classes,
                             subject,
                             pattern,
                             next,
@@ -184,11 +181,11 @@ pub fn do_match(
                     }
                     Repeat::Star => {
                         let r = max_expand(
-                            masks,
+                            classes,
                             subject,
                             pattern,
                             at,
-                            end,
+                            suffix,
                             place,
                             place,
                             deeper,
@@ -201,11 +198,11 @@ pub fn do_match(
                     }
                     Repeat::Plus => {
                         let r = max_expand(
-                            masks,
+                            classes,
                             subject,
                             pattern,
                             at,
-                            end,
+                            suffix,
                             place,
                             place + 1,
                             deeper,
@@ -218,11 +215,11 @@ pub fn do_match(
                     }
                     Repeat::Minus => {
                         let r = min_expand(
-                            masks,
+                            classes,
                             subject,
                             pattern,
                             at,
-                            end,
+                            suffix,
                             place,
                             deeper,
                             budget,
@@ -241,11 +238,11 @@ pub fn do_match(
 // max_expand: the single that fitted at `place` is tested further, and the rest of the pattern tried at new levels, from the last byte that fitted down to
 // `shortest`, which is `place` or the place after it. No level is opened where what the rest tests first fails.
 fn max_expand(
-    masks: &[u8; 256],
+    classes: &[u8; 512],
     subject: &[u8],
     pattern: &[u8],
     at: usize,
-    end: usize,
+    suffix: usize,
     place: usize,
     shortest: usize,
     level: u32,
@@ -255,34 +252,43 @@ fn max_expand(
     kept: &mut [usize; 64],
 ) -> Attempt
     requires { ⌜
-        AreMasks (now masks) × SingleIn (now pattern) at end × (end < length (now pattern)) × (place < length (now subject))
+        SingleIn (now pattern) at suffix × (suffix < length (now pattern)) × (place < length (now subject))
         × (place ≤ shortest) × (shortest ≤ place + 1) × Sound place captures
         ⌝ }
     ensures { λ r. ⌜
         (outcomeOf r (now (kept .exit)) ≡
-        maxExpand (reach matchClass (now (subject .entry)) budget (singleOf (now (pattern .entry)) at end) (length (now (subject .entry)) - (place + 1)) (place + 1) steps) (match matchClass (now (subject .entry)) budget (items (now (pattern .entry)) (end + 1))) shortest level (capturesOf captures))
+        maxExpand (reach (classIn (now (classes .entry))) (now (subject .entry)) budget (singleOf (now (pattern .entry)) at suffix) (length (now (subject .entry)) - (place + 1)) (place + 1) steps) (match (classIn (now (classes .entry))) (now (subject .entry)) budget (items (now (pattern .entry)) (suffix + 1))) shortest level (capturesOf captures))
         × AttemptIn r (now (kept .exit)) (length (now (subject .entry)))
         ⌝ }
 {
-    let reach = single::reach(masks, subject, pattern, at, end, place + 1, budget, steps);
+    let reach = single::reach(
+        classes,
+        subject,
+        pattern,
+        at,
+        suffix,
+        place + 1,
+        budget,
+        steps,
+    );
     if reach.is_spent {
         return outcome::spent(reach.steps);
     }
-    let next = end + 1;
+    let next = suffix + 1;
     let mut is_open = false;
     let count = captures.count;
     if 0 < count {
         is_open = captures.pairs[count - 1].len == capture::UNFINISHED;
     }
-    let first = ahead::first_test(pattern, next, level, is_open);
+    let first = ahead::first_test(pattern, next, level, count, is_open);
     let mut tried = reach.end;
     let mut steps = reach.steps;
     loop {
-        if ahead::fails_at(masks, subject, pattern, first, tried, budget, steps) {
+        if ahead::fails_at(classes, subject, pattern, first, tried, budget, steps) {
             steps += first.steps;
         } else {
             let r = do_match(
-                masks,
+                classes,
                 subject,
                 pattern,
                 next,
@@ -308,11 +314,11 @@ fn max_expand(
 // min_expand: the rest of the pattern at new levels, after no byte, after the byte that fitted, and after each further one that fits; no level is opened
 // where what it tests first fails.
 fn min_expand(
-    masks: &[u8; 256],
+    classes: &[u8; 512],
     subject: &[u8],
     pattern: &[u8],
     at: usize,
-    end: usize,
+    suffix: usize,
     place: usize,
     level: u32,
     budget: u32,
@@ -321,31 +327,31 @@ fn min_expand(
     kept: &mut [usize; 64],
 ) -> Attempt
     requires { ⌜
-        AreMasks (now masks) × SingleIn (now pattern) at end × (end < length (now pattern)) × (place < length (now subject)) × Sound place captures
+        SingleIn (now pattern) at suffix × (suffix < length (now pattern)) × (place < length (now subject)) × Sound place captures
         ⌝ }
     ensures { λ r. ⌜
         (outcomeOf r (now (kept .exit)) ≡
-        expand matchClass (now (subject .entry)) budget (singleOf (now (pattern .entry)) at end) minus (match matchClass (now (subject .entry)) budget (items (now (pattern .entry)) (end + 1))) place level (capturesOf captures) steps)
+        expand (classIn (now (classes .entry))) (now (subject .entry)) budget (singleOf (now (pattern .entry)) at suffix) minus (match (classIn (now (classes .entry))) (now (subject .entry)) budget (items (now (pattern .entry)) (suffix + 1))) place level (capturesOf captures) steps)
         × AttemptIn r (now (kept .exit)) (length (now (subject .entry)))
         ⌝ }
 {
-    let next = end + 1;
+    let next = suffix + 1;
     let mut is_open = false;
     let count = captures.count;
     if 0 < count {
         is_open = captures.pairs[count - 1].len == capture::UNFINISHED;
     }
-    let first = ahead::first_test(pattern, next, level, is_open);
+    let first = ahead::first_test(pattern, next, level, count, is_open);
     // the latest place whose byte was tested
     let mut tested = place;
     let mut tried = place;
     let mut steps = steps;
     loop {
-        if ahead::fails_at(masks, subject, pattern, first, tried, budget, steps) {
+        if ahead::fails_at(classes, subject, pattern, first, tried, budget, steps) {
             steps += first.steps;
         } else {
             let r = do_match(
-                masks,
+                classes,
                 subject,
                 pattern,
                 next,
@@ -366,7 +372,7 @@ fn min_expand(
                 return outcome::spent(steps);
             }
             steps += 1;
-            if !single::fits(masks, subject, pattern, at, end, tried) {
+            if !single::fits(classes, subject, pattern, at, suffix, tried) {
                 return outcome::failed(steps);
             }
             tested = tried;
@@ -377,7 +383,7 @@ fn min_expand(
 
 // start_capture: one more capture, open or a position by its length, and the rest of the pattern at a new level.
 fn start_capture(
-    masks: &[u8; 256],
+    classes: &[u8; 512],
     subject: &[u8],
     pattern: &[u8],
     next: usize,
@@ -390,23 +396,23 @@ fn start_capture(
     kept: &mut [usize; 64],
 ) -> Attempt
     requires { ⌜
-        AreMasks (now masks) × (next ≤ length (now pattern)) × (place ≤ length (now subject)) × (positional ≤ len) × Sound place captures
+        (next ≤ length (now pattern)) × (place ≤ length (now subject)) × (positional ≤ len) × Sound place captures
         ⌝ }
     ensures { λ r. ⌜
         (outcomeOf r (now (kept .exit)) ≡
-        startCapture (captureOf place len) (match matchClass (now (subject .entry)) budget (items (now (pattern .entry)) next)) place level (capturesOf captures) steps)
+        startCapture (captureOf place len) (match (classIn (now (classes .entry))) (now (subject .entry)) budget (items (now (pattern .entry)) next)) place level (capturesOf captures) steps)
         × AttemptIn r (now (kept .exit)) (length (now (subject .entry)))
         ⌝ }
 {
     let count = captures.count;
-    if LUA_MAXCAPTURES <= count {
+    if capture::LUA_MAXCAPTURES <= count {
         return outcome::raised(outcome::TOO_MANY_CAPTURES, steps);
     }
     let mut opened = captures;
     opened.pairs[count] = Pair { start: place, len };
     opened.count = count + 1;
     let r = do_match(
-        masks,
+        classes,
         subject,
         pattern,
         next,
@@ -422,7 +428,7 @@ fn start_capture(
 
 // end_capture: the latest open capture is closed, and the rest of the pattern goes on at a new level.
 fn end_capture(
-    masks: &[u8; 256],
+    classes: &[u8; 512],
     subject: &[u8],
     pattern: &[u8],
     next: usize,
@@ -433,10 +439,10 @@ fn end_capture(
     captures: Captures,
     kept: &mut [usize; 64],
 ) -> Attempt
-    requires { ⌜ AreMasks (now masks) × (next ≤ length (now pattern)) × (place ≤ length (now subject)) × Sound place captures ⌝ }
+    requires { ⌜ (next ≤ length (now pattern)) × (place ≤ length (now subject)) × Sound place captures ⌝ }
     ensures { λ r. ⌜
         (outcomeOf r (now (kept .exit)) ≡
-        endCapture (captureToClose (capturesOf captures)) (match matchClass (now (subject .entry)) budget (items (now (pattern .entry)) next)) place level (capturesOf captures) steps)
+        endCapture (captureToClose (capturesOf captures)) (match (classIn (now (classes .entry))) (now (subject .entry)) budget (items (now (pattern .entry)) next)) place level (capturesOf captures) steps)
         × AttemptIn r (now (kept .exit)) (length (now (subject .entry)))
         ⌝ }
 {
@@ -450,7 +456,7 @@ fn end_capture(
                 len: place - start,
             };
             let r = do_match(
-                masks,
+                classes,
                 subject,
                 pattern,
                 next,

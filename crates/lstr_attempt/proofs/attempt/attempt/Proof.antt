@@ -7,7 +7,7 @@ use borrow.Author.Needs.{needs}
 use borrow.Author.Tests.{not-true, not-false}
 use lib.ListN.{length}
 use Rattle.luck_pattern.specs.Items.{items}
-use Rattle.lstr_class.specs.Class.{matchClass}
+use Rattle.lstr_class.specs.Inner.{classIn}
 use Rattle.lstr_item.specs.Match.{match}
 use Rattle.lstr_item.specs.Inner.{repeatAs, ItemAt}
 use Rattle.lstr_item.proofs.Captures.{is-open, is-position}
@@ -19,21 +19,21 @@ use Rattle.lstr_attempt.proofs.attempt.attempt.Statement.{statement}
 use Rattle.lstr_attempt.proofs.attempt.attempt.Tie as tie
 
 abbrev Inv-items : tie.InvT-items
-Inv-items masks subject pattern at place budget used kept₀ at₀ place₀ steps₀ kept at' place' steps =
-    (turns.on subject pattern budget at' place' 1 [] steps ≡ match matchClass subject budget (items pattern at) place 1 [] used)
+Inv-items classes subject pattern at place budget steps₁ kept₀ at₀ place₀ steps₀ kept at' place' steps =
+    (turns.on (classIn classes) subject pattern budget at' place' 1 [] steps ≡ match (classIn classes) subject budget (items pattern at) place 1 [] steps₁)
     × (at' ≤ length pattern) × (place' ≤ length subject)
 
 abbrev μ-items : tie.MeasureT-items
-μ-items masks subject pattern at place budget used kept₀ at₀ place₀ steps₀ kept at' place' steps = length pattern - at'
+μ-items classes subject pattern at place budget steps₁ kept₀ at₀ place₀ steps₀ kept at' place' steps = length pattern - at'
 
 items-holds : tie.Need-items-holds Inv-items μ-items
-items-holds c = (refl, c .before .before .pre .1, c .before .before .pre .2)
+items-holds c = (refl, c .before .before .pre .0, c .before .before .pre .1)
 
 spent-requires : tie.Need-spent-requires Inv-items μ-items
 spent-requires c κs = search needs
 
 returns : tie.Need-returns Inv-items μ-items
-returns c = repeats.ended _ _ _ _ _ (c .spent .ensures) (turns.steps-spent _ (c .before .before .before .before .before .args .pattern .now) _ _ _ _ _ _ (c .before .if1 .taken) ∙ c .before .before .items .inv .0)
+returns c = repeats.ended _ _ _ _ _ (c .spent .ensures) (turns.steps-spent _ _ (c .before .before .before .before .before .args .pattern .now) _ _ _ _ _ _ (c .before .if1 .taken) ∙ c .before .before .items .inv .0)
 
 add-begun : tie.Need-add-begun Inv-items μ-items
 add-begun c = omega arith
@@ -53,7 +53,7 @@ returns-2 c =
     let l = c .before .before .before .before .before .items in
     let h = c .before .before .before .before .if1 .left in
     let it = subst (ItemAt (a .pattern .now) (l .at)) (c .before .enum-told .given .1) (c .before .before .before .read .ensures) in
-    leads.bare-match _ _ _ _ _ _ (c .matched .ensures) (l .inv .2) (turns.at-end _ _ _ _ _ _ _ _ h it ∙ l .inv .0)
+    leads.bare-match _ _ _ _ _ _ (c .matched .ensures) (l .inv .2) (turns.at-end _ _ _ _ _ _ _ _ _ h it ∙ l .inv .0)
 
 enum-told-2 : tie.Need-enum-told-2 Inv-items μ-items
 enum-told-2 c = search needs
@@ -67,7 +67,7 @@ returns-3 c =
     let l = c .before .before .before .before .before .before .items in
     let h = c .before .before .before .before .before .if1 .left in
     let it = subst (ItemAt (a .pattern .now) (l .at)) (c .before .before .enum-told2 .given .1) (c .before .before .before .before .read .ensures) in
-    leads.bare-match _ _ _ _ _ _ (c .matched2 .ensures) (l .inv .2) (turns.at-anchor _ _ _ _ _ _ _ _ h it (c .before .if2 .taken) ∙ l .inv .0)
+    leads.bare-match _ _ _ _ _ _ (c .matched2 .ensures) (l .inv .2) (turns.at-anchor _ _ _ _ _ _ _ _ _ h it (c .before .if2 .taken) ∙ l .inv .0)
 
 failed-requires : tie.Need-failed-requires Inv-items μ-items
 failed-requires c κs = search needs
@@ -78,7 +78,7 @@ returns-4 c =
     let l = c .before .before .before .before .before .before .items in
     let h = c .before .before .before .before .before .if1 .left in
     let it = subst (ItemAt (a .pattern .now) (l .at)) (c .before .before .enum-told2 .given .1) (c .before .before .before .before .read .ensures) in
-    repeats.ended _ _ _ _ _ (c .failed .ensures) (turns.not-at-anchor _ _ _ _ _ _ _ _ h it (c .before .if2 .left) ∙ l .inv .0)
+    repeats.ended _ _ _ _ _ (c .failed .ensures) (turns.not-at-anchor _ _ _ _ _ _ _ _ _ h it (c .before .if2 .left) ∙ l .inv .0)
 
 enum-known-item : tie.Need-enum-known-item Inv-items μ-items
 enum-known-item c = search needs
@@ -89,7 +89,7 @@ fits-requires c κs =
     let l = c .before .before .before .before .before .items in
     let h = c .before .before .before .before .if1 .left in
     let it = subst (ItemAt (a .pattern .now) (l .at)) (c .before .item .given .1) (c .before .before .before .read .ensures) in
-    (c .before .before .before .before .before .before .before .before .pre .0, it .single)
+    (it .single)
 
 has-to-fit-requires : tie.Need-has-to-fit-requires Inv-items μ-items
 has-to-fit-requires c κs = search needs
@@ -104,7 +104,7 @@ returns-5 c =
     let h = c .before .before .before .before .before .before .before .before .before .if1 .left in
     let it = subst (ItemAt (a .pattern .now) (l .at)) (c .before .before .before .before .before .before .item .given .1) (c .before .before .before .before .before .before .before .before .read .ensures) in
     let k = repeatAs (c .before .before .before .before .before .before .item .given .0 .1 .0) in
-    repeats.ended _ _ _ _ _ (c .failed2 .ensures) (turns.unfit-fails _ _ _ _ _ _ _ _ h _ _ k (it .on) (sym (c .before .before .has-to-fit .ensures) ∙ c .before .if4 .taken) (sym (c .before .before .before .before .fits2 .ensures) ∙ not-true _ (c .before .before .before .if3 .taken)) ∙ l .inv .0)
+    repeats.ended _ _ _ _ _ (c .failed2 .ensures) (turns.unfit-fails _ _ _ _ _ _ _ _ _ h _ _ k (it .on) (sym (c .before .before .has-to-fit .ensures) ∙ c .before .if4 .taken) (sym (c .before .before .before .before .fits2 .ensures) ∙ not-true _ (c .before .before .before .if3 .taken)) ∙ l .inv .0)
 
 add-at : tie.Need-add-at Inv-items μ-items
 add-at c =
@@ -134,7 +134,7 @@ items-again c =
     let it = subst (ItemAt (a .pattern .now) (l .at)) (c .before .before .before .before .before .item .given .1) (c .before .before .before .before .before .before .before .read .ensures) in
     let k = repeatAs (c .before .before .before .before .before .item .given .0 .1 .0) in
     let b = turns.behind-repeat _ _ _ _ k (it .on) (turns.passed-repeats k (sym (c .before .has-to-fit .ensures) ∙ c .if4 .left)) in
-    (turns.unfit-passed _ _ _ _ _ _ _ _ h _ _ k (it .on) (sym (c .before .has-to-fit .ensures) ∙ c .if4 .left) (sym (c .before .before .before .fits2 .ensures) ∙ not-true _ (c .before .before .if3 .taken)) ∙ l .inv .0, b .1, l .inv .2)
+    (turns.unfit-passed _ _ _ _ _ _ _ _ _ h _ _ k (it .on) (sym (c .before .has-to-fit .ensures) ∙ c .if4 .left) (sym (c .before .before .before .fits2 .ensures) ∙ not-true _ (c .before .before .if3 .taken)) ∙ l .inv .0, b .1, l .inv .2)
 
 is-once-requires : tie.Need-is-once-requires Inv-items μ-items
 is-once-requires c κs = search needs
@@ -163,7 +163,7 @@ items-again-2 c =
     let k = repeatAs (c .before .before .before .before .before .item .given .0 .1 .0) in
     let b = turns.behind-once _ _ _ _ k (it .on) (sym (c .before .is-once .ensures) ∙ c .if5 .taken) in
     let g = fits-inside _ _ _ _ (sym (c .before .before .before .fits2 .ensures) ∙ not-false _ (c .before .before .if3 .left)) in
-    (turns.fit-once _ _ _ _ _ _ _ _ h _ _ k (it .on) (sym (c .before .is-once .ensures) ∙ c .if5 .taken) (sym (c .before .before .before .fits2 .ensures) ∙ not-false _ (c .before .before .if3 .left)) ∙ l .inv .0, b .1, omega (arith, g))
+    (turns.fit-once _ _ _ _ _ _ _ _ _ h _ _ k (it .on) (sym (c .before .is-once .ensures) ∙ c .if5 .taken) (sym (c .before .before .before .fits2 .ensures) ∙ not-false _ (c .before .before .if3 .left)) ∙ l .inv .0, b .1, omega (arith, g))
 
 add-if6 : tie.Need-add-if6 Inv-items μ-items
 add-if6 c =
@@ -184,7 +184,7 @@ last-repeat-requires c κs =
     let l = c .before .before .before .before .before .before .before .before .before .before .before .before .items in
     let h = c .before .before .before .before .before .before .before .before .before .before .before .if1 .left in
     let it = subst (ItemAt (a .pattern .now) (l .at)) (c .before .before .before .before .before .before .before .before .item .given .1) (c .before .before .before .before .before .before .before .before .before .before .read .ensures) in
-    (c .before .before .before .before .before .before .before .before .before .before .before .before .before .before .before .pre .0, it .single, fits-inside _ _ _ _ (sym (c .before .before .before .before .before .before .fits2 .ensures) ∙ not-false _ (c .before .before .before .before .before .if3 .left)))
+    (it .single, fits-inside _ _ _ _ (sym (c .before .before .before .before .before .before .fits2 .ensures) ∙ not-false _ (c .before .before .before .before .before .if3 .left)))
 
 answer-requires : tie.Need-answer-requires Inv-items μ-items
 answer-requires c κs = search needs
@@ -196,7 +196,7 @@ returns-6 c =
     let h = c .before .before .before .before .before .before .before .before .before .before .before .before .before .if1 .left in
     let it = subst (ItemAt (a .pattern .now) (l .at)) (c .before .before .before .before .before .before .before .before .before .before .item .given .1) (c .before .before .before .before .before .before .before .before .before .before .before .before .read .ensures) in
     let k = repeatAs (c .before .before .before .before .before .before .before .before .before .before .item .given .0 .1 .0) in
-    let w = leads.last-greedy _ _ _ _ _ _ _ h _ _ (sym (c .before .before .before .before .before .before .before .before .fits2 .ensures) ∙ not-false _ (c .before .before .before .before .before .before .before .if3 .left)) k (sym (c .before .before .before .is-greedy .ensures) ∙ not-false _ (c .before .before .if7 .left)) (c .before .before .before .before .if6 .left) (it .on) in
+    let w = leads.last-greedy _ _ _ _ _ _ _ _ h _ _ (sym (c .before .before .before .before .before .before .before .before .fits2 .ensures) ∙ not-false _ (c .before .before .before .before .before .before .before .if3 .left)) k (sym (c .before .before .before .is-greedy .ensures) ∙ not-false _ (c .before .before .if7 .left)) (c .before .before .before .before .if6 .left) (it .on) in
     repeats.answered _ _ _ _ _ _ (c .answer .ensures) (c .before .last-repeat .ensures _ (w .0) (w .1)) (w .2 ∙ l .inv .0)
 
 enum-known-item-2 : tie.Need-enum-known-item-2 Inv-items μ-items
@@ -208,7 +208,7 @@ first-capture-requires c κs =
     let l = c .before .before .before .before .before .before .items in
     let h = c .before .before .before .before .before .if1 .left in
     let it = subst (ItemAt (a .pattern .now) (l .at)) (c .before .before .item2 .given .1) (c .before .before .before .before .read .ensures) in
-    (c .before .before .before .before .before .before .before .before .before .pre .0, it .inside, l .inv .2, omega arith)
+    (it .inside, l .inv .2, omega arith)
 
 answer-requires-2 : tie.Need-answer-requires-2 Inv-items μ-items
 answer-requires-2 c κs = search needs
@@ -219,7 +219,7 @@ returns-7 c =
     let l = c .before .before .before .before .before .before .before .before .items in
     let h = c .before .before .before .before .before .before .before .if1 .left in
     let it = subst (ItemAt (a .pattern .now) (l .at)) (c .before .before .before .before .item2 .given .1) (c .before .before .before .before .before .before .read .ensures) in
-    repeats.answered _ _ _ _ _ _ (c .answer2 .ensures) (c .before .first-capture .ensures) (turns.at-start _ _ _ _ _ _ _ _ h _ _ (is-open _ _ refl) it ∙ l .inv .0)
+    repeats.answered _ _ _ _ _ _ (c .answer2 .ensures) (c .before .first-capture .ensures) (turns.at-start _ _ _ _ _ _ _ _ _ h _ _ (is-open _ _ refl) it ∙ l .inv .0)
 
 enum-known-item-3 : tie.Need-enum-known-item-3 Inv-items μ-items
 enum-known-item-3 c = search needs
@@ -230,7 +230,7 @@ first-capture-requires-2 c κs =
     let l = c .before .before .before .before .before .before .items in
     let h = c .before .before .before .before .before .if1 .left in
     let it = subst (ItemAt (a .pattern .now) (l .at)) (c .before .before .item3 .given .1) (c .before .before .before .before .read .ensures) in
-    (c .before .before .before .before .before .before .before .before .before .pre .0, it .inside, l .inv .2, omega arith)
+    (it .inside, l .inv .2, omega arith)
 
 answer-requires-3 : tie.Need-answer-requires-3 Inv-items μ-items
 answer-requires-3 c κs = search needs
@@ -241,10 +241,10 @@ returns-8 c =
     let l = c .before .before .before .before .before .before .before .before .items in
     let h = c .before .before .before .before .before .before .before .if1 .left in
     let it = subst (ItemAt (a .pattern .now) (l .at)) (c .before .before .before .before .item3 .given .1) (c .before .before .before .before .before .before .read .ensures) in
-    repeats.answered _ _ _ _ _ _ (c .answer3 .ensures) (c .before .first-capture2 .ensures) (turns.at-position _ _ _ _ _ _ _ _ h _ _ (is-position _ _ refl) it ∙ l .inv .0)
+    repeats.answered _ _ _ _ _ _ (c .answer3 .ensures) (c .before .first-capture2 .ensures) (turns.at-position _ _ _ _ _ _ _ _ _ h _ _ (is-position _ _ refl) it ∙ l .inv .0)
 
 first-level-requires : tie.Need-first-level-requires Inv-items μ-items
-first-level-requires c κs = (c .before .before .before .before .before .before .before .pre .0, c .before .before .before .before .items .inv .1, c .before .before .before .before .items .inv .2)
+first-level-requires c κs = (c .before .before .before .before .items .inv .1, c .before .before .before .before .items .inv .2)
 
 answer-requires-4 : tie.Need-answer-requires-4 Inv-items μ-items
 answer-requires-4 c κs = search needs

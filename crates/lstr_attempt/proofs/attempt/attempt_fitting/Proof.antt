@@ -2,6 +2,7 @@
 use native.Mathlib.Omega.{arith}
 use mathlib.Core.Path.{refl}
 use borrow.Author.Needs.{needs}
+use Rattle.lstr_class.specs.Inner.{classIn}
 use Rattle.lstr_item.proofs.Captures.{is-open}
 use Rattle.lstr_item.proofs.Singles.{fits-inside}
 use Rattle.lstr_item.proofs.Turns as turns
@@ -15,7 +16,7 @@ add-begun c = search needs
 last-repeat-requires : tie.Need-last-repeat-requires
 last-repeat-requires c κs =
     let q = c .before .before .before .pre in
-    (q .0, q .1 .single (q .2), fits-inside _ _ _ _ (q .4))
+    (q .0 .single (q .1), fits-inside _ _ _ _ (q .3))
 
 answer-requires : tie.Need-answer-requires
 answer-requires c κs = search needs
@@ -24,16 +25,16 @@ returns : tie.Need-returns
 returns c =
     let a = c .before .before .before .before .before .args in
     let q = c .before .before .before .before .before .pre in
-    let w = q .1 .last (c .before .before .if1 .taken) (a .subject .now) (a .budget) (a .place) (a .used) (q .3) (q .4) in
+    let w = q .0 .last (c .before .before .if1 .taken) (classIn (a .classes .now)) (a .subject .now) (a .budget) (a .place) (a .steps) (q .2) (q .3) in
     repeats.answered _ _ _ _ _ _ (c .answer .ensures) (c .before .last-repeat .ensures _ (w .0) (w .1)) (w .2)
 
 add-attempt-from : tie.Need-add-attempt-from
-add-attempt-from c = omega (arith, fits-inside _ _ _ _ (c .before .before .before .before .pre .4))
+add-attempt-from c = omega (arith, fits-inside _ _ _ _ (c .before .before .before .before .pre .3))
 
 attempt-from-requires : tie.Need-attempt-from-requires
 attempt-from-requires c κs =
     let q = c .before .before .before .before .before .pre in
-    (q .0, q .1 .goes (c .before .if2 .taken) .inside, omega (arith, fits-inside _ _ _ _ (q .4)))
+    (q .0 .goes (c .before .if2 .taken) .inside, omega (arith, fits-inside _ _ _ _ (q .3)))
 
 answer-requires-2 : tie.Need-answer-requires-2
 answer-requires-2 c κs = search needs
@@ -42,13 +43,13 @@ returns-2 : tie.Need-returns-2
 returns-2 c =
     let a = c .before .before .before .before .before .before .before .args in
     let q = c .before .before .before .before .before .before .before .pre in
-    let w = q .1 .goes (c .before .before .before .if2 .taken) .on (a .subject .now) (a .budget) (a .place) _ (a .used) refl (q .3) (q .4) in
+    let w = q .0 .goes (c .before .before .before .if2 .taken) .on (classIn (a .classes .now)) (a .subject .now) (a .budget) (a .place) _ (a .steps) refl (q .2) (q .3) in
     repeats.answered _ _ _ _ _ _ (c .answer2 .ensures) (c .before .attempt-from .ensures) w
 
 first-capture-requires : tie.Need-first-capture-requires
 first-capture-requires c κs =
     let q = c .before .before .before .before .before .before .pre in
-    (q .0, q .1 .captured (c .before .if3 .taken) .inside, omega (arith, fits-inside _ _ _ _ (q .4)), omega arith)
+    (q .0 .captured (q .1) (c .before .if3 .taken) .inside, omega (arith, fits-inside _ _ _ _ (q .3)), omega arith)
 
 answer-requires-3 : tie.Need-answer-requires-3
 answer-requires-3 c κs = search needs
@@ -58,12 +59,12 @@ returns-3 c =
     let a = c .before .before .before .before .before .before .before .before .args in
     let q = c .before .before .before .before .before .before .before .before .pre in
     repeats.answered _ _ _ _ _ _ (c .answer3 .ensures) (c .before .first-capture .ensures)
-    (turns.at-start (a .subject .now) (a .pattern .now) (a .budget) 0 (a .place) 1 _ (a .used) (q .3) _ _ (is-open _ _ refl) (q .1 .captured (c .before .before .before .if3 .taken)))
+    (turns.at-start (classIn (a .classes .now)) (a .subject .now) (a .pattern .now) (a .budget) 0 (a .place) 1 _ (a .steps) (q .2) _ _ (is-open _ _ refl) (q .0 .captured (q .1) (c .before .before .before .if3 .taken)))
 
 attempt-requires : tie.Need-attempt-requires
 attempt-requires c κs =
     let q = c .before .before .before .before .before .before .pre in
-    (q .0, omega arith, omega (arith, fits-inside _ _ _ _ (q .4)))
+    (omega arith, omega (arith, fits-inside _ _ _ _ (q .3)))
 
 answer-requires-4 : tie.Need-answer-requires-4
 answer-requires-4 c κs = search needs

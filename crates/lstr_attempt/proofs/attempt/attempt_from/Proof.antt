@@ -1,6 +1,7 @@
 -- `lstr_attempt::attempt::attempt_from` meets its contract. Assumes nothing.
 use mathlib.Core.Path.{refl}
 use borrow.Author.Needs.{needs}
+use Rattle.lstr_class.specs.Inner.{classIn}
 use Rattle.lstr_item.proofs.Items.{items-end}
 use Rattle.lstr_item.proofs.Turns as turns
 use Rattle.lstr_match.proofs.Repeats as repeats
@@ -17,8 +18,8 @@ matched-requires c κs = search needs
 returns : tie.Need-returns
 returns c =
     let a = c .before .before .before .before .before .args in
-    leads.bare-match _ _ _ _ _ _ (c .matched .ensures) (c .before .before .before .before .before .pre .2)
-    (turns.at-end (a .subject .now) (a .pattern .now) (a .budget) (a .at) (a .place) 1 _ (a .used) (c .before .if2 .taken) (items-end (a .pattern .now) (a .at) (c .before .before .if1 .taken)))
+    leads.bare-match _ _ _ _ _ _ (c .matched .ensures) (c .before .before .before .before .before .pre .1)
+    (turns.at-end (classIn (a .classes .now)) (a .subject .now) (a .pattern .now) (a .budget) (a .at) (a .place) 1 _ (a .steps) (c .before .if2 .taken) (items-end (a .pattern .now) (a .at) (c .before .before .if1 .taken)))
 
 attempt-requires : tie.Need-attempt-requires
 attempt-requires c κs = search needs

@@ -2,6 +2,7 @@
 use Prim.Native.Nat.{_≤_}
 use native.Mathlib.Omega.{arith}
 use borrow.Author.Needs.{needs}
+use Rattle.lstr_class.specs.Inner.{classIn}
 use Rattle.lstr_attempt.proofs.Leads as leads
 use Rattle.lstr_match.proofs.Repeats as repeats
 use Rattle.lstr_attempt.proofs.attempt.last_repeat.Statement.{statement}
@@ -20,7 +21,7 @@ returns : tie.Need-returns
 returns c kept shortest h =
     let a = c .before .before .before .before .before .args in
     let r = c .before .before .reach in
-    repeats.ended _ _ _ _ _ (c .spent .ensures) (leads.test-unpaid (a .subject .now) (a .budget) _ _ _ (r .result) (r .ensures .0) shortest _ (c .before .if1 .taken))
+    repeats.ended _ _ _ _ _ (c .spent .ensures) (leads.test-unpaid (classIn (a .classes .now)) (a .subject .now) (a .budget) _ _ _ (r .result) (r .ensures .0) shortest _ (c .before .if1 .taken))
 
 spent-requires-2 : tie.Need-spent-requires-2
 spent-requires-2 c κs = search needs
@@ -30,7 +31,7 @@ returns-2 c kept shortest h =
     let a = c .before .before .before .before .before .before .before .args in
     let r = c .before .before .before .before .reach in
     let g : shortest ≤ r .result .end = omega (arith, h, r .ensures .1) in
-    repeats.ended _ _ _ _ _ (c .spent2 .ensures) (leads.end-unpaid (a .subject .now) (a .budget) _ _ _ (r .result) (r .ensures .0) shortest _ (c .before .before .before .if1 .left) g (c .before .if2 .taken))
+    repeats.ended _ _ _ _ _ (c .spent2 .ensures) (leads.end-unpaid (classIn (a .classes .now)) (a .subject .now) (a .budget) _ _ _ (r .result) (r .ensures .0) shortest _ (c .before .before .before .if1 .left) g (c .before .if2 .taken))
 
 add-matched : tie.Need-add-matched
 add-matched c = search needs
@@ -43,7 +44,7 @@ returns-3 c kept shortest h =
     let a = c .before .before .before .before .before .before .before .before .args in
     let r = c .before .before .before .before .before .reach in
     let g : shortest ≤ r .result .end = omega (arith, h, r .ensures .1) in
-    leads.bare-match _ _ _ _ _ _ (c .matched .ensures) (r .ensures .1 .1) (leads.end-paid (a .subject .now) (a .budget) _ _ _ (r .result) (r .ensures .0) shortest _ (c .before .before .before .before .if1 .left) g (c .before .before .if2 .left))
+    leads.bare-match _ _ _ _ _ _ (c .matched .ensures) (r .ensures .1 .1) (leads.end-paid (classIn (a .classes .now)) (a .subject .now) (a .budget) _ _ _ (r .result) (r .ensures .0) shortest _ (c .before .before .before .before .if1 .left) g (c .before .before .if2 .left))
 
 pub last-repeat-spec : {M : Type 1} → statement M
 last-repeat-spec =

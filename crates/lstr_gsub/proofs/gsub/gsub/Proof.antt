@@ -11,8 +11,8 @@ use Rattle.lstr_gsub.proofs.gsub.gsub.Tie as tie
 is-version-requires : tie.Need-is-version-requires
 is-version-requires c κs = search needs
 
-masks-requires : tie.Need-masks-requires
-masks-requires c κs = search needs
+classes-requires : tie.Need-classes-requires
+classes-requires c κs = search needs
 
 rules-of-requires : tie.Need-rules-of-requires
 rules-of-requires c κs = search needs
@@ -21,7 +21,7 @@ shared-slice-read-if3 : tie.Need-shared-slice-read-if3
 shared-slice-read-if3 c = search needs
 
 run-anchored-requires : tie.Need-run-anchored-requires
-run-anchored-requires c κs = (c .before .before .before .before .before .before .masks .ensures, c .before .before .before .before .if2 .taken)
+run-anchored-requires c κs = c .before .before .before .before .if2 .taken
 
 same-length : tie.Need-same-length
 same-length c = search needs
@@ -30,11 +30,11 @@ returns : tie.Need-returns
 returns c =
     let a = c .before .before .before .before .before .before .before .before .before .before .before .before .before .before .before .before .args in
     let q = c .before .before .run-anchored .ensures in
-    let e = rounds.gsub-anchored (a .version) (a .pattern .now) (a .replacement .now) (a .subject .now) (a .budget) (length (a .output .now)) (sym (c .before .before .before .before .before .before .before .before .before .before .before .is-version .ensures) ∙ c .before .before .before .before .before .before .before .before .before .before .if1 .taken) _ (c .before .before .before .before .before .before .before .before .rules-of .ensures) (c .before .before .before .before .before .if3 .taken) in
+    let e = rounds.gsub-anchored (a .version) (a .pattern .now) (a .replacement .now) (a .subject .now) (a .budget) (length (a .output .now)) (sym (c .before .before .before .before .before .before .before .before .before .before .before .is-version .ensures) ∙ c .before .before .before .before .before .before .before .before .before .before .if1 .taken) _ (c .before .before .before .before .before .before .before .before .rules-of .ensures) _ (c .before .before .before .before .before .before .before .before .before .classes .ensures) (c .before .before .before .before .before .if3 .taken) in
     (q .is ∙ ap report e, q .output ∙ ap (outputAfter (a .output .now)) e)
 
 run-rounds-requires : tie.Need-run-rounds-requires
-run-rounds-requires c κs = c .before .before .before .before .masks .ensures
+run-rounds-requires c κs = search needs
 
 same-length-2 : tie.Need-same-length-2
 same-length-2 c = search needs
@@ -43,7 +43,7 @@ returns-2 : tie.Need-returns-2
 returns-2 c =
     let a = c .before .before .before .before .before .before .before .before .before .before .before .before .before .before .args in
     let q = c .before .before .run-rounds .ensures in
-    let e = rounds.gsub-free (a .version) (a .pattern .now) (a .replacement .now) (a .subject .now) (a .budget) (length (a .output .now)) (sym (c .before .before .before .before .before .before .before .before .before .is-version .ensures) ∙ c .before .before .before .before .before .before .before .before .if1 .taken) _ (c .before .before .before .before .before .before .rules-of .ensures)
+    let e = rounds.gsub-free (a .version) (a .pattern .now) (a .replacement .now) (a .subject .now) (a .budget) (length (a .output .now)) (sym (c .before .before .before .before .before .before .before .before .before .is-version .ensures) ∙ c .before .before .before .before .before .before .before .before .if1 .taken) _ (c .before .before .before .before .before .before .rules-of .ensures) _ (c .before .before .before .before .before .before .before .classes .ensures)
     (⊎-elim (λ x. x .2 .left) (λ x. rounds.first-none (a .pattern .now) (x .left)) (c .before .before .before .before .before .if2 .came)) in
     (q .is ∙ ap report e, q .output ∙ ap (outputAfter (a .output .now)) e)
 
@@ -58,7 +58,7 @@ gsub-spec =
     tie.close
     (tie.spec
     is-version-requires
-    masks-requires
+    classes-requires
     rules-of-requires
     shared-slice-read-if3
     run-anchored-requires

@@ -4,14 +4,14 @@ use mathlib.Core.Path.{_≡_}
 use borrow.Author.Needs.{needs}
 use Rattle.luck_pattern.specs.Items.{items}
 use Rattle.lstr_write.proofs.Outputs as outputs
+use Rattle.lstr_class.specs.Inner.{classIn}
 use Rattle.lstr_gsub.proofs.Rounds as rounds
 use Rattle.lstr_gsub.proofs.gsub.run_anchored.Statement.{statement}
 use Rattle.lstr_gsub.proofs.gsub.run_anchored.Tie as tie
 
 attempt-requires : tie.Need-attempt-requires
 attempt-requires c κs =
-    let q = c .before .before .before .before .before .pre in
-    (q .0, q .1, omega arith)
+    (c .before .before .before .before .before .pre, omega arith)
 
 cast-t17 : tie.Need-cast-t17
 cast-t17 c = search needs
@@ -25,7 +25,7 @@ returns c =
     let a = d .before .before .before .before .before .before .args in
     let o = d .attempt .ensures .0 in
     let u = outputs.begins 0 (a .output .now) (omega arith) in
-    rounds.reported (a .output .now) 0 (a .output .now) _ _ _ _ _ u (rounds.anchored-stops (a .subject .now) (a .budget) (a .is-strict) (a .replacement .now) (items (a .pattern .now) 1) (a .output .now) (d .attempt .result) _ o (c .before .before .if1 .taken))
+    rounds.reported (a .output .now) 0 (a .output .now) _ _ _ _ _ u (rounds.anchored-stops (classIn (a .classes .now)) (a .subject .now) (a .budget) (a .is-strict) (a .replacement .now) (items (a .pattern .now) 1) (a .output .now) (d .attempt .result) _ o (c .before .before .if1 .taken))
 
 append-requires : tie.Need-append-requires
 append-requires c κs = omega arith
@@ -44,7 +44,7 @@ returns-2 c =
     let u = outputs.begins 0 (a .output .now) (omega arith) in
     let more = c .before .before .before .append .ensures in
     rounds.reported (a .output .now) _ _ _ _ _ _ _ (outputs.goes-on 0 (a .output .now) 0 (a .output .now) u _ _ _ more (search needs))
-    (rounds.anchored-fails (a .subject .now) (a .budget) (a .is-strict) (a .replacement .now) (items (a .pattern .now) 1) (a .output .now) (d .attempt .result) _ o (c .before .before .before .before .before .if2 .taken) _ _ more)
+    (rounds.anchored-fails (classIn (a .classes .now)) (a .subject .now) (a .budget) (a .is-strict) (a .replacement .now) (items (a .pattern .now) 1) (a .output .now) (d .attempt .result) _ o (c .before .before .before .before .before .if2 .taken) _ _ more)
 
 cast-add-pieces : tie.Need-cast-add-pieces
 cast-add-pieces c = search needs
@@ -73,7 +73,7 @@ returns-3 c =
     let more = c .before .before .before .before .before .before .add-pieces .ensures in
     let z : d .attempt .result .number ≡ 0 = omega (arith, c .before .before .before .before .before .before .before .before .before .before .if2 .left, c .before .before .before .before .before .before .before .before .before .before .before .before .if1 .left) in
     rounds.reported (a .output .now) _ _ _ _ _ _ _ (outputs.goes-on 0 (a .output .now) 0 (a .output .now) u _ _ _ more (search needs))
-    (rounds.anchored-ends (a .subject .now) (a .budget) (a .is-strict) (a .replacement .now) (items (a .pattern .now) 1) (a .output .now) (d .attempt .result) _ o z _ _ more (c .before .before .if3 .taken))
+    (rounds.anchored-ends (classIn (a .classes .now)) (a .subject .now) (a .budget) (a .is-strict) (a .replacement .now) (items (a .pattern .now) 1) (a .output .now) (d .attempt .result) _ o z _ _ more (c .before .before .if3 .taken))
 
 sub-append : tie.Need-sub-append
 sub-append c =
@@ -110,7 +110,7 @@ returns-4 c =
     let z : d .attempt .result .number ≡ 0 = omega (arith, c .before .before .before .before .before .before .before .before .before .before .before .before .before .before .if2 .left, c .before .before .before .before .before .before .before .before .before .before .before .before .before .before .before .before .if1 .left) in
     let v = outputs.goes-on 0 (a .output .now) 0 (a .output .now) u _ _ _ more (search (needs, c .before .before .before .before .before .before .before .before .before .output2 .given)) in
     rounds.reported (a .output .now) _ _ _ _ _ _ _ (outputs.goes-on 0 (a .output .now) _ _ v _ _ _ rest (search needs))
-    (rounds.anchored-copies (a .subject .now) (a .budget) (a .is-strict) (a .replacement .now) (items (a .pattern .now) 1) (a .output .now) (d .attempt .result) _ o z _ _ more (c .before .before .before .before .before .before .if3 .left) (v .same) _ _ rest)
+    (rounds.anchored-copies (classIn (a .classes .now)) (a .subject .now) (a .budget) (a .is-strict) (a .replacement .now) (items (a .pattern .now) 1) (a .output .now) (d .attempt .result) _ o z _ _ more (c .before .before .before .before .before .before .if3 .left) (v .same) _ _ rest)
 
 pub run-anchored-spec : {M : Type 1} → statement M
 run-anchored-spec =

@@ -4,16 +4,17 @@ use native.Mathlib.Omega.{arith}
 use mathlib.Core.Logic.{inl, inr, ⊎-elim}
 use borrow.Author.Needs.{needs}
 use Rattle.luck_pattern.specs.Items.{items}
+use Rattle.lstr_class.specs.Inner.{classIn}
 use Rattle.lstr_gsub.proofs.Rounds as rounds
 use Rattle.lstr_gsub.proofs.gsub.run_rounds.Statement.{statement}
 use Rattle.lstr_gsub.proofs.gsub.run_rounds.Tie as tie
 
 abbrev Inv-rounds : tie.InvT-rounds
-Inv-rounds masks is-strict pattern replacement subject budget output₀ lead kept₀ place₀ after-last₀ written₀ replacements₀ steps₀ output kept place after-last written replacements steps =
-    rounds.Going subject budget is-strict replacement (items pattern 0) output₀ place after-last written replacements steps output
+Inv-rounds classes is-strict pattern replacement subject budget output₀ lead kept₀ place₀ after-last₀ written₀ replacements₀ steps₀ output kept place after-last written replacements steps =
+    rounds.Going (classIn classes) subject budget is-strict replacement (items pattern 0) output₀ place after-last written replacements steps output
 
 abbrev μ-rounds : tie.MeasureT-rounds
-μ-rounds masks is-strict pattern replacement subject budget output₀ lead kept₀ place₀ after-last₀ written₀ replacements₀ steps₀ output kept place after-last written replacements steps =
+μ-rounds classes is-strict pattern replacement subject budget output₀ lead kept₀ place₀ after-last₀ written₀ replacements₀ steps₀ output kept place after-last written replacements steps =
     budget - steps
 
 lead-of-requires : tie.Need-lead-of-requires Inv-rounds μ-rounds
@@ -22,12 +23,12 @@ lead-of-requires c κs = search needs
 rounds-holds : tie.Need-rounds-holds Inv-rounds μ-rounds
 rounds-holds c =
     let a = c .before .before .before .before .before .args in
-    rounds.starts (a .subject .now) (a .budget) (a .is-strict) (a .replacement .now) (items (a .pattern .now) 0) (a .output .now)
+    rounds.starts (classIn (a .classes .now)) (a .subject .now) (a .budget) (a .is-strict) (a .replacement .now) (items (a .pattern .now) 0) (a .output .now)
 
 attempt-at-requires : tie.Need-attempt-at-requires Inv-rounds μ-rounds
 attempt-at-requires c κs =
     let l = c .before .rounds in
-    (c .before .before .before .before .before .before .before .pre, c .before .before .lead-of .ensures, l .inv .inside, l .inv .steps)
+    (c .before .before .lead-of .ensures, l .inv .inside, l .inv .steps)
 
 cast-t20 : tie.Need-cast-t20 Inv-rounds μ-rounds
 cast-t20 c = search needs
@@ -44,7 +45,7 @@ returns c =
     let l = d .before .before .rounds in
     let a = d .before .before .before .before .before .before .before .before .args in
     let o = d .attempt-at .ensures .0 in
-    rounds.reported (a .output .now) (l .written) (l .output) _ _ _ _ _ (l .inv .upto) (rounds.stopping (a .subject .now) (a .budget) (a .is-strict) (a .replacement .now) (items (a .pattern .now) 0) (a .output .now) (l .place) (l .after-last) (l .written) (l .replacements) (l .steps) (l .output) (l .inv) (d .attempt-at .result) _ o (c .before .before .if1 .taken))
+    rounds.reported (a .output .now) (l .written) (l .output) _ _ _ _ _ (l .inv .upto) (rounds.stopping (classIn (a .classes .now)) (a .subject .now) (a .budget) (a .is-strict) (a .replacement .now) (items (a .pattern .now) 0) (a .output .now) (l .place) (l .after-last) (l .written) (l .replacements) (l .steps) (l .output) (l .inv) (d .attempt-at .result) _ o (c .before .before .if1 .taken))
 
 add-if3 : tie.Need-add-if3 Inv-rounds μ-rounds
 add-if3 c = omega (arith, c .before .before .before .before .attempt-at .ensures .1 .end (c .if2 .taken), c .before .before .before .before .before .before .before .before .before .before .before .before .good .1 .1 .1 .1 .0 .1)
@@ -63,7 +64,7 @@ add-pieces-requires c κs =
     let o = d .attempt-at .ensures .0 in
     let z = c .before .before .before .before .if2 .taken in
     let u = l .inv .upto in
-    (omega (arith, u .inside, u .same), rounds.ends-later (a .subject .now) (a .budget) (a .is-strict) (a .replacement .now) (items (a .pattern .now) 0) (a .output .now) (l .place) (l .after-last) (l .written) (l .replacements) (l .steps) (l .output) (l .inv) (d .attempt-at .result) _ o z, d .attempt-at .ensures .1 .end z, d .attempt-at .ensures .1 .captures z)
+    (omega (arith, u .inside, u .same), rounds.ends-later (classIn (a .classes .now)) (a .subject .now) (a .budget) (a .is-strict) (a .replacement .now) (items (a .pattern .now) 0) (a .output .now) (l .place) (l .after-last) (l .written) (l .replacements) (l .steps) (l .output) (l .inv) (d .attempt-at .result) _ o z, d .attempt-at .ensures .1 .end z, d .attempt-at .ensures .1 .captures z)
 
 cast-t29 : tie.Need-cast-t29 Inv-rounds μ-rounds
 cast-t29 c = search needs
@@ -80,7 +81,7 @@ returns-2 c =
     let l = d .before .before .rounds in
     let a = d .before .before .before .before .before .before .before .before .args in
     let o = d .attempt-at .ensures .0 in
-    rounds.reported (a .output .now) _ _ _ _ _ _ _ (rounds.goes-upto (a .subject .now) (a .budget) (a .is-strict) (a .replacement .now) (items (a .pattern .now) 0) (a .output .now) (l .place) (l .after-last) (l .written) (l .replacements) (l .steps) (l .output) (l .inv) (d .attempt-at .result) _ o (c .before .before .before .before .before .before .before .before .before .before .before .if2 .taken) (c .before .before .before .before .before .before .before .before .before .before .if3 .taken) _ _ (c .before .before .before .before .before .before .add-pieces .ensures) (search needs)) (rounds.replaced-ends (a .subject .now) (a .budget) (a .is-strict) (a .replacement .now) (items (a .pattern .now) 0) (a .output .now) (l .place) (l .after-last) (l .written) (l .replacements) (l .steps) (l .output) (l .inv) (d .attempt-at .result) _ o (c .before .before .before .before .before .before .before .before .before .before .before .if2 .taken) (c .before .before .before .before .before .before .before .before .before .before .if3 .taken) _ _ (c .before .before .before .before .before .before .add-pieces .ensures) (search needs) (c .before .before .if4 .taken))
+    rounds.reported (a .output .now) _ _ _ _ _ _ _ (rounds.goes-upto (classIn (a .classes .now)) (a .subject .now) (a .budget) (a .is-strict) (a .replacement .now) (items (a .pattern .now) 0) (a .output .now) (l .place) (l .after-last) (l .written) (l .replacements) (l .steps) (l .output) (l .inv) (d .attempt-at .result) _ o (c .before .before .before .before .before .before .before .before .before .before .before .if2 .taken) (c .before .before .before .before .before .before .before .before .before .before .if3 .taken) _ _ (c .before .before .before .before .before .before .add-pieces .ensures) (search needs)) (rounds.replaced-ends (classIn (a .classes .now)) (a .subject .now) (a .budget) (a .is-strict) (a .replacement .now) (items (a .pattern .now) 0) (a .output .now) (l .place) (l .after-last) (l .written) (l .replacements) (l .steps) (l .output) (l .inv) (d .attempt-at .result) _ o (c .before .before .before .before .before .before .before .before .before .before .before .if2 .taken) (c .before .before .before .before .before .before .before .before .before .before .if3 .taken) _ _ (c .before .before .before .before .before .before .add-pieces .ensures) (search needs) (c .before .before .if4 .taken))
 
 add-after-last : tie.Need-add-after-last Inv-rounds μ-rounds
 add-after-last c = omega (arith, c .before .before .before .before .before .before .before .before .before .before .before .before .before .attempt-at .ensures .1 .end (c .before .before .before .before .before .before .before .before .before .if2 .taken), c .before .before .before .before .before .before .before .before .before .before .before .before .before .before .before .before .before .before .before .before .before .good .1 .1 .1 .1 .0 .1)
@@ -91,7 +92,7 @@ rounds-less c =
     let l = d .before .before .rounds in
     let a = d .before .before .before .before .before .before .before .before .args in
     let o = d .attempt-at .ensures .0 in
-    let t = rounds.takes-step (a .subject .now) (a .budget) (a .is-strict) (a .replacement .now) (items (a .pattern .now) 0) (a .output .now) (l .place) (l .after-last) (l .written) (l .replacements) (l .steps) (l .output) (l .inv) (d .attempt-at .result) _ o (c .before .before .before .before .before .before .before .before .before .before .before .if1 .left) in
+    let t = rounds.takes-step (classIn (a .classes .now)) (a .subject .now) (a .budget) (a .is-strict) (a .replacement .now) (items (a .pattern .now) 0) (a .output .now) (l .place) (l .after-last) (l .written) (l .replacements) (l .steps) (l .output) (l .inv) (d .attempt-at .result) _ o (c .before .before .before .before .before .before .before .before .before .before .before .if1 .left) in
     omega (arith, t .0, t .1)
 
 rounds-again : tie.Need-rounds-again Inv-rounds μ-rounds
@@ -100,7 +101,7 @@ rounds-again c =
     let l = d .before .before .rounds in
     let a = d .before .before .before .before .before .before .before .before .args in
     let o = d .attempt-at .ensures .0 in
-    rounds.replaced-goes (a .subject .now) (a .budget) (a .is-strict) (a .replacement .now) (items (a .pattern .now) 0) (a .output .now) (l .place) (l .after-last) (l .written) (l .replacements) (l .steps) (l .output) (l .inv) (d .attempt-at .result) _ o (c .before .before .before .before .before .before .before .before .before .if2 .taken) (c .before .before .before .before .before .before .before .before .if3 .taken) _ _ (c .before .before .before .before .add-pieces .ensures) (search needs) (c .if4 .left) (d .attempt-at .ensures .1 .end (c .before .before .before .before .before .before .before .before .before .if2 .taken))
+    rounds.replaced-goes (classIn (a .classes .now)) (a .subject .now) (a .budget) (a .is-strict) (a .replacement .now) (items (a .pattern .now) 0) (a .output .now) (l .place) (l .after-last) (l .written) (l .replacements) (l .steps) (l .output) (l .inv) (d .attempt-at .result) _ o (c .before .before .before .before .before .before .before .before .before .if2 .taken) (c .before .before .before .before .before .before .before .before .if3 .taken) _ _ (c .before .before .before .before .add-pieces .ensures) (search needs) (c .if4 .left) (d .attempt-at .ensures .1 .end (c .before .before .before .before .before .before .before .before .before .if2 .taken))
 
 same-length-3 : tie.Need-same-length-3 Inv-rounds μ-rounds
 same-length-3 c = c .before .before .before .before .before .before .before .rounds .inv .upto .same
@@ -111,7 +112,7 @@ returns-3 c =
     let l = d .before .before .rounds in
     let a = d .before .before .before .before .before .before .before .before .args in
     let o = d .attempt-at .ensures .0 in
-    rounds.reported (a .output .now) (l .written) (l .output) 0 0 _ _ _ (l .inv .upto) (rounds.all-copied (a .subject .now) (a .budget) (a .is-strict) (a .replacement .now) (items (a .pattern .now) 0) (a .output .now) (l .place) (l .after-last) (l .written) (l .replacements) (l .steps) (l .output) (l .inv) (d .attempt-at .result) _ o (c .before .before .before .if1 .left) (⊎-elim (λ x. inr (x .1 .left)) (λ x. inl (x .left)) (c .before .if2 .came)) (c .if5 .taken))
+    rounds.reported (a .output .now) (l .written) (l .output) 0 0 _ _ _ (l .inv .upto) (rounds.all-copied (classIn (a .classes .now)) (a .subject .now) (a .budget) (a .is-strict) (a .replacement .now) (items (a .pattern .now) 0) (a .output .now) (l .place) (l .after-last) (l .written) (l .replacements) (l .steps) (l .output) (l .inv) (d .attempt-at .result) _ o (c .before .before .before .if1 .left) (⊎-elim (λ x. inr (x .1 .left)) (λ x. inl (x .left)) (c .before .if2 .came)) (c .if5 .taken))
 
 same-length-4 : tie.Need-same-length-4 Inv-rounds μ-rounds
 same-length-4 c = c .before .before .before .before .before .before .before .before .rounds .inv .upto .same
@@ -122,7 +123,7 @@ returns-4 c =
     let l = d .before .before .rounds in
     let a = d .before .before .before .before .before .before .before .before .args in
     let o = d .attempt-at .ensures .0 in
-    rounds.reported (a .output .now) (l .written) (l .output) 26 0 _ _ _ (l .inv .upto) (rounds.copy-full (a .subject .now) (a .budget) (a .is-strict) (a .replacement .now) (items (a .pattern .now) 0) (a .output .now) (l .place) (l .after-last) (l .written) (l .replacements) (l .steps) (l .output) (l .inv) (d .attempt-at .result) _ o (c .before .before .before .before .if1 .left) (⊎-elim (λ x. inr (x .1 .left)) (λ x. inl (x .left)) (c .before .before .if2 .came)) (c .before .if5 .left) (omega (arith, c .if6 .taken, l .inv .upto .same)))
+    rounds.reported (a .output .now) (l .written) (l .output) 26 0 _ _ _ (l .inv .upto) (rounds.copy-full (classIn (a .classes .now)) (a .subject .now) (a .budget) (a .is-strict) (a .replacement .now) (items (a .pattern .now) 0) (a .output .now) (l .place) (l .after-last) (l .written) (l .replacements) (l .steps) (l .output) (l .inv) (d .attempt-at .result) _ o (c .before .before .before .before .if1 .left) (⊎-elim (λ x. inr (x .1 .left)) (λ x. inl (x .left)) (c .before .before .if2 .came)) (c .before .if5 .left) (omega (arith, c .if6 .taken, l .inv .upto .same)))
 
 shared-slice-read-output : tie.Need-shared-slice-read-output Inv-rounds μ-rounds
 shared-slice-read-output c = search needs
@@ -142,7 +143,7 @@ rounds-less-2 c =
     let l = d .before .before .rounds in
     let a = d .before .before .before .before .before .before .before .before .args in
     let o = d .attempt-at .ensures .0 in
-    let t = rounds.takes-step (a .subject .now) (a .budget) (a .is-strict) (a .replacement .now) (items (a .pattern .now) 0) (a .output .now) (l .place) (l .after-last) (l .written) (l .replacements) (l .steps) (l .output) (l .inv) (d .attempt-at .result) _ o (c .before .before .before .before .before .if1 .left) in
+    let t = rounds.takes-step (classIn (a .classes .now)) (a .subject .now) (a .budget) (a .is-strict) (a .replacement .now) (items (a .pattern .now) 0) (a .output .now) (l .place) (l .after-last) (l .written) (l .replacements) (l .steps) (l .output) (l .inv) (d .attempt-at .result) _ o (c .before .before .before .before .before .if1 .left) in
     omega (arith, t .0, t .1)
 
 rounds-again-2 : tie.Need-rounds-again-2 Inv-rounds μ-rounds
@@ -151,7 +152,7 @@ rounds-again-2 c =
     let l = d .before .before .rounds in
     let a = d .before .before .before .before .before .before .before .before .args in
     let o = d .attempt-at .ensures .0 in
-    rounds.copy-goes (a .subject .now) (a .budget) (a .is-strict) (a .replacement .now) (items (a .pattern .now) 0) (a .output .now) (l .place) (l .after-last) (l .written) (l .replacements) (l .steps) (l .output) (l .inv) (d .attempt-at .result) _ o (c .before .before .before .before .before .if1 .left) (⊎-elim (λ x. inr (x .1 .left)) (λ x. inl (x .left)) (c .before .before .before .if2 .came)) (c .before .before .if5 .left) (omega (arith, c .before .if6 .left, l .inv .upto .same))
+    rounds.copy-goes (classIn (a .classes .now)) (a .subject .now) (a .budget) (a .is-strict) (a .replacement .now) (items (a .pattern .now) 0) (a .output .now) (l .place) (l .after-last) (l .written) (l .replacements) (l .steps) (l .output) (l .inv) (d .attempt-at .result) _ o (c .before .before .before .before .before .if1 .left) (⊎-elim (λ x. inr (x .1 .left)) (λ x. inl (x .left)) (c .before .before .before .if2 .came)) (c .before .before .if5 .left) (omega (arith, c .before .if6 .left, l .inv .upto .same))
 
 pub run-rounds-spec : {M : Type 1} → statement M
 run-rounds-spec =

@@ -21,8 +21,7 @@ returns-3 c = λ z. let e : _≡_ {A = ℕ} 0 1 = cc in absurd (omega arith)
 
 fits-requires : tie.Need-fits-requires
 fits-requires c κs =
-    let pre = c .before .before .before .before .before .before .before .pre in
-    (pre .0, pre .1 (omega arith))
+    c .before .before .before .before .before .before .before .pre (omega arith)
 
 returns-4 : tie.Need-returns-4
 returns-4 c = λ z.

@@ -1,53 +1,118 @@
 -- `lstr_item::ahead::first_test` meets its contract. Assumes nothing.
 use native.Mathlib.Omega.{arith}
-use Rattle.lstr_item.proofs.Reading.{end-at}
-use Rattle.lstr_item.proofs.FirstTests.{sure-one, sure-two}
+use mathlib.Core.Path.{subst}
 use borrow.Author.Needs.{needs}
+use Rattle.luck_pattern.specs.Items.{start-capture, position-capture, end-capture}
+use Rattle.lstr_item.specs.Inner.{ItemAt}
+use Rattle.lstr_item.proofs.FirstTests.{single-ahead, opens-start, opens-position, opens-end, sure-one, sure-two}
 use Rattle.lstr_item.proofs.ahead.first_test.Statement.{statement}
 use Rattle.lstr_item.proofs.ahead.first_test.Tie as tie
 
+nothing-requires : tie.Need-nothing-requires
+nothing-requires c κs = search needs
+
 returns : tie.Need-returns
-returns c = λ z. absurd (omega arith)
+returns c = λ z. absurd (omega (arith, c .nothing .ensures))
 
-shared-slice-read-if4 : tie.Need-shared-slice-read-if4
-shared-slice-read-if4 c = search needs
+read-requires : tie.Need-read-requires
+read-requires c κs = search needs
 
-add-after : tie.Need-add-after
-add-after c = search needs
+enum-known-item : tie.Need-enum-known-item
+enum-known-item c = search needs
 
-must-fit-requires : tie.Need-must-fit-requires
-must-fit-requires c κs = search needs
+required-requires : tie.Need-required-requires
+required-requires c κs = search needs
+
+enum-known-item-2 : tie.Need-enum-known-item-2
+enum-known-item-2 c = search needs
+
+single-at-requires : tie.Need-single-at-requires
+single-at-requires c κs = search needs
 
 returns-2 : tie.Need-returns-2
 returns-2 c =
     let a = c .before .before .before .before .before .before .before .before .args in
-    λ z. sure-two (a .pattern .now) (a .next) (a .level) (a .is-open) (c .before .must-fit .result) (omega arith) (c .before .before .before .before .before .if2 .taken)
-    (end-at (a .pattern .now) (a .next) (c .before .before .before .before .if3 .taken) (c .before .before .if4 .taken)) (c .before .must-fit .ensures (c .if5 .taken))
+    let it = subst (ItemAt (a .pattern .now) (a .next)) (c .before .before .before .item2 .given .1) (c .before .before .before .before .before .read .ensures) in
+    sure-two (a .count) (a .is-open) (a .pattern .now) (a .next) (a .level) _ start-capture _ (opens-start (a .count) (a .is-open) (c .before .if2 .taken)) (omega arith) it (c .single-at .ensures)
+
+nothing-requires-2 : tie.Need-nothing-requires-2
+nothing-requires-2 c κs = search needs
+
+enum-known-item-3 : tie.Need-enum-known-item-3
+enum-known-item-3 c = search needs
+
+single-at-requires-2 : tie.Need-single-at-requires-2
+single-at-requires-2 c κs = search needs
 
 returns-3 : tie.Need-returns-3
-returns-3 c = λ z. absurd (omega arith)
+returns-3 c =
+    let a = c .before .before .before .before .before .before .before .before .args in
+    let it = subst (ItemAt (a .pattern .now) (a .next)) (c .before .before .before .item3 .given .1) (c .before .before .before .before .before .read .ensures) in
+    sure-two (a .count) (a .is-open) (a .pattern .now) (a .next) (a .level) _ position-capture _ (opens-position (a .count) (a .is-open) (c .before .if3 .taken)) (omega arith) it (c .single-at2 .ensures)
 
-must-fit-requires-2 : tie.Need-must-fit-requires-2
-must-fit-requires-2 c κs = search needs
+nothing-requires-3 : tie.Need-nothing-requires-3
+nothing-requires-3 c κs = search needs
+
+enum-known-item-4 : tie.Need-enum-known-item-4
+enum-known-item-4 c = search needs
+
+single-at-requires-3 : tie.Need-single-at-requires-3
+single-at-requires-3 c κs = search needs
 
 returns-4 : tie.Need-returns-4
 returns-4 c =
-    let a = c .before .before .before .before .before .args in
-    λ z. sure-one (a .pattern .now) (a .next) (a .level) (a .is-open) (c .before .must-fit2 .result) (omega arith) (c .before .must-fit2 .ensures (c .if6 .taken))
+    let a = c .before .before .before .before .before .before .before .before .args in
+    let it = subst (ItemAt (a .pattern .now) (a .next)) (c .before .before .before .item4 .given .1) (c .before .before .before .before .before .read .ensures) in
+    sure-two (a .count) (a .is-open) (a .pattern .now) (a .next) (a .level) _ end-capture _ (opens-end (a .count) (a .is-open) (c .before .if4 .taken)) (omega arith) it (c .single-at3 .ensures)
+
+nothing-requires-4 : tie.Need-nothing-requires-4
+nothing-requires-4 c κs = search needs
+
+nothing-requires-5 : tie.Need-nothing-requires-5
+nothing-requires-5 c κs = search needs
 
 returns-5 : tie.Need-returns-5
-returns-5 c = λ z. absurd (omega arith)
+returns-5 c =
+    let a = c .before .before .before .before .before .before .before .args in
+    let it = subst (ItemAt (a .pattern .now) (a .next)) (c .before .before .item .given .1) (c .before .before .before .before .read .ensures) in
+    sure-one (a .count) (a .is-open) (a .pattern .now) (a .next) (a .level) _ (omega arith) (single-ahead (a .pattern .now) (a .next) _ _ 1 _ it (c .required .ensures))
+
+returns-6 : tie.Need-returns-6
+returns-6 c = λ z. absurd (omega (arith, c .nothing2 .ensures))
+
+returns-7 : tie.Need-returns-7
+returns-7 c = λ z. absurd (omega (arith, c .nothing3 .ensures))
+
+returns-8 : tie.Need-returns-8
+returns-8 c = λ z. absurd (omega (arith, c .nothing4 .ensures))
+
+returns-9 : tie.Need-returns-9
+returns-9 c = λ z. absurd (omega (arith, c .nothing5 .ensures))
 
 pub first-test-spec : {M : Type 1} → statement M
 first-test-spec =
     tie.close
     (tie.spec
+    nothing-requires
     returns
-    shared-slice-read-if4
-    add-after
-    must-fit-requires
+    read-requires
+    enum-known-item
+    required-requires
+    enum-known-item-2
+    single-at-requires
     returns-2
+    nothing-requires-2
+    enum-known-item-3
+    single-at-requires-2
     returns-3
-    must-fit-requires-2
+    nothing-requires-3
+    enum-known-item-4
+    single-at-requires-3
     returns-4
-    returns-5)
+    nothing-requires-4
+    nothing-requires-5
+    returns-5
+    returns-6
+    returns-7
+    returns-8
+    returns-9)

@@ -11,25 +11,25 @@ shared-slice-read-match : tie.Need-shared-slice-read-match
 shared-slice-read-match c = search needs
 
 returns : tie.Need-returns
-returns c = let a = c .before .before .before .args in ap (repeatRead (a .end)) (of-optional (byteAt (a .pattern .now) (a .end)) (c .match .keys1))
+returns c = let a = c .before .before .before .args in ap (repeatRead (a .suffix)) (of-optional (byteAt (a .pattern .now) (a .suffix)) (c .match .keys1))
 
 returns-2 : tie.Need-returns-2
-returns-2 c = let a = c .before .before .before .args in ap (repeatRead (a .end)) (of-star (byteAt (a .pattern .now) (a .end)) (c .match .keys2))
+returns-2 c = let a = c .before .before .before .args in ap (repeatRead (a .suffix)) (of-star (byteAt (a .pattern .now) (a .suffix)) (c .match .keys2))
 
 returns-3 : tie.Need-returns-3
-returns-3 c = let a = c .before .before .before .args in ap (repeatRead (a .end)) (of-plus (byteAt (a .pattern .now) (a .end)) (c .match .keys3))
+returns-3 c = let a = c .before .before .before .args in ap (repeatRead (a .suffix)) (of-plus (byteAt (a .pattern .now) (a .suffix)) (c .match .keys3))
 
 returns-4 : tie.Need-returns-4
-returns-4 c = let a = c .before .before .before .args in ap (repeatRead (a .end)) (of-minus (byteAt (a .pattern .now) (a .end)) (c .match .keys4))
+returns-4 c = let a = c .before .before .before .args in ap (repeatRead (a .suffix)) (of-minus (byteAt (a .pattern .now) (a .suffix)) (c .match .keys4))
 
 returns-5 : tie.Need-returns-5
 returns-5 c =
     let a = c .before .before .before .args in
     let n = c .match .rest in
-    ap (repeatRead (a .end)) (of-once (byteAt (a .pattern .now) (a .end)) (n .0 .0 .0 .1) (n .0 .0 .1) (n .0 .1) (n .1))
+    ap (repeatRead (a .suffix)) (of-once (byteAt (a .pattern .now) (a .suffix)) (n .0 .0 .0 .1) (n .0 .0 .1) (n .0 .1) (n .1))
 
 returns-6 : tie.Need-returns-6
-returns-6 c = let a = c .before .args in ap (repeatRead (a .end)) (of-end (a .pattern .now) (a .end) (c .if1 .left))
+returns-6 c = let a = c .before .args in ap (repeatRead (a .suffix)) (of-end (a .pattern .now) (a .suffix) (c .if1 .left))
 
 pub repeated-spec : {M : Type 1} → statement M
 repeated-spec =

@@ -2,7 +2,7 @@
 use mathlib.Core.Path.{ap, _∙_}
 use mathlib.Core.Bool.{not}
 use borrow.Author.Needs.{needs}
-use Rattle.lstr_class.specs.Class.{matchClass}
+use Rattle.lstr_class.specs.Inner.{classIn}
 use Rattle.lstr_item.proofs.Sets.{set-complement, set-plain}
 use Rattle.lstr_item.proofs.single.in_set.Statement.{statement}
 use Rattle.lstr_item.proofs.single.in_set.Tie as tie
@@ -22,7 +22,7 @@ is-any-of-requires c κs = search needs
 returns : tie.Need-returns
 returns c =
     let a = c .before .before .before .before .args in
-    ap not (c .is-any-of .ensures) ∙ set-complement (a .pattern .now) (a .closing) matchClass (a .byte) (a .opening) (c .before .if1 .taken)
+    ap not (c .is-any-of .ensures) ∙ set-complement (a .pattern .now) (a .closing) (classIn (a .classes .now)) (a .byte) (a .opening) (c .before .if1 .taken)
 
 is-any-of-requires-2 : tie.Need-is-any-of-requires-2
 is-any-of-requires-2 c κs = search needs
@@ -30,7 +30,7 @@ is-any-of-requires-2 c κs = search needs
 returns-2 : tie.Need-returns-2
 returns-2 c =
     let a = c .before .before .before .before .args in
-    c .is-any-of2 .ensures ∙ set-plain (a .pattern .now) (a .closing) matchClass (a .byte) (a .opening) (c .before .if1 .left)
+    c .is-any-of2 .ensures ∙ set-plain (a .pattern .now) (a .closing) (classIn (a .classes .now)) (a .byte) (a .opening) (c .before .if1 .left)
 
 pub in-set-spec : {M : Type 1} → statement M
 in-set-spec =

@@ -11,17 +11,17 @@ use Rattle.luck_text.specs.Bytes.{byteAt}
 use Rattle.luck_text.proofs.Bytes.{within, below, above}
 use Rattle.luck_pattern.specs.Elements.{elementsOf}
 use Rattle.lstr_item.specs.Single.{isAnyOf}
-use Rattle.lstr_class.specs.Class.{matchClass}
+use Rattle.lstr_class.specs.Inner.{classIn}
 use Rattle.lstr_item.proofs.Sets.{any-end, any-escape, any-range, any-plain}
 use Rattle.lstr_item.proofs.single.is_any_of.Statement.{statement}
 use Rattle.lstr_item.proofs.single.is_any_of.Tie as tie
 
 abbrev Inv-elements : tie.InvT-elements
-Inv-elements masks pattern from closing byte at₀ at =
-    isAnyOf matchClass (elementsOf pattern closing from) byte ≡ isAnyOf matchClass (elementsOf pattern closing at) byte
+Inv-elements classes pattern from closing byte at₀ at =
+    isAnyOf (classIn classes) (elementsOf pattern closing from) byte ≡ isAnyOf (classIn classes) (elementsOf pattern closing at) byte
 
 abbrev μ-elements : tie.MeasureT-elements
-μ-elements masks pattern from closing byte at₀ at = closing - at
+μ-elements classes pattern from closing byte at₀ at = closing - at
 
 elements-holds : tie.Need-elements-holds Inv-elements μ-elements
 elements-holds c = refl
@@ -42,7 +42,7 @@ returns : tie.Need-returns Inv-elements μ-elements
 returns c =
     let a = c .before .before .before .before .before .before .before .before .args in
     let l = c .before .before .before .before .before .before .elements in
-    sym (l .inv ∙ any-escape (a .pattern .now) (a .closing) matchClass (a .byte) (l .at) (c .before .before .before .before .before .elements-test .taken) true (c .before .before .before .if1 .taken) (sym (c .before .match-class .ensures) ∙ c .if2 .taken))
+    sym (l .inv ∙ any-escape (a .pattern .now) (a .closing) (classIn (a .classes .now)) (a .byte) (l .at) (c .before .before .before .before .before .elements-test .taken) true (c .before .before .before .if1 .taken) (sym (c .before .match-class .ensures) ∙ c .if2 .taken))
 
 add-at : tie.Need-add-at Inv-elements μ-elements
 add-at c = search needs
@@ -54,7 +54,7 @@ elements-again : tie.Need-elements-again Inv-elements μ-elements
 elements-again c =
     let a = c .before .before .before .before .before .before .before .before .args in
     let l = c .before .before .before .before .before .before .elements in
-    l .inv ∙ any-escape (a .pattern .now) (a .closing) matchClass (a .byte) (l .at) (c .before .before .before .before .before .elements-test .taken) false (c .before .before .before .if1 .taken) (sym (c .before .match-class .ensures) ∙ c .if2 .left)
+    l .inv ∙ any-escape (a .pattern .now) (a .closing) (classIn (a .classes .now)) (a .byte) (l .at) (c .before .before .before .before .before .elements-test .taken) false (c .before .before .before .if1 .taken) (sym (c .before .match-class .ensures) ∙ c .if2 .left)
 
 sub-if3 : tie.Need-sub-if3 Inv-elements μ-elements
 sub-if3 c = search needs
@@ -72,7 +72,7 @@ returns-2 : tie.Need-returns-2 Inv-elements μ-elements
 returns-2 c =
     let a = c .before .before .before .before .before .before .before .before .before .before .before .args in
     let l = c .before .before .before .before .before .before .before .before .before .elements in
-    sym (l .inv ∙ any-range (a .pattern .now) (a .closing) matchClass (a .byte) (l .at) (c .before .before .before .before .before .before .before .before .elements-test .taken) true (c .before .before .before .before .before .before .if1 .left) (c .before .before .before .if4 .taken) (omega (arith, c .before .before .before .before .before .if3 .taken)) (within (byteAt (a .pattern .now) (l .at)) (byteAt (a .pattern .now) (l .at + 2)) (a .byte) (c .before .before .if5 .taken) (c .if6 .taken)))
+    sym (l .inv ∙ any-range (a .pattern .now) (a .closing) (classIn (a .classes .now)) (a .byte) (l .at) (c .before .before .before .before .before .before .before .before .elements-test .taken) true (c .before .before .before .before .before .before .if1 .left) (c .before .before .before .if4 .taken) (omega (arith, c .before .before .before .before .before .if3 .taken)) (within (byteAt (a .pattern .now) (l .at)) (byteAt (a .pattern .now) (l .at + 2)) (a .byte) (c .before .before .if5 .taken) (c .if6 .taken)))
 
 add-at-2 : tie.Need-add-at-2 Inv-elements μ-elements
 add-at-2 c = search needs
@@ -86,13 +86,13 @@ elements-again-2 c =
     let l = c .before .before .before .before .before .before .before .elements in
     let low = byteAt (a .pattern .now) (l .at) in
     let high = byteAt (a .pattern .now) (l .at + 2) in
-    l .inv ∙ any-range (a .pattern .now) (a .closing) matchClass (a .byte) (l .at) (c .before .before .before .before .before .before .elements-test .taken) false (c .before .before .before .before .if1 .left) (c .before .if4 .taken) (omega (arith, c .before .before .before .if3 .taken)) (⊎-elim (λ w. above low high (a .byte) (w .2 .left)) (λ w. below low high (a .byte) (w .left)) (c .if5 .came))
+    l .inv ∙ any-range (a .pattern .now) (a .closing) (classIn (a .classes .now)) (a .byte) (l .at) (c .before .before .before .before .before .before .elements-test .taken) false (c .before .before .before .before .if1 .left) (c .before .if4 .taken) (omega (arith, c .before .before .before .if3 .taken)) (⊎-elim (λ w. above low high (a .byte) (w .2 .left)) (λ w. below low high (a .byte) (w .left)) (c .if5 .came))
 
 returns-3 : tie.Need-returns-3 Inv-elements μ-elements
 returns-3 c =
     let a = c .before .before .before .before .before .before .before .args in
     let l = c .before .before .before .before .before .elements in
-    sym (l .inv ∙ any-plain (a .pattern .now) (a .closing) matchClass (a .byte) (l .at) (c .before .before .before .before .elements-test .taken) true (c .before .before .if1 .left) (⊎-elim (λ w. inl (w .2 .left)) (λ w. inr (omega (arith, w .left))) (c .before .if3 .came)) (eq-eqb (byteAt (a .pattern .now) (l .at)) (a .byte) (c .if7 .taken)))
+    sym (l .inv ∙ any-plain (a .pattern .now) (a .closing) (classIn (a .classes .now)) (a .byte) (l .at) (c .before .before .before .before .elements-test .taken) true (c .before .before .if1 .left) (⊎-elim (λ w. inl (w .2 .left)) (λ w. inr (omega (arith, w .left))) (c .before .if3 .came)) (eq-eqb (byteAt (a .pattern .now) (l .at)) (a .byte) (c .if7 .taken)))
 
 elements-less-3 : tie.Need-elements-less-3 Inv-elements μ-elements
 elements-less-3 c = search needs
@@ -101,13 +101,13 @@ elements-again-3 : tie.Need-elements-again-3 Inv-elements μ-elements
 elements-again-3 c =
     let a = c .before .before .before .before .before .before .before .args in
     let l = c .before .before .before .before .before .elements in
-    l .inv ∙ any-plain (a .pattern .now) (a .closing) matchClass (a .byte) (l .at) (c .before .before .before .before .elements-test .taken) false (c .before .before .if1 .left) (⊎-elim (λ w. inl (w .2 .left)) (λ w. inr (omega (arith, w .left))) (c .before .if3 .came)) (ne-eqb (byteAt (a .pattern .now) (l .at)) (a .byte) (c .if7 .left))
+    l .inv ∙ any-plain (a .pattern .now) (a .closing) (classIn (a .classes .now)) (a .byte) (l .at) (c .before .before .before .before .elements-test .taken) false (c .before .before .if1 .left) (⊎-elim (λ w. inl (w .2 .left)) (λ w. inr (omega (arith, w .left))) (c .before .if3 .came)) (ne-eqb (byteAt (a .pattern .now) (l .at)) (a .byte) (c .if7 .left))
 
 returns-4 : tie.Need-returns-4 Inv-elements μ-elements
 returns-4 c =
     let a = c .before .before .before .args in
     let l = c .before .elements in
-    any-end (a .pattern .now) (a .closing) matchClass (a .byte) (l .at) (c .elements-test .left) ∙ sym (l .inv)
+    any-end (a .pattern .now) (a .closing) (classIn (a .classes .now)) (a .byte) (l .at) (c .elements-test .left) ∙ sym (l .inv)
 
 pub is-any-of-spec : {M : Type 1} → statement M
 is-any-of-spec =

@@ -5,7 +5,7 @@ use mathlib.Core.Path.{_≡_, refl, sym, _∙_}
 use lib.ListN.{length}
 use borrow.Author.Tests.{not-true, not-false}
 use Rattle.luck_pattern.specs.Items.{class}
-use Rattle.lstr_class.specs.Class.{matchClass}
+use Rattle.lstr_class.specs.Inner.{classIn}
 use Rattle.lstr_item.specs.Inner.{classReach}
 use Rattle.lstr_item.proofs.Singles.{class-end, class-fits, reach-spent, reach-stop, reach-more}
 use borrow.Author.Needs.{needs}
@@ -13,11 +13,11 @@ use Rattle.lstr_item.proofs.single.reach_class.Statement.{statement}
 use Rattle.lstr_item.proofs.single.reach_class.Tie as tie
 
 abbrev Inv-loop : tie.InvT-loop
-Inv-loop masks subject letter place budget used bits tested₀ spent₀ tested spent =
-    (classReach subject budget letter place used ≡ classReach subject budget letter tested spent) × (place ≤ tested) × (tested ≤ length subject)
+Inv-loop classes subject letter place budget steps₁ bits tested₀ steps₀ tested steps =
+    (classReach (classIn classes) subject budget letter place steps₁ ≡ classReach (classIn classes) subject budget letter tested steps) × (place ≤ tested) × (tested ≤ length subject)
 
 abbrev μ-loop : tie.MeasureT-loop
-μ-loop masks subject letter place budget used bits tested₀ spent₀ tested spent = length subject - tested
+μ-loop classes subject letter place budget steps₁ bits tested₀ steps₀ tested steps = length subject - tested
 
 class-bits-requires : tie.Need-class-bits-requires Inv-loop μ-loop
 class-bits-requires c κs = search needs
@@ -29,28 +29,28 @@ returns : tie.Need-returns Inv-loop μ-loop
 returns c =
     let a = c .before .before .before .before .args in
     let l = c .before .loop in
-    (sym (l .inv .0 ∙ reach-spent matchClass (a .subject .now) (class (a .letter)) (l .tested) (a .budget) (l .spent) (c .if1 .taken)), (l .inv .1, l .inv .2))
+    (sym (l .inv .0 ∙ reach-spent (classIn (a .classes .now)) (a .subject .now) (class (a .letter)) (l .tested) (a .budget) (l .steps) (c .if1 .taken)), (l .inv .1, l .inv .2))
 
-add-spent : tie.Need-add-spent Inv-loop μ-loop
-add-spent c = search needs
+add-steps : tie.Need-add-steps Inv-loop μ-loop
+add-steps c = search needs
 
 returns-2 : tie.Need-returns-2 Inv-loop μ-loop
 returns-2 c =
     let a = c .before .before .before .before .before .args in
     let l = c .before .before .loop in
-    (sym (l .inv .0 ∙ reach-stop matchClass (a .subject .now) (class (a .letter)) (l .tested) (a .budget) (l .spent) (c .before .if1 .left) (class-end matchClass (a .subject .now) (a .letter) (l .tested) (c .if2 .taken))), (l .inv .1, l .inv .2))
+    (sym (l .inv .0 ∙ reach-stop (classIn (a .classes .now)) (a .subject .now) (class (a .letter)) (l .tested) (a .budget) (l .steps) (c .before .if1 .left) (class-end (classIn (a .classes .now)) (a .subject .now) (a .letter) (l .tested) (c .if2 .taken))), (l .inv .1, l .inv .2))
 
 shared-slice-read-match-bits : tie.Need-shared-slice-read-match-bits Inv-loop μ-loop
 shared-slice-read-match-bits c = search needs
 
 match-bits-requires : tie.Need-match-bits-requires Inv-loop μ-loop
-match-bits-requires c κs = (c .before .before .before .before .before .before .pre .0, c .before .before .before .before .class-bits .ensures)
+match-bits-requires c κs = c .before .before .before .before .class-bits .ensures
 
 returns-3 : tie.Need-returns-3 Inv-loop μ-loop
 returns-3 c =
     let a = c .before .before .before .before .before .before .before .before .args in
     let l = c .before .before .before .before .before .loop in
-    (sym (l .inv .0 ∙ reach-stop matchClass (a .subject .now) (class (a .letter)) (l .tested) (a .budget) (l .spent) (c .before .before .before .before .if1 .left) (sym (class-fits matchClass (a .subject .now) (a .letter) (l .tested) (c .before .before .before .if2 .left)) ∙ sym (c .before .match-bits .ensures) ∙ not-true _ (c .if3 .taken))), (l .inv .1, l .inv .2))
+    (sym (l .inv .0 ∙ reach-stop (classIn (a .classes .now)) (a .subject .now) (class (a .letter)) (l .tested) (a .budget) (l .steps) (c .before .before .before .before .if1 .left) (sym (class-fits (classIn (a .classes .now)) (a .subject .now) (a .letter) (l .tested) (c .before .before .before .if2 .left)) ∙ sym (c .before .match-bits .ensures) ∙ not-true _ (c .if3 .taken))), (l .inv .1, l .inv .2))
 
 add-tested : tie.Need-add-tested Inv-loop μ-loop
 add-tested c = search needs
@@ -62,7 +62,7 @@ loop-again : tie.Need-loop-again Inv-loop μ-loop
 loop-again c =
     let a = c .before .before .before .before .before .before .before .before .args in
     let l = c .before .before .before .before .before .loop in
-    (l .inv .0 ∙ reach-more matchClass (a .subject .now) (class (a .letter)) (l .tested) (a .budget) (l .spent) (c .before .before .before .before .if1 .left) (sym (class-fits matchClass (a .subject .now) (a .letter) (l .tested) (c .before .before .before .if2 .left)) ∙ sym (c .before .match-bits .ensures) ∙ not-false _ (c .if3 .left)), omega (arith, l .inv .1), omega arith)
+    (l .inv .0 ∙ reach-more (classIn (a .classes .now)) (a .subject .now) (class (a .letter)) (l .tested) (a .budget) (l .steps) (c .before .before .before .before .if1 .left) (sym (class-fits (classIn (a .classes .now)) (a .subject .now) (a .letter) (l .tested) (c .before .before .before .if2 .left)) ∙ sym (c .before .match-bits .ensures) ∙ not-false _ (c .if3 .left)), omega (arith, l .inv .1), omega arith)
 
 pub reach-class-spec : {M : Type 1} → statement M
 reach-class-spec =
@@ -73,7 +73,7 @@ reach-class-spec =
     class-bits-requires
     loop-holds
     returns
-    add-spent
+    add-steps
     returns-2
     shared-slice-read-match-bits
     match-bits-requires

@@ -7,8 +7,7 @@ use borrow.Author.Tests.{not-true, not-false}
 use lib.ListN.{length}
 use Rattle.luck_pattern.specs.Items.{Repeat, once, optional, star, plus, minus, items}
 use Rattle.lstr_item.specs.Match.{Outcome, newLevel, match}
-use Rattle.lstr_class.specs.Class.{matchClass}
-use Rattle.lstr_class.specs.Inner.{AreMasks, FoundIn}
+use Rattle.lstr_class.specs.Inner.{classIn, FoundIn}
 use Rattle.lstr_item.specs.Inner.{capturesOf, repeatAs, Single-then, ItemAt, HeldIn, Sound}
 use Rattle.lstr_item.proofs.Turns as turns
 use Rattle.lstr_match.proofs.Repeats as repeats
@@ -43,13 +42,13 @@ abbrev E : ℕ → lts.Claims
 E t = (too-deep-reads.Asked, too-deep-reads.Learnt, spent-reads.Asked, spent-reads.Learnt, read-reads.Asked, read-reads.Learnt, keep-reads.Asked, keep-reads.Learnt, matched-reads.Asked, matched-reads.Learnt, failed-reads.Asked, failed-reads.Learnt, raised-reads.Asked, raised-reads.Learnt, start-capture-below t, start-capture.Post, answer-reads.Asked, answer-reads.Learnt, end-capture-below t, end-capture.Post, match-capture-reads.Asked, match-capture-reads.Learnt, match-balance-reads.Asked, match-balance-reads.Learnt, is-frontier-reads.Asked, is-frontier-reads.Learnt, fits-reads.Asked, fits-reads.Learnt, has-to-fit-reads.Asked, has-to-fit-reads.Learnt, do-match-below t, do-match.Post, max-expand-below t, max-expand.Post, min-expand-below t, min-expand.Post)
 
 abbrev Inv : lts.InvT-items
-Inv masks subject pattern at place level budget steps captures kept₀ deeper at₀ place₀ steps₀ kept at' place' steps' =
-    (turns.on subject pattern budget at' place' (level + 1) (capturesOf captures) steps'
-    ≡ newLevel level steps (λ m. match matchClass subject budget (items pattern at) place m (capturesOf captures) steps))
+Inv classes subject pattern at place level budget steps captures kept₀ deeper at₀ place₀ steps₀ kept at' place' steps' =
+    (turns.on (classIn classes) subject pattern budget at' place' (level + 1) (capturesOf captures) steps'
+    ≡ newLevel level steps (λ m. match (classIn classes) subject budget (items pattern at) place m (capturesOf captures) steps))
     × ((at ≤ at') × ((at' ≤ length pattern) × ((place ≤ place') × (place' ≤ length subject))))
 
 abbrev μ : lts.MeasureT-items
-μ masks subject pattern at place level budget steps captures kept₀ deeper at₀ place₀ steps₀ kept at' place' steps' = length pattern - at'
+μ classes subject pattern at place level budget steps captures kept₀ deeper at₀ place₀ steps₀ kept at' place' steps' = length pattern - at'
 
 module _ (t : ℕ) where
   -- ---- Once an item is read
@@ -68,12 +67,12 @@ module _ (t : ℕ) where
   abbrev here : (d : Read) → ℕ → ℕ → ℕ → Outcome
   here d p s u =
       let a = entry d .args in
-      turns.on (a .subject .now) (a .pattern .now) (a .budget) p s (a .level + 1) (capturesOf (a .captures)) u
+      turns.on (classIn (a .classes .now)) (a .subject .now) (a .pattern .now) (a .budget) p s (a .level + 1) (capturesOf (a .captures)) u
 
   abbrev whole : Read → Outcome
   whole d =
       let a = entry d .args in
-      newLevel (a .level) (a .steps) (λ m. match matchClass (a .subject .now) (a .budget) (items (a .pattern .now) (a .at)) (a .place) m (capturesOf (a .captures)) (a .steps))
+      newLevel (a .level) (a .steps) (λ m. match (classIn (a .classes .now)) (a .subject .now) (a .budget) (items (a .pattern .now) (a .at)) (a .place) m (capturesOf (a .captures)) (a .steps))
 
   so-far : (d : Read) → here d (turn d .items .at) (turn d .items .place) (turn d .items .steps) ≡ whole d
   so-far d = turn d .items .inv .0
@@ -84,14 +83,11 @@ module _ (t : ℕ) where
   item : (d : Read) (x : Item) → d .read .result ≡ x → ItemAt (entry d .args .pattern .now) (turn d .items .at) x
   item d x e = subst (ItemAt (entry d .args .pattern .now) (turn d .items .at)) e (d .read .ensures)
 
-  masks : (d : Read) → AreMasks (entry d .args .masks .now)
-  masks d = entry d .pre .1 .0
-
   inside : (d : Read) → turn d .items .place ≤ length (entry d .args .subject .now)
   inside d = turn d .items .inv .1 .1 .1 .1
 
   sound : (d : Read) → Sound (turn d .items .place) (entry d .args .captures)
-  sound d = sound-later _ _ _ (turn d .items .inv .1 .1 .1 .0) (entry d .pre .1 .3)
+  sound d = sound-later _ _ _ (turn d .items .inv .1 .1 .1 .0) (entry d .pre .1 .2)
 
   -- a call for what follows: the measure falls
   below : (d : Read) (q : ℕ) → turn d .items .at < q → q ≤ length (entry d .args .pattern .now)
@@ -140,7 +136,7 @@ module _ (t : ℕ) where
 
   returns-2 : lts.Need-returns-2 (E t) (do-match-at t) do-match.Post Inv μ
   returns-2 c =
-      repeats.ended _ _ _ _ _ (c .spent .ensures) (turns.steps-spent _ (c .before .before .before .before .before .before .args .pattern .now) _ _ _ _ _ _ (c .before .if2 .taken) ∙ c .before .before .items .inv .0)
+      repeats.ended _ _ _ _ _ (c .spent .ensures) (turns.steps-spent _ _ (c .before .before .before .before .before .before .args .pattern .now) _ _ _ _ _ _ (c .before .if2 .taken) ∙ c .before .before .items .inv .0)
 
   add-steps : lts.Need-add-steps (E t) (do-match-at t) do-match.Post Inv μ
   add-steps c = omega arith
@@ -165,7 +161,7 @@ module _ (t : ℕ) where
       let d = c .before .before .before .before .before .before in
       let k = c .before .before .keep .ensures in
       repeats.kept-matched _ _ _ _ _ _ _ _ (c .matched .ensures) (inside d) (kept-later _ _ _ _ (inside d) (k .1 _ (sound d))) (k .0)
-      (turns.at-end _ _ _ _ _ _ _ _ (paid d) (item d _ (c .before .before .before .before .enum-told .given .1)) ∙ so-far d)
+      (turns.at-end _ _ _ _ _ _ _ _ _ (paid d) (item d _ (c .before .before .before .before .enum-told .given .1)) ∙ so-far d)
 
   enum-told-2 : lts.Need-enum-told-2 (E t) (do-match-at t) do-match.Post Inv μ
   enum-told-2 c = search needs
@@ -184,7 +180,7 @@ module _ (t : ℕ) where
       let d = c .before .before .before .before .before .before .before in
       let k = c .before .before .keep2 .ensures in
       repeats.kept-matched _ _ _ _ _ _ _ _ (c .matched2 .ensures) (inside d) (kept-later _ _ _ _ (inside d) (k .1 _ (sound d))) (k .0)
-      (turns.at-anchor _ _ _ _ _ _ _ _ (paid d) (item d _ (c .before .before .before .before .before .enum-told2 .given .1)) (c .before .before .before .before .if3 .taken) ∙ so-far d)
+      (turns.at-anchor _ _ _ _ _ _ _ _ _ (paid d) (item d _ (c .before .before .before .before .before .enum-told2 .given .1)) (c .before .before .before .before .if3 .taken) ∙ so-far d)
 
   failed-requires : lts.Need-failed-requires (E t) (do-match-at t) do-match.Post Inv μ
   failed-requires c κs = search needs
@@ -192,7 +188,7 @@ module _ (t : ℕ) where
   returns-5 : lts.Need-returns-5 (E t) (do-match-at t) do-match.Post Inv μ
   returns-5 c =
       let d = c .before .before .before .before in
-      repeats.ended _ _ _ _ _ (c .failed .ensures) (turns.not-at-anchor _ _ _ _ _ _ _ _ (paid d) (item d _ (c .before .before .enum-told2 .given .1)) (c .before .if3 .left) ∙ so-far d)
+      repeats.ended _ _ _ _ _ (c .failed .ensures) (turns.not-at-anchor _ _ _ _ _ _ _ _ _ (paid d) (item d _ (c .before .before .enum-told2 .given .1)) (c .before .if3 .left) ∙ so-far d)
 
   enum-known-item : lts.Need-enum-known-item (E t) (do-match-at t) do-match.Post Inv μ
   enum-known-item c = search needs
@@ -203,7 +199,7 @@ module _ (t : ℕ) where
   returns-6 : lts.Need-returns-6 (E t) (do-match-at t) do-match.Post Inv μ
   returns-6 c =
       let d = c .before .before .before .before in
-      repeats.ended _ _ _ _ _ (c .raised .ensures) (turns.at-raises _ _ _ _ _ _ _ _ (paid d) _ (item d _ (c .before .before .item .given .1)) ∙ so-far d)
+      repeats.ended _ _ _ _ _ (c .raised .ensures) (turns.at-raises _ _ _ _ _ _ _ _ _ (paid d) _ (item d _ (c .before .before .item .given .1)) ∙ so-far d)
 
   enum-known-item-2 : lts.Need-enum-known-item-2 (E t) (do-match-at t) do-match.Post Inv μ
   enum-known-item-2 c = search needs
@@ -212,7 +208,7 @@ module _ (t : ℕ) where
   start-capture-requires c κs =
       let d = c .before .before .before .before in
       let i = item d _ (c .before .before .item2 .given .1) in
-      (below d _ (i .further) (i .inside), (masks d, i .inside, inside d, omega arith, sound d))
+      (below d _ (i .further) (i .inside), (i .inside, inside d, omega arith, sound d))
 
   answer-requires : lts.Need-answer-requires (E t) (do-match-at t) do-match.Post Inv μ
   answer-requires c κs = search needs
@@ -221,7 +217,7 @@ module _ (t : ℕ) where
   returns-7 c =
       let d = c .before .before .before .before .before .before in
       let i = item d _ (c .before .before .before .before .item2 .given .1) in
-      repeats.answered _ _ _ _ _ _ (c .answer .ensures) (c .before .start-capture .ensures) (turns.at-start _ _ _ _ _ _ _ _ (paid d) _ _ (is-open _ _ refl) i ∙ so-far d)
+      repeats.answered _ _ _ _ _ _ (c .answer .ensures) (c .before .start-capture .ensures) (turns.at-start _ _ _ _ _ _ _ _ _ (paid d) _ _ (is-open _ _ refl) i ∙ so-far d)
 
   enum-known-item-3 : lts.Need-enum-known-item-3 (E t) (do-match-at t) do-match.Post Inv μ
   enum-known-item-3 c = search needs
@@ -230,7 +226,7 @@ module _ (t : ℕ) where
   start-capture-requires-2 c κs =
       let d = c .before .before .before .before in
       let i = item d _ (c .before .before .item3 .given .1) in
-      (below d _ (i .further) (i .inside), (masks d, i .inside, inside d, omega arith, sound d))
+      (below d _ (i .further) (i .inside), (i .inside, inside d, omega arith, sound d))
 
   answer-requires-2 : lts.Need-answer-requires-2 (E t) (do-match-at t) do-match.Post Inv μ
   answer-requires-2 c κs = search needs
@@ -239,7 +235,7 @@ module _ (t : ℕ) where
   returns-8 c =
       let d = c .before .before .before .before .before .before in
       let i = item d _ (c .before .before .before .before .item3 .given .1) in
-      repeats.answered _ _ _ _ _ _ (c .answer2 .ensures) (c .before .start-capture2 .ensures) (turns.at-position _ _ _ _ _ _ _ _ (paid d) _ _ (is-position _ _ refl) i ∙ so-far d)
+      repeats.answered _ _ _ _ _ _ (c .answer2 .ensures) (c .before .start-capture2 .ensures) (turns.at-position _ _ _ _ _ _ _ _ _ (paid d) _ _ (is-position _ _ refl) i ∙ so-far d)
 
   enum-known-item-4 : lts.Need-enum-known-item-4 (E t) (do-match-at t) do-match.Post Inv μ
   enum-known-item-4 c = search needs
@@ -248,7 +244,7 @@ module _ (t : ℕ) where
   end-capture-requires c κs =
       let d = c .before .before .before .before in
       let i = item d _ (c .before .before .item4 .given .1) in
-      (below d _ (i .further) (i .inside), (masks d, i .inside, inside d, sound d))
+      (below d _ (i .further) (i .inside), (i .inside, inside d, sound d))
 
   answer-requires-3 : lts.Need-answer-requires-3 (E t) (do-match-at t) do-match.Post Inv μ
   answer-requires-3 c κs = search needs
@@ -257,7 +253,7 @@ module _ (t : ℕ) where
   returns-9 c =
       let d = c .before .before .before .before .before .before in
       let i = item d _ (c .before .before .before .before .item4 .given .1) in
-      repeats.answered _ _ _ _ _ _ (c .answer3 .ensures) (c .before .end-capture .ensures) (turns.at-close _ _ _ _ _ _ _ _ (paid d) _ i ∙ so-far d)
+      repeats.answered _ _ _ _ _ _ (c .answer3 .ensures) (c .before .end-capture .ensures) (turns.at-close _ _ _ _ _ _ _ _ _ (paid d) _ i ∙ so-far d)
 
   enum-known-item-5 : lts.Need-enum-known-item-5 (E t) (do-match-at t) do-match.Post Inv μ
   enum-known-item-5 c = search needs
@@ -277,7 +273,7 @@ module _ (t : ℕ) where
   returns-10 c =
       let d = c .before .before .before .before .before .before .before in
       let i = item d _ (c .before .before .before .before .before .item5 .given .1) in
-      let w = repeats.held-as _ _ _ _ _ _ held.Bad (c .before .enum-told3 .given .1) (c .before .before .before .match-capture .ensures .0 _ _ _ ∙ turns.at-reference _ _ _ _ _ _ _ _ (paid d) _ _ i) in
+      let w = repeats.held-as _ _ _ _ _ _ held.Bad (c .before .enum-told3 .given .1) (c .before .before .before .match-capture .ensures .0 _ _ _ ∙ turns.at-reference _ _ _ _ _ _ _ _ _ (paid d) _ _ i) in
       repeats.ended _ _ _ _ _ (c .raised2 .ensures) (w ∙ so-far d)
 
   enum-told-4 : lts.Need-enum-told-4 (E t) (do-match-at t) do-match.Post Inv μ
@@ -290,7 +286,7 @@ module _ (t : ℕ) where
   returns-11 c =
       let d = c .before .before .before .before .before .before .before in
       let i = item d _ (c .before .before .before .before .before .item5 .given .1) in
-      let w = repeats.held-as _ _ _ _ _ _ held.Differs (c .before .enum-told4 .given .1) (c .before .before .before .match-capture .ensures .0 _ _ _ ∙ turns.at-reference _ _ _ _ _ _ _ _ (paid d) _ _ i) in
+      let w = repeats.held-as _ _ _ _ _ _ held.Differs (c .before .enum-told4 .given .1) (c .before .before .before .match-capture .ensures .0 _ _ _ ∙ turns.at-reference _ _ _ _ _ _ _ _ _ (paid d) _ _ i) in
       repeats.ended _ _ _ _ _ (c .failed2 .ensures) (w ∙ so-far d)
 
   enum-known-held : lts.Need-enum-known-held (E t) (do-match-at t) do-match.Post Inv μ
@@ -312,7 +308,7 @@ module _ (t : ℕ) where
   items-again c =
       let d = c .before .before .before .before .before .before .before in
       let i = item d _ (c .before .before .before .before .before .item5 .given .1) in
-      let w = repeats.held-as _ _ _ _ _ _ (held.Same _) (c .before .held .given .1) (c .before .before .before .match-capture .ensures .0 _ _ _ ∙ turns.at-reference _ _ _ _ _ _ _ _ (paid d) _ _ i) in
+      let w = repeats.held-as _ _ _ _ _ _ (held.Same _) (c .before .held .given .1) (c .before .before .before .match-capture .ensures .0 _ _ _ ∙ turns.at-reference _ _ _ _ _ _ _ _ _ (paid d) _ _ i) in
       let g = subst (λ x. HeldIn x (c .before .before .before .before .before .before .before .before .before .items .place) (length (c .before .before .before .before .before .before .before .before .before .before .before .before .before .args .subject .now))) (c .before .held .given .1) (c .before .before .before .match-capture .ensures .1) in
       again d _ _ _ (i .further) (i .inside) (omega arith) (omega (arith, g)) w
 
@@ -337,7 +333,7 @@ module _ (t : ℕ) where
       let i = item d _ (c .before .before .before .before .before .item6 .given .1) in
       let g = subst (λ x. FoundIn x (c .before .before .before .before .before .before .before .before .before .items .place) (length (c .before .before .before .before .before .before .before .before .before .before .before .before .before .args .subject .now))) (c .before .found .given .1) (c .before .before .before .match-balance .ensures .1) in
       let w = repeats.found-as (found.At _) (c .before .found .given .1) _ (c .before .before .before .match-balance .ensures .0) in
-      again d _ _ _ (i .further) (i .inside) (omega (arith, g)) (omega (arith, g)) (turns.balanced _ _ _ _ _ _ _ _ (paid d) _ _ _ _ i w)
+      again d _ _ _ (i .further) (i .inside) (omega (arith, g)) (omega (arith, g)) (turns.balanced _ _ _ _ _ _ _ _ _ (paid d) _ _ _ _ i w)
 
   enum-told-5 : lts.Need-enum-told-5 (E t) (do-match-at t) do-match.Post Inv μ
   enum-told-5 c = search needs
@@ -350,7 +346,7 @@ module _ (t : ℕ) where
       let d = c .before .before .before .before .before .before .before in
       let i = item d _ (c .before .before .before .before .before .item6 .given .1) in
       let w = repeats.found-as found.Nothing (c .before .enum-told5 .given .1) _ (c .before .before .before .match-balance .ensures .0) in
-      repeats.ended _ _ _ _ _ (c .failed3 .ensures) (turns.unbalanced _ _ _ _ _ _ _ _ (paid d) _ _ _ i w ∙ so-far d)
+      repeats.ended _ _ _ _ _ (c .failed3 .ensures) (turns.unbalanced _ _ _ _ _ _ _ _ _ (paid d) _ _ _ i w ∙ so-far d)
 
   enum-known-item-7 : lts.Need-enum-known-item-7 (E t) (do-match-at t) do-match.Post Inv μ
   enum-known-item-7 c = search needs
@@ -365,7 +361,7 @@ module _ (t : ℕ) where
   is-frontier-requires c κs =
       let d = c .before .before .before in
       let i = item d _ (c .before .item7 .given .1) in
-      (masks d, omega (arith, i .1), omega (arith, i .1, i .0 .inside))
+      (omega (arith, i .1), omega (arith, i .1, i .0 .inside))
 
   failed-requires-4 : lts.Need-failed-requires-4 (E t) (do-match-at t) do-match.Post Inv μ
   failed-requires-4 c κs = search needs
@@ -374,7 +370,7 @@ module _ (t : ℕ) where
   returns-13 c =
       let d = c .before .before .before .before .before .before in
       let i = item d _ (c .before .before .before .before .item7 .given .1) in
-      repeats.ended _ _ _ _ _ (c .failed4 .ensures) (turns.no-frontier _ _ _ _ _ _ _ _ (paid d) _ _ (i .0) (sym (c .before .before .is-frontier .ensures) ∙ not-true _ (c .before .if4 .taken)) ∙ so-far d)
+      repeats.ended _ _ _ _ _ (c .failed4 .ensures) (turns.no-frontier _ _ _ _ _ _ _ _ _ (paid d) _ _ (i .0) (sym (c .before .before .is-frontier .ensures) ∙ not-true _ (c .before .if4 .taken)) ∙ so-far d)
 
   items-less-3 : lts.Need-items-less-3 (E t) (do-match-at t) do-match.Post Inv μ
   items-less-3 c =
@@ -386,7 +382,7 @@ module _ (t : ℕ) where
   items-again-3 c =
       let d = c .before .before .before .before .before in
       let i = item d _ (c .before .before .before .item7 .given .1) in
-      again d _ _ _ (i .0 .further) (i .0 .inside) (omega arith) (inside d) (turns.at-frontier _ _ _ _ _ _ _ _ (paid d) _ _ (i .0) (sym (c .before .is-frontier .ensures) ∙ not-false _ (c .if4 .left)))
+      again d _ _ _ (i .0 .further) (i .0 .inside) (omega arith) (inside d) (turns.at-frontier _ _ _ _ _ _ _ _ _ (paid d) _ _ (i .0) (sym (c .before .is-frontier .ensures) ∙ not-false _ (c .if4 .left)))
 
   enum-known-item-8 : lts.Need-enum-known-item-8 (E t) (do-match-at t) do-match.Post Inv μ
   enum-known-item-8 c = search needs
@@ -395,7 +391,7 @@ module _ (t : ℕ) where
   fits-requires c κs =
       let d = c .before .before .before in
       let i = item d _ (c .before .item8 .given .1) in
-      (masks d, i .single)
+      i .single
 
   has-to-fit-requires : lts.Need-has-to-fit-requires (E t) (do-match-at t) do-match.Post Inv μ
   has-to-fit-requires c κs = search needs
@@ -407,7 +403,7 @@ module _ (t : ℕ) where
   returns-14 c =
       let d = c .before .before .before .before .before .before .before .before in
       let i = item d _ (c .before .before .before .before .before .before .item8 .given .1) in
-      repeats.ended _ _ _ _ _ (c .failed5 .ensures) (turns.unfit-fails _ _ _ _ _ _ _ _ (paid d) _ _ (kind (c .before .before .before .before)) (i .on) (sym (c .before .before .has-to-fit .ensures) ∙ c .before .if6 .taken) (sym (c .before .before .before .before .fits2 .ensures) ∙ not-true _ (c .before .before .before .if5 .taken)) ∙ so-far d)
+      repeats.ended _ _ _ _ _ (c .failed5 .ensures) (turns.unfit-fails _ _ _ _ _ _ _ _ _ (paid d) _ _ (kind (c .before .before .before .before)) (i .on) (sym (c .before .before .has-to-fit .ensures) ∙ c .before .if6 .taken) (sym (c .before .before .before .before .fits2 .ensures) ∙ not-true _ (c .before .before .before .if5 .taken)) ∙ so-far d)
 
   add-at : lts.Need-add-at (E t) (do-match-at t) do-match.Post Inv μ
   add-at c =
@@ -428,7 +424,7 @@ module _ (t : ℕ) where
       let d = c .before .before .before .before .before .before .before in
       let i = item d _ (c .before .before .before .before .before .item8 .given .1) in
       let b = turns.behind-repeat _ _ _ _ (kind (c .before .before .before)) (i .on) (turns.passed-repeats (kind (c .before .before .before)) (sym (c .before .has-to-fit .ensures) ∙ c .if6 .left)) in
-      again d _ _ _ (b .0) (b .1) (omega arith) (inside d) (turns.unfit-passed _ _ _ _ _ _ _ _ (paid d) _ _ (kind (c .before .before .before)) (i .on) (sym (c .before .has-to-fit .ensures) ∙ c .if6 .left) (sym (c .before .before .before .fits2 .ensures) ∙ not-true _ (c .before .before .if5 .taken)))
+      again d _ _ _ (b .0) (b .1) (omega arith) (inside d) (turns.unfit-passed _ _ _ _ _ _ _ _ _ (paid d) _ _ (kind (c .before .before .before)) (i .on) (sym (c .before .has-to-fit .ensures) ∙ c .if6 .left) (sym (c .before .before .before .fits2 .ensures) ∙ not-true _ (c .before .before .if5 .taken)))
 
   enum-told-6 : lts.Need-enum-told-6 (E t) (do-match-at t) do-match.Post Inv μ
   enum-told-6 c = search needs
@@ -451,7 +447,7 @@ module _ (t : ℕ) where
       let i = as-repeat (c .before .before .before) _ (c .enum-told6 .given .1) in
       let b = turns.behind-once _ _ _ _ once (i .on) refl in
       let g = fits-inside _ _ _ _ (sym (c .before .before .before .fits2 .ensures) ∙ not-false _ (c .before .before .if5 .left)) in
-      again d _ _ _ (b .0) (b .1) (omega arith) (omega (arith, g)) (turns.fit-once _ _ _ _ _ _ _ _ (paid d) _ _ once (i .on) refl (sym (c .before .before .before .fits2 .ensures) ∙ not-false _ (c .before .before .if5 .left)))
+      again d _ _ _ (b .0) (b .1) (omega arith) (omega (arith, g)) (turns.fit-once _ _ _ _ _ _ _ _ _ (paid d) _ _ once (i .on) refl (sym (c .before .before .before .fits2 .ensures) ∙ not-false _ (c .before .before .if5 .left)))
 
   enum-told-7 : lts.Need-enum-told-7 (E t) (do-match-at t) do-match.Post Inv μ
   enum-told-7 c = search needs
@@ -474,7 +470,7 @@ module _ (t : ℕ) where
       let i = as-repeat (c .before .before .before .before) _ (c .before .enum-told7 .given .1) in
       let b = turns.behind-repeat _ _ _ _ optional (i .on) refl in
       let g = fits-inside _ _ _ _ (sym (c .before .before .before .before .fits2 .ensures) ∙ not-false _ (c .before .before .before .if5 .left)) in
-      (omega (arith, below d _ (b .0) (b .1)), (masks d, b .1, omega (arith, g), sound-later _ _ _ (omega arith) (sound d)))
+      (omega (arith, below d _ (b .0) (b .1)), (b .1, omega (arith, g), sound-later _ _ _ (omega arith) (sound d)))
 
   answer-requires-4 : lts.Need-answer-requires-4 (E t) (do-match-at t) do-match.Post Inv μ
   answer-requires-4 c κs = search needs
@@ -485,7 +481,7 @@ module _ (t : ℕ) where
       let i = as-repeat (c .before .before .before .before .before .before .before .before) _ (c .before .before .before .before .before .enum-told7 .given .1) in
       let b = turns.behind-repeat _ _ _ _ optional (i .on) refl in
       let r = c .before .before .before .do-match .ensures in
-      repeats.answered _ _ _ _ _ _ (c .answer4 .ensures) (repeats.optional-ends _ _ _ _ _ _ _ _ _ _ (r .0) (c .before .if7 .taken), r .1) (turns.fit-more _ _ _ _ _ _ _ _ (paid d) _ _ optional (i .on) refl (sym (c .before .before .before .before .before .before .before .before .fits2 .ensures) ∙ not-false _ (c .before .before .before .before .before .before .before .if5 .left)) ∙ so-far d)
+      repeats.answered _ _ _ _ _ _ (c .answer4 .ensures) (repeats.optional-ends _ _ _ _ _ _ _ _ _ _ _ (r .0) (c .before .if7 .taken), r .1) (turns.fit-more _ _ _ _ _ _ _ _ _ (paid d) _ _ optional (i .on) refl (sym (c .before .before .before .before .before .before .before .before .fits2 .ensures) ∙ not-false _ (c .before .before .before .before .before .before .before .if5 .left)) ∙ so-far d)
 
   items-less-6 : lts.Need-items-less-6 (E t) (do-match-at t) do-match.Post Inv μ
   items-less-6 c =
@@ -499,7 +495,7 @@ module _ (t : ℕ) where
       let d = c .before .before .before .before .before .before .before .before .before .before .before in
       let i = as-repeat (c .before .before .before .before .before .before .before) _ (c .before .before .before .before .enum-told7 .given .1) in
       let b = turns.behind-repeat _ _ _ _ optional (i .on) refl in
-      again d _ _ _ (b .0) (b .1) (omega arith) (inside d) (repeats.optional-fails _ _ _ _ _ _ _ _ _ _ (c .before .before .do-match .ensures .0) (c .if7 .left) ∙ turns.fit-more _ _ _ _ _ _ _ _ (paid d) _ _ optional (i .on) refl (sym (c .before .before .before .before .before .before .before .fits2 .ensures) ∙ not-false _ (c .before .before .before .before .before .before .if5 .left)))
+      again d _ _ _ (b .0) (b .1) (omega arith) (inside d) (repeats.optional-fails _ _ _ _ _ _ _ _ _ _ _ (c .before .before .do-match .ensures .0) (c .if7 .left) ∙ turns.fit-more _ _ _ _ _ _ _ _ _ (paid d) _ _ optional (i .on) refl (sym (c .before .before .before .before .before .before .before .fits2 .ensures) ∙ not-false _ (c .before .before .before .before .before .before .if5 .left)))
 
   enum-told-8 : lts.Need-enum-told-8 (E t) (do-match-at t) do-match.Post Inv μ
   enum-told-8 c = search needs
@@ -510,7 +506,7 @@ module _ (t : ℕ) where
       let i = as-repeat (c .before .before .before .before) _ (c .before .enum-told8 .given .1) in
       let b = turns.behind-repeat _ _ _ _ star (i .on) refl in
       let g = fits-inside _ _ _ _ (sym (c .before .before .before .before .fits2 .ensures) ∙ not-false _ (c .before .before .before .if5 .left)) in
-      (below d _ (b .0) (b .1), (masks d, i .single, omega (arith, b), g, omega arith, omega arith, sound d))
+      (below d _ (b .0) (b .1), (i .single, omega (arith, b), g, omega arith, omega arith, sound d))
 
   answer-requires-5 : lts.Need-answer-requires-5 (E t) (do-match-at t) do-match.Post Inv μ
   answer-requires-5 c κs = search needs
@@ -520,7 +516,7 @@ module _ (t : ℕ) where
       let d = c .before .before .before .before .before .before .before .before .before .before in
       let i = as-repeat (c .before .before .before .before .before .before) _ (c .before .before .before .enum-told8 .given .1) in
       let b = turns.behind-repeat _ _ _ _ star (i .on) refl in
-      repeats.answered _ _ _ _ _ _ (c .answer5 .ensures) (c .before .max-expand .ensures) (repeats.star-on _ _ _ _ _ _ _ _ _ refl ∙ turns.fit-more _ _ _ _ _ _ _ _ (paid d) _ _ star (i .on) refl (sym (c .before .before .before .before .before .before .fits2 .ensures) ∙ not-false _ (c .before .before .before .before .before .if5 .left)) ∙ so-far d)
+      repeats.answered _ _ _ _ _ _ (c .answer5 .ensures) (c .before .max-expand .ensures) (repeats.star-on _ _ _ _ _ _ _ _ _ _ refl ∙ turns.fit-more _ _ _ _ _ _ _ _ _ (paid d) _ _ star (i .on) refl (sym (c .before .before .before .before .before .before .fits2 .ensures) ∙ not-false _ (c .before .before .before .before .before .if5 .left)) ∙ so-far d)
 
   enum-told-9 : lts.Need-enum-told-9 (E t) (do-match-at t) do-match.Post Inv μ
   enum-told-9 c = search needs
@@ -536,7 +532,7 @@ module _ (t : ℕ) where
       let i = as-repeat (c .before .before .before .before) _ (c .before .enum-told9 .given .1) in
       let b = turns.behind-repeat _ _ _ _ plus (i .on) refl in
       let g = fits-inside _ _ _ _ (sym (c .before .before .before .before .fits2 .ensures) ∙ not-false _ (c .before .before .before .if5 .left)) in
-      (below d _ (b .0) (b .1), (masks d, i .single, omega (arith, b), g, omega arith, omega arith, sound d))
+      (below d _ (b .0) (b .1), (i .single, omega (arith, b), g, omega arith, omega arith, sound d))
 
   answer-requires-6 : lts.Need-answer-requires-6 (E t) (do-match-at t) do-match.Post Inv μ
   answer-requires-6 c κs = search needs
@@ -546,7 +542,7 @@ module _ (t : ℕ) where
       let d = c .before .before .before .before .before .before .before .before .before .before in
       let i = as-repeat (c .before .before .before .before .before .before) _ (c .before .before .before .enum-told9 .given .1) in
       let b = turns.behind-repeat _ _ _ _ plus (i .on) refl in
-      repeats.answered _ _ _ _ _ _ (c .answer6 .ensures) (c .before .max-expand2 .ensures) (repeats.plus-on _ _ _ _ _ _ _ _ _ refl ∙ turns.fit-more _ _ _ _ _ _ _ _ (paid d) _ _ plus (i .on) refl (sym (c .before .before .before .before .before .before .fits2 .ensures) ∙ not-false _ (c .before .before .before .before .before .if5 .left)) ∙ so-far d)
+      repeats.answered _ _ _ _ _ _ (c .answer6 .ensures) (c .before .max-expand2 .ensures) (repeats.plus-on _ _ _ _ _ _ _ _ _ _ refl ∙ turns.fit-more _ _ _ _ _ _ _ _ _ (paid d) _ _ plus (i .on) refl (sym (c .before .before .before .before .before .before .fits2 .ensures) ∙ not-false _ (c .before .before .before .before .before .if5 .left)) ∙ so-far d)
 
   enum-told-10 : lts.Need-enum-told-10 (E t) (do-match-at t) do-match.Post Inv μ
   enum-told-10 c = search needs
@@ -557,7 +553,7 @@ module _ (t : ℕ) where
       let i = as-repeat (c .before .before .before .before) _ (c .before .enum-told10 .given .1) in
       let b = turns.behind-repeat _ _ _ _ minus (i .on) refl in
       let g = fits-inside _ _ _ _ (sym (c .before .before .before .before .fits2 .ensures) ∙ not-false _ (c .before .before .before .if5 .left)) in
-      (below d _ (b .0) (b .1), (masks d, i .single, omega (arith, b), g, sound d))
+      (below d _ (b .0) (b .1), (i .single, omega (arith, b), g, sound d))
 
   answer-requires-7 : lts.Need-answer-requires-7 (E t) (do-match-at t) do-match.Post Inv μ
   answer-requires-7 c κs = search needs
@@ -567,7 +563,7 @@ module _ (t : ℕ) where
       let d = c .before .before .before .before .before .before .before .before .before .before in
       let i = as-repeat (c .before .before .before .before .before .before) _ (c .before .before .before .enum-told10 .given .1) in
       let b = turns.behind-repeat _ _ _ _ minus (i .on) refl in
-      repeats.answered _ _ _ _ _ _ (c .answer7 .ensures) (c .before .min-expand .ensures) (turns.fit-more _ _ _ _ _ _ _ _ (paid d) _ _ minus (i .on) refl (sym (c .before .before .before .before .before .before .fits2 .ensures) ∙ not-false _ (c .before .before .before .before .before .if5 .left)) ∙ so-far d)
+      repeats.answered _ _ _ _ _ _ (c .answer7 .ensures) (c .before .min-expand .ensures) (turns.fit-more _ _ _ _ _ _ _ _ _ (paid d) _ _ minus (i .on) refl (sym (c .before .before .before .before .before .before .fits2 .ensures) ∙ not-false _ (c .before .before .before .before .before .if5 .left)) ∙ so-far d)
 
 pub do-match-proof : {M : Type 1} (t : ℕ) → lts.Closed (E t) (do-match-at t) do-match.Post M
 do-match-proof t =

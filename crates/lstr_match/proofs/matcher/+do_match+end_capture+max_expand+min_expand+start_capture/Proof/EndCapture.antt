@@ -19,7 +19,7 @@ E t = (capture-to-close-reads.Asked, capture-to-close-reads.Learnt, do-match-bel
 
 module _ (t : ℕ) where
   capture-to-close-requires : lts.Need-capture-to-close-requires (E t) (end-capture-at t) end-capture.Post
-  capture-to-close-requires c κs = c .before .before .pre .1 .3 .few
+  capture-to-close-requires c κs = c .before .before .pre .1 .2 .few
 
   enum-known-close : lts.Need-enum-known-close (E t) (end-capture-at t) end-capture.Post
   enum-known-close c = search needs
@@ -27,32 +27,32 @@ module _ (t : ℕ) where
   mul-start : lts.Need-mul-start (E t) (end-capture-at t) end-capture.Post
   mul-start c =
       let h = close-seen (c .before .before .before .before .before .before .args .t9) (close.Capture _) (c .before .close .given .1) (c .before .before .before .capture-to-close .ensures) in
-      omega (arith, h .1, c .before .before .before .before .before .before .pre .1 .3 .few)
+      omega (arith, h .1, c .before .before .before .before .before .before .pre .1 .2 .few)
 
   element-copy-out-start : lts.Need-element-copy-out-start (E t) (end-capture-at t) end-capture.Post
   element-copy-out-start c =
       let h = close-seen (c .before .before .before .before .before .before .args .t9) (close.Capture _) (c .before .close .given .1) (c .before .before .before .capture-to-close .ensures) in
-      omega (arith, h .1, c .before .before .before .before .before .before .pre .1 .3 .few)
+      omega (arith, h .1, c .before .before .before .before .before .before .pre .1 .2 .few)
 
   mul-t24 : lts.Need-mul-t24 (E t) (end-capture-at t) end-capture.Post
   mul-t24 c =
       let h = close-seen (c .before .before .before .before .before .before .args .t9) (close.Capture _) (c .before .close .given .1) (c .before .before .before .capture-to-close .ensures) in
-      omega (arith, h .1, c .before .before .before .before .before .before .pre .1 .3 .few)
+      omega (arith, h .1, c .before .before .before .before .before .before .pre .1 .2 .few)
 
   element-set-from-closed : lts.Need-element-set-from-closed (E t) (end-capture-at t) end-capture.Post
   element-set-from-closed c =
       let h = close-seen (c .before .before .before .before .before .before .args .t9) (close.Capture _) (c .before .close .given .1) (c .before .before .before .capture-to-close .ensures) in
-      omega (arith, h .1, c .before .before .before .before .before .before .pre .1 .3 .few)
+      omega (arith, h .1, c .before .before .before .before .before .before .pre .1 .2 .few)
 
   sub-t19 : lts.Need-sub-t19 (E t) (end-capture-at t) end-capture.Post
   sub-t19 c =
       let h = close-seen (c .before .before .before .before .before .before .args .t9) (close.Capture _) (c .before .close .given .1) (c .before .before .before .capture-to-close .ensures) in
-      omega (arith, c .before .before .before .before .before .before .pre .1 .3 .each _ (h .1))
+      omega (arith, c .before .before .before .before .before .before .pre .1 .2 .each _ (h .1))
 
   do-match-requires : lts.Need-do-match-requires (E t) (end-capture-at t) end-capture.Post
   do-match-requires c κs =
       let h = close-seen (c .before .before .before .before .before .before .before .args .t9) (close.Capture _) (c .before .before .close .given .1) (c .before .before .before .before .capture-to-close .ensures) in
-      (omega arith, (c .before .before .before .before .before .before .before .pre .1 .0, c .before .before .before .before .before .before .before .pre .1 .1, c .before .before .before .before .before .before .before .pre .1 .2, sound-finished _ _ _ _ (h .1) refl (c .before .before .before .before .before .before .before .pre .1 .3)))
+      (omega arith, (c .before .before .before .before .before .before .before .pre .1 .0, c .before .before .before .before .before .before .before .pre .1 .1, sound-finished _ _ _ _ (h .1) refl (c .before .before .before .before .before .before .before .pre .1 .2)))
 
   answer-requires : lts.Need-answer-requires (E t) (end-capture-at t) end-capture.Post
   answer-requires c κs = search needs
@@ -68,14 +68,14 @@ module _ (t : ℕ) where
       let z = c .before .before .before .before .before .before .before .before .before in
       let h = close-seen (z .args .t9) (close.Capture _) (c .before .before .before .before .close .given .1) (c .before .before .before .before .before .before .capture-to-close .ensures) in
       repeats.answered _ _ _ _ _ _ (c .answer .ensures) (c .before .do-match .ensures)
-      (ends-capture (z .args .t9) (all-pairs (z .args .t9 .pairs) (z .good .1 .1 .1 .1 .1 .1 .1 .1 .0 .1 .1 .1 .0 .1 .0 .1)) (z .pre .1 .3 .few) _ _ _ _ _ (h .0) (h .1) (omega (arith, z .pre .1 .2)))
+      (ends-capture (z .args .t9) (all-pairs (z .args .t9 .pairs) (z .good .1 .1 .1 .1 .1 .1 .1 .1 .0 .1 .1 .1 .0 .1 .0 .1)) (z .pre .1 .2 .few) _ _ _ _ _ (h .0) (h .1) (omega (arith, z .pre .1 .1)))
 
   returns-2 : lts.Need-returns-2 (E t) (end-capture-at t) end-capture.Post
   returns-2 c =
       let z = c .before .before .before .before .before .before in
       let h = close-seen (z .args .t9) close.Nothing (c .before .enum-told .given .1) (c .before .before .before .capture-to-close .ensures) in
       repeats.ended _ _ _ _ _ (c .raised .ensures)
-      (none-to-close (z .args .t9) (all-pairs (z .args .t9 .pairs) (z .good .1 .1 .1 .1 .1 .1 .1 .1 .0 .1 .1 .1 .0 .1 .0 .1)) (z .pre .1 .3 .few) _ _ _ _ (h .0))
+      (none-to-close (z .args .t9) (all-pairs (z .args .t9 .pairs) (z .good .1 .1 .1 .1 .1 .1 .1 .1 .0 .1 .1 .1 .0 .1 .0 .1)) (z .pre .1 .2 .few) _ _ _ _ (h .0))
 
 pub end-capture-proof : {M : Type 1} (t : ℕ) → lts.Closed (E t) (end-capture-at t) end-capture.Post M
 end-capture-proof t =

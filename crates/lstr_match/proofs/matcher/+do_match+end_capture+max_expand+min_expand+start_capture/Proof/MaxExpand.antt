@@ -8,10 +8,10 @@ use borrow.Author.Needs.{needs}
 use lib.ListN.{length}
 use mathlib.Core.Option.{none}
 use Rattle.lstr_item.specs.Match.{captureToClose, newLevel, failed, reach, longestFirst, maxExpand, match}
-use Rattle.lstr_class.specs.Class.{matchClass}
+use Rattle.lstr_class.specs.Inner.{classIn}
 use Rattle.lstr_item.specs.Inner.{singleOf, capturesOf}
 use Rattle.lstr_match.proofs.Repeats as repeats
-use Rattle.lstr_item.proofs.Captures.{sound-later, is-open}
+use Rattle.lstr_item.proofs.Captures.{pairs-few, sound-later, is-open}
 use Rattle.luck_pattern.specs.Items.{items}
 use Rattle.lstr_match.proofs.Passed as tests
 use Rattle.lstr_item.proofs.ahead.first_test.Reads as first-test
@@ -29,23 +29,23 @@ abbrev E : ℕ → lts.Claims
 E t = (reach-reads.Asked, reach-reads.Learnt, spent-reads.Asked, spent-reads.Learnt, first-test.Asked, first-test.Learnt, fails-at.Asked, fails-at.Learnt, do-match-below t, do-match.Post, answer-reads.Asked, answer-reads.Learnt, failed-reads.Asked, failed-reads.Learnt)
 
 abbrev Inv : lts.InvT-loop
-Inv masks subject pattern at end place shortest level budget steps kept₀ captures next is-open count first tried₀ steps₀ kept tried steps' =
-    let rest = match matchClass subject budget (items pattern (end + 1)) in
+Inv classes subject pattern at suffix place shortest level budget steps kept₀ captures next is-open count first tried₀ steps₀ kept tried steps' =
+    let rest = match (classIn classes) subject budget (items pattern (suffix + 1)) in
     (longestFirst rest (tried - shortest) shortest level (capturesOf captures) steps'
-    ≡ maxExpand (reach matchClass subject budget (singleOf pattern at end) (length subject - (place + 1)) (place + 1) steps) rest shortest level (capturesOf captures))
+    ≡ maxExpand (reach (classIn classes) subject budget (singleOf pattern at suffix) (length subject - (place + 1)) (place + 1) steps) rest shortest level (capturesOf captures))
     × ((shortest ≤ tried) × (tried ≤ length subject))
 
 abbrev μ : lts.MeasureT-loop
-μ masks subject pattern at end place shortest level budget steps kept₀ captures next is-open count first tried₀ steps₀ kept tried steps' = tried
+μ classes subject pattern at suffix place shortest level budget steps kept₀ captures next is-open count first tried₀ steps₀ kept tried steps' = tried
 
 module _ (t : ℕ) where
   add-reach : lts.Need-add-reach (E t) (max-expand-at t) max-expand.Post Inv μ
-  add-reach c = omega (arith, c .before .before .pre .1 .3)
+  add-reach c = omega (arith, c .before .before .pre .1 .2)
 
   reach-requires : lts.Need-reach-requires (E t) (max-expand-at t) max-expand.Post Inv μ
   reach-requires c κs =
       let g = c .before .before .pre .1 in
-      (g .0, g .1, omega (arith, g .3))
+      (g .0, omega (arith, g .2))
 
   spent-requires : lts.Need-spent-requires (E t) (max-expand-at t) max-expand.Post Inv μ
   spent-requires c κs = search needs
@@ -56,16 +56,16 @@ module _ (t : ℕ) where
       (repeats.spent-expands _ _ (c .before .before .reach .ensures .0) _ _ _ _ (c .before .if1 .taken))
 
   add-next : lts.Need-add-next (E t) (max-expand-at t) max-expand.Post Inv μ
-  add-next c = omega (arith, c .before .before .before .before .pre .1 .2)
+  add-next c = omega (arith, c .before .before .before .before .pre .1 .1)
 
   sub-is-open : lts.Need-sub-is-open (E t) (max-expand-at t) max-expand.Post Inv μ
   sub-is-open c = omega arith
 
   mul-is-open : lts.Need-mul-is-open (E t) (max-expand-at t) max-expand.Post Inv μ
-  mul-is-open c = omega (arith, c .before .before .before .before .before .pre .1 .6 .few)
+  mul-is-open c = omega (arith, c .before .before .before .before .before .pre .1 .5 .few)
 
   element-copy-out-is-open : lts.Need-element-copy-out-is-open (E t) (max-expand-at t) max-expand.Post Inv μ
-  element-copy-out-is-open c = omega (arith, c .before .before .before .before .before .pre .1 .6 .few)
+  element-copy-out-is-open c = omega (arith, c .before .before .before .before .before .pre .1 .5 .few)
 
   first-test-requires : lts.Need-first-test-requires (E t) (max-expand-at t) max-expand.Post Inv μ
   first-test-requires c κs = search needs
@@ -75,11 +75,11 @@ module _ (t : ℕ) where
       let r = c .before .before .before .reach in
       let g = c .before .before .before .before .before .before .pre .1 in (
         repeats.reach-expands _ _ (r .ensures .0) _ _ _ _ (c .before .before .if1 .left),
-        omega (arith, r .ensures .1, g .5),
+        omega (arith, r .ensures .1, g .4),
       )
 
   fails-at-requires : lts.Need-fails-at-requires (E t) (max-expand-at t) max-expand.Post Inv μ
-  fails-at-requires c κs = (c .before .before .before .before .before .before .before .pre .1 .0, λ h. c .before .first-test .ensures h .single)
+  fails-at-requires c κs = λ h. c .before .first-test .ensures h .single
 
   add-steps : lts.Need-add-steps (E t) (max-expand-at t) max-expand.Post Inv μ
   add-steps c = omega (arith, c .before .before .fails-at .ensures (c .before .if3 .taken) .left)
@@ -88,7 +88,7 @@ module _ (t : ℕ) where
   do-match-requires c κs =
       let inv = c .before .before .before .loop .inv .1 in
       let g = c .before .before .before .before .before .before .before .before .before .before .pre .1 in
-      (omega arith, (g .0, omega (arith, g .2), inv .1, sound-later _ _ _ (omega (arith, inv .0, g .4)) (g .6)))
+      (omega arith, (omega (arith, g .1), inv .1, sound-later _ _ _ (omega (arith, inv .0, g .3)) (g .5)))
 
   answer-requires : lts.Need-answer-requires (E t) (max-expand-at t) max-expand.Post Inv μ
   answer-requires c κs = search needs
@@ -111,15 +111,15 @@ module _ (t : ℕ) where
   passed : (c : lts.Joined3 (E t) (max-expand-at t) max-expand.Post Inv μ)
       → let a = c .before .before .before .before .before .before .before .before .before .args in
       let at = c .before .before .loop in
-      failed (c .if3 .steps) ≡ newLevel (a .level) (at .steps) (λ m. match matchClass (a .subject .now) (a .budget) (items (a .pattern .now) (a .end + 1)) (at .tried) m (capturesOf (a .t11)) (at .steps))
+      failed (c .if3 .steps) ≡ newLevel (a .level) (at .steps) (λ m. match (classIn (a .classes .now)) (a .subject .now) (a .budget) (items (a .pattern .now) (a .suffix + 1)) (at .tried) m (capturesOf (a .t11)) (at .steps))
   passed c =
       let a = c .before .before .before .before .before .before .before .before .before .args in
       let at = c .before .before .loop in
       let test = c .before .before .before .first-test in
       ⊎-elim
       (λ w.
-      tests.passed-sure (a .subject .now) (a .pattern .now) (a .budget) (a .end + 1) (at .tried) (a .level) (capturesOf (a .t11)) (at .steps) (c .if3 .steps) (c .before .before .before .before .if2 .is-open) (test .result)
-      (c .before .fails-at .ensures (w .0 .taken)) (test .ensures) (opened (c .before .before .before .before)) (w .3))
+      tests.passed-sure (classIn (a .classes .now)) (a .subject .now) (a .pattern .now) (a .budget) (a .suffix + 1) (at .tried) (a .level) (capturesOf (a .t11)) (at .steps) (c .if3 .steps) (a .t11 .count) (c .before .before .before .before .if2 .is-open) (test .result)
+      (c .before .fails-at .ensures (w .0 .taken)) (test .ensures) (pairs-few _ _) (opened (c .before .before .before .before)) (w .3))
       (λ w. tests.passed-tried _ _ _ (c .if3 .steps) (w .2 .ensures .0) (w .4 .left) (w .6)) (c .if3 .came)
 
   failed-requires : lts.Need-failed-requires (E t) (max-expand-at t) max-expand.Post Inv μ

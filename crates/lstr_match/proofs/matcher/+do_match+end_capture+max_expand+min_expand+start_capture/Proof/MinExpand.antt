@@ -9,10 +9,10 @@ use borrow.Author.Needs.{needs}
 use borrow.Author.Tests.{not-true, not-false}
 use lib.ListN.{length}
 use Rattle.lstr_item.specs.Match.{captureToClose, newLevel, failed, match}
-use Rattle.lstr_class.specs.Class.{matchClass}
+use Rattle.lstr_class.specs.Inner.{classIn}
 use Rattle.lstr_item.specs.Inner.{capturesOf, singleOf}
 use Rattle.lstr_match.proofs.Repeats as repeats
-use Rattle.lstr_item.proofs.Captures.{sound-later, is-open}
+use Rattle.lstr_item.proofs.Captures.{pairs-few, sound-later, is-open}
 use Rattle.lstr_item.proofs.Singles.{fits-inside}
 use Rattle.luck_pattern.specs.Items.{items}
 use Rattle.lstr_match.proofs.Passed as tests
@@ -31,12 +31,12 @@ abbrev E : ℕ → lts.Claims
 E t = (first-test.Asked, first-test.Learnt, fails-at.Asked, fails-at.Learnt, do-match-below t, do-match.Post, answer-reads.Asked, answer-reads.Learnt, spent-reads.Asked, spent-reads.Learnt, fits-reads.Asked, fits-reads.Learnt, failed-reads.Asked, failed-reads.Learnt)
 
 abbrev Inv : lts.InvT-loop
-Inv masks subject pattern at end place level budget steps kept₀ captures next is-open count first tested₀ tried₀ steps₀ kept tested tried steps' =
-    tests.Trying subject budget (singleOf pattern at end) (match matchClass subject budget (items pattern (end + 1))) level (capturesOf captures) place steps tested tried steps'
+Inv classes subject pattern at suffix place level budget steps kept₀ captures next is-open count first tested₀ tried₀ steps₀ kept tested tried steps' =
+    tests.Trying (classIn classes) subject budget (singleOf pattern at suffix) (match (classIn classes) subject budget (items pattern (suffix + 1))) level (capturesOf captures) place steps tested tried steps'
     × (tried ≤ length subject)
 
 abbrev μ : lts.MeasureT-loop
-μ masks subject pattern at end place level budget steps kept₀ captures next is-open count first tested₀ tried₀ steps₀ kept tested tried steps' = length subject + 1 - tried
+μ classes subject pattern at suffix place level budget steps kept₀ captures next is-open count first tested₀ tried₀ steps₀ kept tested tried steps' = length subject + 1 - tried
 
 module _ (t : ℕ) where
   add-next : lts.Need-add-next (E t) (min-expand-at t) min-expand.Post Inv μ
@@ -46,10 +46,10 @@ module _ (t : ℕ) where
   sub-is-open c = omega arith
 
   mul-is-open : lts.Need-mul-is-open (E t) (min-expand-at t) min-expand.Post Inv μ
-  mul-is-open c = omega (arith, c .before .before .before .pre .1 .4 .few)
+  mul-is-open c = omega (arith, c .before .before .before .pre .1 .3 .few)
 
   element-copy-out-is-open : lts.Need-element-copy-out-is-open (E t) (min-expand-at t) min-expand.Post Inv μ
-  element-copy-out-is-open c = omega (arith, c .before .before .before .pre .1 .4 .few)
+  element-copy-out-is-open c = omega (arith, c .before .before .before .pre .1 .3 .few)
 
   first-test-requires : lts.Need-first-test-requires (E t) (min-expand-at t) min-expand.Post Inv μ
   first-test-requires c κs = search needs
@@ -63,10 +63,10 @@ module _ (t : ℕ) where
       (λ w. let z : _≡_ {A = ℕ} 0 1 = cc in omega arith) (c .if1 .came)
 
   loop-holds : lts.Need-loop-holds (E t) (min-expand-at t) min-expand.Post Inv μ
-  loop-holds c = (tests.trying-starts _ _ _ _ _ _ _ _, omega (arith, c .before .before .before .before .pre .1 .3))
+  loop-holds c = (tests.trying-starts _ _ _ _ _ _ _ _ _, omega (arith, c .before .before .before .before .pre .1 .2))
 
   fails-at-requires : lts.Need-fails-at-requires (E t) (min-expand-at t) min-expand.Post Inv μ
-  fails-at-requires c κs = (c .before .before .before .before .before .pre .1 .0, λ h. c .before .first-test .ensures h .single)
+  fails-at-requires c κs = λ h. c .before .first-test .ensures h .single
 
   add-steps : lts.Need-add-steps (E t) (min-expand-at t) min-expand.Post Inv μ
   add-steps c = omega (arith, c .before .before .fails-at .ensures (c .before .if2 .taken) .left)
@@ -75,7 +75,7 @@ module _ (t : ℕ) where
   do-match-requires c κs =
       let inv = c .before .before .before .loop .inv in
       let pre = c .before .before .before .before .before .before .before .before .pre in
-      (omega arith, (pre .1 .0, omega (arith, pre .1 .2), inv .1, sound-later _ _ _ (inv .0 .behind) (pre .1 .4)))
+      (omega arith, (omega (arith, pre .1 .1), inv .1, sound-later _ _ _ (inv .0 .behind) (pre .1 .3)))
 
   answer-requires : lts.Need-answer-requires (E t) (min-expand-at t) min-expand.Post Inv μ
   answer-requires c κs = search needs
@@ -86,21 +86,21 @@ module _ (t : ℕ) where
       let here = c .before .before .before .before .before .before .before .loop in
       let r = c .before .before .before .do-match .ensures in
       repeats.answered _ _ _ _ _ _ (c .answer .ensures)
-      (tests.trying-ends (a .subject .now) (a .budget) (singleOf (a .pattern .now) (a .at) (a .end)) (match matchClass (a .subject .now) (a .budget) (items (a .pattern .now) (a .end + 1))) (a .level) (capturesOf (a .t10)) (a .place) (a .steps) (here .tested) (here .tried) (here .steps) (here .inv .0) _ _ (r .0) (c .before .if3 .taken), r .1) refl
+      (tests.trying-ends (classIn (a .classes .now)) (a .subject .now) (a .budget) (singleOf (a .pattern .now) (a .at) (a .suffix)) (match (classIn (a .classes .now)) (a .subject .now) (a .budget) (items (a .pattern .now) (a .suffix + 1))) (a .level) (capturesOf (a .t10)) (a .place) (a .steps) (here .tested) (here .tried) (here .steps) (here .inv .0) _ _ (r .0) (c .before .if3 .taken), r .1) refl
 
   -- the rest is passed where it is tried, by the single ahead or by a call
   passed : (c : lts.Joined2 (E t) (min-expand-at t) min-expand.Post Inv μ)
       → let a = c .before .before .before .before .before .before .before .args in
       let here = c .before .before .loop in
-      failed (c .if2 .steps) ≡ newLevel (a .level) (here .steps) (λ m. match matchClass (a .subject .now) (a .budget) (items (a .pattern .now) (a .end + 1)) (here .tried) m (capturesOf (a .t10)) (here .steps))
+      failed (c .if2 .steps) ≡ newLevel (a .level) (here .steps) (λ m. match (classIn (a .classes .now)) (a .subject .now) (a .budget) (items (a .pattern .now) (a .suffix + 1)) (here .tried) m (capturesOf (a .t10)) (here .steps))
   passed c =
       let a = c .before .before .before .before .before .before .before .args in
       let here = c .before .before .loop in
       let test = c .before .before .before .first-test in
       ⊎-elim
       (λ w.
-      tests.passed-sure (a .subject .now) (a .pattern .now) (a .budget) (a .end + 1) (here .tried) (a .level) (capturesOf (a .t10)) (here .steps) (c .if2 .steps) (c .before .before .before .before .if1 .is-open) (test .result)
-      (c .before .fails-at .ensures (w .0 .taken)) (test .ensures) (opened (c .before .before .before .before)) (w .3))
+      tests.passed-sure (classIn (a .classes .now)) (a .subject .now) (a .pattern .now) (a .budget) (a .suffix + 1) (here .tried) (a .level) (capturesOf (a .t10)) (here .steps) (c .if2 .steps) (a .t10 .count) (c .before .before .before .before .if1 .is-open) (test .result)
+      (c .before .fails-at .ensures (w .0 .taken)) (test .ensures) (pairs-few _ _) (opened (c .before .before .before .before)) (w .3))
       (λ w. tests.passed-tried _ _ _ (c .if2 .steps) (w .2 .ensures .0) (w .4 .left) (w .6)) (c .if2 .came)
 
   spent-requires : lts.Need-spent-requires (E t) (min-expand-at t) min-expand.Post Inv μ
@@ -111,13 +111,13 @@ module _ (t : ℕ) where
       let a = c .before .before .before .before .before .before .before .before .before .before .args in
       let here = c .before .before .before .before .before .loop in
       repeats.ended _ _ _ _ _ (c .spent .ensures)
-      (tests.trying-spent (a .subject .now) (a .budget) (singleOf (a .pattern .now) (a .at) (a .end)) (match matchClass (a .subject .now) (a .budget) (items (a .pattern .now) (a .end + 1))) (a .level) (capturesOf (a .t10)) (a .place) (a .steps) (here .tested) (here .tried) (here .steps) (here .inv .0) _ (passed (c .before .before .before)) (c .before .before .if4 .taken) (c .before .if5 .taken))
+      (tests.trying-spent (classIn (a .classes .now)) (a .subject .now) (a .budget) (singleOf (a .pattern .now) (a .at) (a .suffix)) (match (classIn (a .classes .now)) (a .subject .now) (a .budget) (items (a .pattern .now) (a .suffix + 1))) (a .level) (capturesOf (a .t10)) (a .place) (a .steps) (here .tested) (here .tried) (here .steps) (here .inv .0) _ (passed (c .before .before .before)) (c .before .before .if4 .taken) (c .before .if5 .taken))
 
   add-steps-2 : lts.Need-add-steps-2 (E t) (min-expand-at t) min-expand.Post Inv μ
   add-steps-2 c = omega arith
 
   fits-requires : lts.Need-fits-requires (E t) (min-expand-at t) min-expand.Post Inv μ
-  fits-requires c κs = (c .before .before .before .before .before .before .before .before .before .before .pre .1 .0, c .before .before .before .before .before .before .before .before .before .before .pre .1 .1)
+  fits-requires c κs = c .before .before .before .before .before .before .before .before .before .before .pre .1 .0
 
   failed-requires : lts.Need-failed-requires (E t) (min-expand-at t) min-expand.Post Inv μ
   failed-requires c κs = search needs
@@ -127,7 +127,7 @@ module _ (t : ℕ) where
       let a = c .before .before .before .before .before .before .before .before .before .before .before .before .before .args in
       let here = c .before .before .before .before .before .before .before .before .loop in
       repeats.ended _ _ _ _ _ (c .failed .ensures)
-      (tests.trying-fails (a .subject .now) (a .budget) (singleOf (a .pattern .now) (a .at) (a .end)) (match matchClass (a .subject .now) (a .budget) (items (a .pattern .now) (a .end + 1))) (a .level) (capturesOf (a .t10)) (a .place) (a .steps) (here .tested) (here .tried) (here .steps) (here .inv .0) _ (passed (c .before .before .before .before .before .before)) (c .before .before .before .before .before .if4 .taken) (c .before .before .before .before .if5 .left) (sym (c .before .before .fits2 .ensures) ∙ not-true _ (c .before .if6 .taken)))
+      (tests.trying-fails (classIn (a .classes .now)) (a .subject .now) (a .budget) (singleOf (a .pattern .now) (a .at) (a .suffix)) (match (classIn (a .classes .now)) (a .subject .now) (a .budget) (items (a .pattern .now) (a .suffix + 1))) (a .level) (capturesOf (a .t10)) (a .place) (a .steps) (here .tested) (here .tried) (here .steps) (here .inv .0) _ (passed (c .before .before .before .before .before .before)) (c .before .before .before .before .before .if4 .taken) (c .before .before .before .before .if5 .left) (sym (c .before .before .fits2 .ensures) ∙ not-true _ (c .before .if6 .taken)))
 
   -- a byte is left: it was tested, or it is the first
   inside : (c : lts.Joined4 (E t) (min-expand-at t) min-expand.Post Inv μ) → c .before .before .before .loop .tried < length (c .before .before .before .before .before .before .before .before .args .subject .now)
@@ -135,7 +135,7 @@ module _ (t : ℕ) where
       let a = c .before .before .before .before .before .before .before .before .args in
       let here = c .before .before .before .loop in
       ⊎-elim (λ w. fits-inside _ _ _ _ (sym (w .3 .ensures) ∙ not-false _ (w .4 .left)))
-      (λ w. omega (arith, tests.at-first (a .subject .now) (a .budget) (singleOf (a .pattern .now) (a .at) (a .end)) (match matchClass (a .subject .now) (a .budget) (items (a .pattern .now) (a .end + 1))) (a .level) (capturesOf (a .t10)) (a .place) (a .steps) (here .tested) (here .tried) (here .steps) (here .inv .0) (w .0 .left), c .before .before .before .before .before .before .before .before .pre .1 .3)) (c .if4 .came)
+      (λ w. omega (arith, tests.at-first (classIn (a .classes .now)) (a .subject .now) (a .budget) (singleOf (a .pattern .now) (a .at) (a .suffix)) (match (classIn (a .classes .now)) (a .subject .now) (a .budget) (items (a .pattern .now) (a .suffix + 1))) (a .level) (capturesOf (a .t10)) (a .place) (a .steps) (here .tested) (here .tried) (here .steps) (here .inv .0) (w .0 .left), c .before .before .before .before .before .before .before .before .pre .1 .2)) (c .if4 .came)
 
   add-tried : lts.Need-add-tried (E t) (min-expand-at t) min-expand.Post Inv μ
   add-tried c = omega (arith, inside c, c .before .before .before .before .before .before .before .before .good .1 .0)
@@ -150,8 +150,8 @@ module _ (t : ℕ) where
         ⊎-elim
             (λ w.
             let f = sym (w .3 .ensures) ∙ not-false _ (w .4 .left) in
-            tests.trying-as (a .subject .now) (a .budget) (singleOf (a .pattern .now) (a .at) (a .end)) (match matchClass (a .subject .now) (a .budget) (items (a .pattern .now) (a .end + 1))) (a .level) (capturesOf (a .t10)) (a .place) (a .steps) _ _ _ _ _ (w .5) (w .6) (tests.trying-next (a .subject .now) (a .budget) (singleOf (a .pattern .now) (a .at) (a .end)) (match matchClass (a .subject .now) (a .budget) (items (a .pattern .now) (a .end + 1))) (a .level) (capturesOf (a .t10)) (a .place) (a .steps) (here .tested) (here .tried) (here .steps) (here .inv .0) _ (passed (c .before)) (w .0 .taken) (w .1 .left) f (inside c)))
-            (λ w. tests.trying-as (a .subject .now) (a .budget) (singleOf (a .pattern .now) (a .at) (a .end)) (match matchClass (a .subject .now) (a .budget) (items (a .pattern .now) (a .end + 1))) (a .level) (capturesOf (a .t10)) (a .place) (a .steps) _ _ _ _ _ (w .1) (w .2) (tests.trying-second (a .subject .now) (a .budget) (singleOf (a .pattern .now) (a .at) (a .end)) (match matchClass (a .subject .now) (a .budget) (items (a .pattern .now) (a .end + 1))) (a .level) (capturesOf (a .t10)) (a .place) (a .steps) (here .tested) (here .tried) (here .steps) (here .inv .0) _ (passed (c .before)) (w .0 .left))) (c .if4 .came),
+            tests.trying-as (classIn (a .classes .now)) (a .subject .now) (a .budget) (singleOf (a .pattern .now) (a .at) (a .suffix)) (match (classIn (a .classes .now)) (a .subject .now) (a .budget) (items (a .pattern .now) (a .suffix + 1))) (a .level) (capturesOf (a .t10)) (a .place) (a .steps) _ _ _ _ _ (w .5) (w .6) (tests.trying-next (classIn (a .classes .now)) (a .subject .now) (a .budget) (singleOf (a .pattern .now) (a .at) (a .suffix)) (match (classIn (a .classes .now)) (a .subject .now) (a .budget) (items (a .pattern .now) (a .suffix + 1))) (a .level) (capturesOf (a .t10)) (a .place) (a .steps) (here .tested) (here .tried) (here .steps) (here .inv .0) _ (passed (c .before)) (w .0 .taken) (w .1 .left) f (inside c)))
+            (λ w. tests.trying-as (classIn (a .classes .now)) (a .subject .now) (a .budget) (singleOf (a .pattern .now) (a .at) (a .suffix)) (match (classIn (a .classes .now)) (a .subject .now) (a .budget) (items (a .pattern .now) (a .suffix + 1))) (a .level) (capturesOf (a .t10)) (a .place) (a .steps) _ _ _ _ _ (w .1) (w .2) (tests.trying-second (classIn (a .classes .now)) (a .subject .now) (a .budget) (singleOf (a .pattern .now) (a .at) (a .suffix)) (match (classIn (a .classes .now)) (a .subject .now) (a .budget) (items (a .pattern .now) (a .suffix + 1))) (a .level) (capturesOf (a .t10)) (a .place) (a .steps) (here .tested) (here .tried) (here .steps) (here .inv .0) _ (passed (c .before)) (w .0 .left))) (c .if4 .came),
         omega (arith, inside c),
       )
 

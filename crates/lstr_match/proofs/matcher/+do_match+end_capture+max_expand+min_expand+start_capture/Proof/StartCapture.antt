@@ -22,7 +22,7 @@ module _ (t : ℕ) where
   returns c =
       let z = c .before .before .before .before in
       repeats.ended _ _ _ _ _ (c .raised .ensures)
-      (all-taken (z .args .captures) (all-pairs (z .args .captures .pairs) (z .good .1 .1 .1 .1 .1 .1 .1 .1 .0 .1 .1 .1 .0 .1 .0 .1)) (z .pre .1 .4 .few) _ _ _ _ _ (c .before .if1 .taken))
+      (all-taken (z .args .captures) (all-pairs (z .args .captures .pairs) (z .good .1 .1 .1 .1 .1 .1 .1 .1 .0 .1 .1 .1 .0 .1 .0 .1)) (z .pre .1 .3 .few) _ _ _ _ _ (c .before .if1 .taken))
 
   mul-t17 : lts.Need-mul-t17 (E t) (start-capture-at t) start-capture.Post
   mul-t17 c = omega arith
@@ -34,7 +34,7 @@ module _ (t : ℕ) where
   add-opened c = omega arith
 
   do-match-requires : lts.Need-do-match-requires (E t) (start-capture-at t) start-capture.Post
-  do-match-requires c κs = (omega arith, (c .before .before .before .before .pre .1 .0, c .before .before .before .before .pre .1 .1, c .before .before .before .before .pre .1 .2, sound-started _ _ _ (c .before .before .before .before .pre .1 .3) (c .before .if1 .left) (c .before .before .before .before .pre .1 .4)))
+  do-match-requires c κs = (omega arith, (c .before .before .before .before .pre .1 .0, c .before .before .before .before .pre .1 .1, sound-started _ _ _ (c .before .before .before .before .pre .1 .2) (c .before .if1 .left) (c .before .before .before .before .pre .1 .3)))
 
   answer-requires : lts.Need-answer-requires (E t) (start-capture-at t) start-capture.Post
   answer-requires c κs = search needs
@@ -43,7 +43,7 @@ module _ (t : ℕ) where
   returns-2 c =
       let z = c .before .before .before .before .before .before in
       repeats.answered _ _ _ _ _ _ (c .answer .ensures) (c .before .do-match .ensures)
-      (starts-capture (z .args .captures) (all-pairs (z .args .captures .pairs) (z .good .1 .1 .1 .1 .1 .1 .1 .1 .0 .1 .1 .1 .0 .1 .0 .1)) (z .pre .1 .4 .few) _ _ _ _ _ (c .before .before .before .if1 .left))
+      (starts-capture (z .args .captures) (all-pairs (z .args .captures .pairs) (z .good .1 .1 .1 .1 .1 .1 .1 .1 .0 .1 .1 .1 .0 .1 .0 .1)) (z .pre .1 .3 .few) _ _ _ _ _ (c .before .before .before .if1 .left))
 
 pub start-capture-proof : {M : Type 1} (t : ℕ) → lts.Closed (E t) (start-capture-at t) start-capture.Post M
 start-capture-proof t =

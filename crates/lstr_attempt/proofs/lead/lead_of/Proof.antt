@@ -1,14 +1,15 @@
--- `lstr_attempt::attempt::lead_of` meets its contract. Assumes nothing.
+-- `lstr_attempt::lead::lead_of` meets its contract. Assumes nothing.
 use native.Mathlib.Omega.{arith}
 use mathlib.Core.Path.{sym, subst, _∙_}
 use mathlib.Core.Logic.{⊎-elim}
 use borrow.Author.Needs.{needs}
 use borrow.Author.Tests.{leb-true, not-true, not-false}
 use Rattle.lstr_item.specs.Inner.{repeatAs, ItemAt}
+use Rattle.lstr_item.proofs.FirstTests.{sure-first}
 use Rattle.lstr_item.proofs.Turns as turns
 use Rattle.lstr_attempt.proofs.Leads as leads
-use Rattle.lstr_attempt.proofs.attempt.lead_of.Statement.{statement}
-use Rattle.lstr_attempt.proofs.attempt.lead_of.Tie as tie
+use Rattle.lstr_attempt.proofs.lead.lead_of.Statement.{statement}
+use Rattle.lstr_attempt.proofs.lead.lead_of.Tie as tie
 
 read-requires : tie.Need-read-requires
 read-requires c κs = search needs
@@ -36,23 +37,26 @@ has-to-fit-requires c κs = search needs
 enum-known-item-2 : tie.Need-enum-known-item-2
 enum-known-item-2 c = search needs
 
-lead-behind-requires : tie.Need-lead-behind-requires
-lead-behind-requires c κs =
-    let a = c .before .before .before .before .before .args in
-    let it = subst (ItemAt (a .pattern .now) 0) (c .before .item2 .given .1) (c .before .before .before .read .ensures) in
-    (leads.leads-start (a .pattern .now) _ it, λ e. it)
+single-at-requires : tie.Need-single-at-requires
+single-at-requires c κs = search needs
+
+opening-requires : tie.Need-opening-requires
+opening-requires c κs = search needs
 
 enum-known-item-3 : tie.Need-enum-known-item-3
 enum-known-item-3 c = search needs
 
-lead-behind-requires-2 : tie.Need-lead-behind-requires-2
-lead-behind-requires-2 c κs =
-    let a = c .before .before .before .before .before .args in
-    let it = subst (ItemAt (a .pattern .now) 0) (c .before .item3 .given .1) (c .before .before .before .read .ensures) in
-    (leads.leads-position (a .pattern .now) _ it, λ e. absurd (turns.false-true e))
+single-at-requires-2 : tie.Need-single-at-requires-2
+single-at-requires-2 c κs = search needs
 
-no-lead-requires : tie.Need-no-lead-requires
-no-lead-requires c κs = search needs
+opening-requires-2 : tie.Need-opening-requires-2
+opening-requires-2 c κs = search needs
+
+nothing-requires : tie.Need-nothing-requires
+nothing-requires c κs = search needs
+
+opening-requires-3 : tie.Need-opening-requires-3
+opening-requires-3 c κs = search needs
 
 returns : tie.Need-returns
 returns c =
@@ -61,23 +65,31 @@ returns c =
     let k = repeatAs (c .before .before .before .before .before .item .given .0 .1 .0) in
     record {
       single = λ h. it .single;
-      fails = λ h n. leads.first-required (a .pattern .now) _ _ k (it .on) (sym (c .has-to-fit .ensures) ∙ not-false _ n);
+      fails = λ h n. sure-first (a .pattern .now) _ k (sym (c .has-to-fit .ensures) ∙ not-false _ n) it;
       skips = λ n. leads.first-skipped (a .pattern .now) _ _ k (it .on) (sym (c .has-to-fit .ensures) ∙ not-true _ n);
       goes = λ o. leads.first-passed (a .pattern .now) _ _ k (it .on) (sym (c .before .is-once .ensures) ∙ o);
       last = λ e.
           ⊎-elim (λ w. leads.only-greedy (a .pattern .now) _ _ k (it .on) (sym (c .before .before .before .is-greedy .ensures) ∙ w .0 .taken) (leb-true _ _ (sym (w .1) ∙ e)))
           (λ w. absurd (turns.false-true (sym (w .1) ∙ e))) (c .before .before .if1 .came);
-      captured = λ e. absurd (turns.false-true e);
+      captured = λ h e. absurd (turns.false-true e);
     }
 
 returns-2 : tie.Need-returns-2
-returns-2 c = c .lead-behind .ensures
+returns-2 c =
+    let pat = c .before .before .before .before .before .before .before .args .pattern .now in
+    let it = subst (ItemAt pat 0) (c .before .before .before .item2 .given .1) (c .before .before .before .before .before .read .ensures) in
+    rw (c .opening .ensures) (leads.start-leads pat (c .before .single-at .result) _ it (c .before .single-at .ensures))
 
 returns-3 : tie.Need-returns-3
-returns-3 c = c .lead-behind2 .ensures
+returns-3 c =
+    let pat = c .before .before .before .before .before .before .before .args .pattern .now in
+    let it = subst (ItemAt pat 0) (c .before .before .before .item3 .given .1) (c .before .before .before .before .before .read .ensures) in
+    rw (c .opening2 .ensures) (leads.position-leads pat (c .before .single-at2 .result) _ it (c .before .single-at2 .ensures))
 
 returns-4 : tie.Need-returns-4
-returns-4 c = c .no-lead .ensures (c .before .before .before .before .args .pattern .now)
+returns-4 c =
+    let pat = c .before .before .before .before .before .args .pattern .now in
+    rw (c .opening3 .ensures) (leads.no-lead pat (c .before .nothing .result) (c .before .nothing .ensures))
 
 pub lead-of-spec : {M : Type 1} → statement M
 lead-of-spec =
@@ -90,10 +102,13 @@ lead-of-spec =
     is-once-requires
     has-to-fit-requires
     enum-known-item-2
-    lead-behind-requires
+    single-at-requires
+    opening-requires
     enum-known-item-3
-    lead-behind-requires-2
-    no-lead-requires
+    single-at-requires-2
+    opening-requires-2
+    nothing-requires
+    opening-requires-3
     returns
     returns-2
     returns-3
