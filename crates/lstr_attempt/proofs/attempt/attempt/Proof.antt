@@ -73,23 +73,8 @@ behind-repeat f e = turns.behind-repeat _ _ _ _ (kind f) (single f .on) e
 items-holds : tie.Need-items-holds Inv-items μ-items
 items-holds c = (refl, c .before .before .pre .0, c .before .before .pre .1)
 
-spent-requires : tie.Need-spent-requires Inv-items μ-items
-spent-requires c κs = search needs
-
 returns : tie.Need-returns Inv-items μ-items
 returns c = repeats.ended _ _ _ _ _ (c .spent .ensures) (turns.steps-spent _ _ (c .before .before .before .before .before .args .pattern .now) _ _ _ _ _ _ (c .before .if1 .taken) ∙ c .before .before .items .inv .0)
-
-add-begun : tie.Need-add-begun Inv-items μ-items
-add-begun c = omega arith
-
-read-requires : tie.Need-read-requires Inv-items μ-items
-read-requires c κs = search needs
-
-enum-told : tie.Need-enum-told Inv-items μ-items
-enum-told c = search needs
-
-matched-requires : tie.Need-matched-requires Inv-items μ-items
-matched-requires c κs = search needs
 
 returns-2 : tie.Need-returns-2 Inv-items μ-items
 returns-2 c =
@@ -97,20 +82,11 @@ returns-2 c =
     leads.bare-match _ _ _ _ _ _ (c .matched .ensures) (turn d .items .inv .2)
     (turns.at-end _ _ _ _ _ _ _ _ _ (paid d) (item d _ (c .before .enum-told .given .1)) ∙ turn d .items .inv .0)
 
-enum-told-2 : tie.Need-enum-told-2 Inv-items μ-items
-enum-told-2 c = search needs
-
-matched-requires-2 : tie.Need-matched-requires-2 Inv-items μ-items
-matched-requires-2 c κs = search needs
-
 returns-3 : tie.Need-returns-3 Inv-items μ-items
 returns-3 c =
     let d = c .before .before .before .before in
     leads.bare-match _ _ _ _ _ _ (c .matched2 .ensures) (turn d .items .inv .2)
     (turns.at-anchor _ _ _ _ _ _ _ _ _ (paid d) (item d _ (c .before .before .enum-told2 .given .1)) (c .before .if2 .taken) ∙ turn d .items .inv .0)
-
-failed-requires : tie.Need-failed-requires Inv-items μ-items
-failed-requires c κs = search needs
 
 returns-4 : tie.Need-returns-4 Inv-items μ-items
 returns-4 c =
@@ -118,17 +94,8 @@ returns-4 c =
     repeats.ended _ _ _ _ _ (c .failed .ensures)
     (turns.not-at-anchor _ _ _ _ _ _ _ _ _ (paid d) (item d _ (c .before .before .enum-told2 .given .1)) (c .before .if2 .left) ∙ turn d .items .inv .0)
 
-enum-known-item : tie.Need-enum-known-item Inv-items μ-items
-enum-known-item c = search needs
-
 fits-requires : tie.Need-fits-requires Inv-items μ-items
 fits-requires c κs = item (c .before .before .before) _ (c .before .item .given .1) .single
-
-has-to-fit-requires : tie.Need-has-to-fit-requires Inv-items μ-items
-has-to-fit-requires c κs = search needs
-
-failed-requires-2 : tie.Need-failed-requires-2 Inv-items μ-items
-failed-requires-2 c κs = search needs
 
 returns-5 : tie.Need-returns-5 Inv-items μ-items
 returns-5 c =
@@ -155,9 +122,6 @@ items-again c =
       turn (read f) .items .inv .2,
     )
 
-is-once-requires : tie.Need-is-once-requires Inv-items μ-items
-is-once-requires c κs = search needs
-
 add-place : tie.Need-add-place Inv-items μ-items
 add-place c =
     let g = fits-inside _ _ _ _ (sym (c .before .before .before .fits2 .ensures) ∙ not-false _ (c .before .before .if3 .left)) in
@@ -181,16 +145,10 @@ items-again-2 c =
 add-if6 : tie.Need-add-if6 Inv-items μ-items
 add-if6 c = omega (arith, behind-repeat (c .before .before .before) (sym (c .before .is-once .ensures) ∙ c .if5 .left))
 
-is-greedy-requires : tie.Need-is-greedy-requires Inv-items μ-items
-is-greedy-requires c κs = search needs
-
 last-repeat-requires : tie.Need-last-repeat-requires Inv-items μ-items
 last-repeat-requires c κs =
     let f = c .before .before .before .before .before .before in
     (single f .single, fits-inside _ _ _ _ (sym (f .fits2 .ensures) ∙ not-false _ (c .before .before .before .before .before .if3 .left)))
-
-answer-requires : tie.Need-answer-requires Inv-items μ-items
-answer-requires c κs = search needs
 
 returns-6 : tie.Need-returns-6 Inv-items μ-items
 returns-6 c =
@@ -198,16 +156,10 @@ returns-6 c =
     let w = leads.last-greedy _ _ _ _ _ _ _ _ (paid (read f)) _ _ (sym (f .fits2 .ensures) ∙ not-false _ (c .before .before .before .before .before .before .before .if3 .left)) (kind f) (sym (c .before .before .before .is-greedy .ensures) ∙ not-false _ (c .before .before .if7 .left)) (c .before .before .before .before .if6 .left) (single f .on) in
     repeats.answered _ _ _ _ _ _ (c .answer .ensures) (c .before .last-repeat .ensures _ (w .0) (w .1)) (w .2 ∙ turn (read f) .items .inv .0)
 
-enum-known-item-2 : tie.Need-enum-known-item-2 Inv-items μ-items
-enum-known-item-2 c = search needs
-
 first-capture-requires : tie.Need-first-capture-requires Inv-items μ-items
 first-capture-requires c κs =
     let d = c .before .before .before .before in
     (item d _ (c .before .before .item2 .given .1) .inside, turn d .items .inv .2, omega arith)
-
-answer-requires-2 : tie.Need-answer-requires-2 Inv-items μ-items
-answer-requires-2 c κs = search needs
 
 returns-7 : tie.Need-returns-7 Inv-items μ-items
 returns-7 c =
@@ -215,16 +167,10 @@ returns-7 c =
     repeats.answered _ _ _ _ _ _ (c .answer2 .ensures) (c .before .first-capture .ensures)
     (turns.at-start _ _ _ _ _ _ _ _ _ (paid d) _ _ (is-open _ _ refl) (item d _ (c .before .before .before .before .item2 .given .1)) ∙ turn d .items .inv .0)
 
-enum-known-item-3 : tie.Need-enum-known-item-3 Inv-items μ-items
-enum-known-item-3 c = search needs
-
 first-capture-requires-2 : tie.Need-first-capture-requires-2 Inv-items μ-items
 first-capture-requires-2 c κs =
     let d = c .before .before .before .before in
     (item d _ (c .before .before .item3 .given .1) .inside, turn d .items .inv .2, omega arith)
-
-answer-requires-3 : tie.Need-answer-requires-3 Inv-items μ-items
-answer-requires-3 c κs = search needs
 
 returns-8 : tie.Need-returns-8 Inv-items μ-items
 returns-8 c =
@@ -234,9 +180,6 @@ returns-8 c =
 
 first-level-requires : tie.Need-first-level-requires Inv-items μ-items
 first-level-requires c κs = (c .before .before .before .before .items .inv .1, c .before .before .before .before .items .inv .2)
-
-answer-requires-4 : tie.Need-answer-requires-4 Inv-items μ-items
-answer-requires-4 c κs = search needs
 
 returns-9 : tie.Need-returns-9 Inv-items μ-items
 returns-9 c = repeats.answered _ _ _ _ _ _ (c .answer4 .ensures) (c .before .first-level .ensures) (c .before .before .before .before .before .before .items .inv .0)
@@ -248,43 +191,38 @@ attempt-spec =
     Inv-items
     μ-items
     items-holds
-    spent-requires
+    (λ c κs. search needs)
     returns
-    add-begun
-    read-requires
-    enum-told
-    matched-requires
+    (λ c. omega arith) (λ c κs. search needs) (λ c. search needs) (λ c κs. search needs)
     returns-2
-    enum-told-2
-    matched-requires-2
+    (λ c. search needs) (λ c κs. search needs)
     returns-3
-    failed-requires
+    (λ c κs. search needs)
     returns-4
-    enum-known-item
+    (λ c. search needs)
     fits-requires
-    has-to-fit-requires
-    failed-requires-2
+    (λ c κs. search needs) (λ c κs. search needs)
     returns-5
     add-at
     items-less
     items-again
-    is-once-requires
+    (λ c κs. search needs)
     add-place
     items-less-2
     items-again-2
     add-if6
-    is-greedy-requires
+    (λ c κs. search needs)
     last-repeat-requires
-    answer-requires
+    (λ c κs. search needs)
     returns-6
-    enum-known-item-2
+    (λ c. search needs)
     first-capture-requires
-    answer-requires-2
+    (λ c κs. search needs)
     returns-7
-    enum-known-item-3
+    (λ c. search needs)
     first-capture-requires-2
-    answer-requires-3
+    (λ c κs. search needs)
     returns-8
     first-level-requires
-    answer-requires-4
+    (λ c κs. search needs)
     returns-9)

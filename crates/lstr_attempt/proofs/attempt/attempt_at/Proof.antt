@@ -8,9 +8,6 @@ use Rattle.lstr_attempt.proofs.Leads as leads
 use Rattle.lstr_attempt.proofs.attempt.attempt_at.Statement.{statement}
 use Rattle.lstr_attempt.proofs.attempt.attempt_at.Tie as tie
 
-sub-if2 : tie.Need-sub-if2
-sub-if2 c = search needs
-
 fits-requires : tie.Need-fits-requires
 fits-requires c κs = c .before .before .before .before .before .before .pre .0 .single (c .before .before .if1 .taken)
 
@@ -21,25 +18,16 @@ attempt-fitting-requires c κs =
     let h = c .before .before .before .if2 .taken in
     (q .0, z, omega (arith, q .2), sym (c .before .before .fits2 .ensures) ∙ c .before .if3 .taken)
 
-answer-requires : tie.Need-answer-requires
-answer-requires c κs = search needs
-
 returns : tie.Need-returns
 returns c = repeats.answered _ _ _ _ _ _ (c .answer .ensures) (c .before .attempt-fitting .ensures) refl
 
 add-attempt-from : tie.Need-add-attempt-from
 add-attempt-from c = omega (arith, c .before .before .before .before .before .before .before .before .before .before .pre .0 .skips (c .before .if4 .taken) .inside)
 
-add-attempt-from-2 : tie.Need-add-attempt-from-2
-add-attempt-from-2 c = search needs
-
 attempt-from-requires : tie.Need-attempt-from-requires
 attempt-from-requires c κs =
     let q = c .before .before .before .before .before .before .before .before .before .before .before .pre in
     (q .0 .skips (c .before .before .if4 .taken) .inside, q .1)
-
-answer-requires-2 : tie.Need-answer-requires-2
-answer-requires-2 c κs = search needs
 
 returns-2 : tie.Need-returns-2
 returns-2 c =
@@ -52,12 +40,6 @@ returns-2 c =
     repeats.answered _ _ _ _ _ _ (c .answer2 .ensures) (c .before .attempt-from .ensures)
     (on (classIn (a .classes .now)) (a .subject .now) (a .budget) (a .place) (a .place) (a .steps) (omega arith) (omega (arith, q .2)) f)
 
-add-failed : tie.Need-add-failed
-add-failed c = search needs
-
-failed-requires : tie.Need-failed-requires
-failed-requires c κs = search needs
-
 returns-3 : tie.Need-returns-3
 returns-3 c =
     let a = c .before .before .before .before .before .before .before .before .before .before .before .args in
@@ -68,12 +50,6 @@ returns-3 c =
     repeats.ended _ _ _ _ _ (c .failed .ensures)
     (leads.fails-first (classIn (a .classes .now)) (a .subject .now) (a .pattern .now) (a .budget) (a .place) (a .steps) (a .lead .first) (q .0 .fails z (c .before .before .if4 .left)) (omega (arith, q .2)) f)
 
-attempt-from-requires-2 : tie.Need-attempt-from-requires-2
-attempt-from-requires-2 c κs = search needs
-
-answer-requires-3 : tie.Need-answer-requires-3
-answer-requires-3 c κs = search needs
-
 returns-4 : tie.Need-returns-4
 returns-4 c = repeats.answered _ _ _ _ _ _ (c .answer3 .ensures) (c .before .attempt-from2 .ensures) refl
 
@@ -81,19 +57,17 @@ pub attempt-at-spec : {M : Type 1} → statement M
 attempt-at-spec =
     tie.close
     (tie.spec
-    sub-if2
+    (λ c. search needs)
     fits-requires
     attempt-fitting-requires
-    answer-requires
+    (λ c κs. search needs)
     returns
     add-attempt-from
-    add-attempt-from-2
+    (λ c. search needs)
     attempt-from-requires
-    answer-requires-2
+    (λ c κs. search needs)
     returns-2
-    add-failed
-    failed-requires
+    (λ c. search needs) (λ c κs. search needs)
     returns-3
-    attempt-from-requires-2
-    answer-requires-3
+    (λ c κs. search needs) (λ c κs. search needs)
     returns-4)

@@ -10,16 +10,10 @@ use Rattle.lstr_match.proofs.Repeats as repeats
 use Rattle.lstr_attempt.proofs.attempt.attempt_fitting.Statement.{statement}
 use Rattle.lstr_attempt.proofs.attempt.attempt_fitting.Tie as tie
 
-add-begun : tie.Need-add-begun
-add-begun c = search needs
-
 last-repeat-requires : tie.Need-last-repeat-requires
 last-repeat-requires c κs =
     let q = c .before .before .before .pre in
     (q .0 .single (q .1), fits-inside _ _ _ _ (q .3))
-
-answer-requires : tie.Need-answer-requires
-answer-requires c κs = search needs
 
 returns : tie.Need-returns
 returns c =
@@ -36,9 +30,6 @@ attempt-from-requires c κs =
     let q = c .before .before .before .before .before .pre in
     (q .0 .goes (c .before .if2 .taken) .inside, omega (arith, fits-inside _ _ _ _ (q .3)))
 
-answer-requires-2 : tie.Need-answer-requires-2
-answer-requires-2 c κs = search needs
-
 returns-2 : tie.Need-returns-2
 returns-2 c =
     let a = c .before .before .before .before .before .before .before .args in
@@ -50,9 +41,6 @@ first-capture-requires : tie.Need-first-capture-requires
 first-capture-requires c κs =
     let q = c .before .before .before .before .before .before .pre in
     (q .0 .captured (q .1) (c .before .if3 .taken) .inside, omega (arith, fits-inside _ _ _ _ (q .3)), omega arith)
-
-answer-requires-3 : tie.Need-answer-requires-3
-answer-requires-3 c κs = search needs
 
 returns-3 : tie.Need-returns-3
 returns-3 c =
@@ -66,9 +54,6 @@ attempt-requires c κs =
     let q = c .before .before .before .before .before .before .pre in
     (omega arith, omega (arith, fits-inside _ _ _ _ (q .3)))
 
-answer-requires-4 : tie.Need-answer-requires-4
-answer-requires-4 c κs = search needs
-
 returns-4 : tie.Need-returns-4
 returns-4 c = repeats.answered _ _ _ _ _ _ (c .answer4 .ensures) (c .before .attempt .ensures) refl
 
@@ -76,17 +61,17 @@ pub attempt-fitting-spec : {M : Type 1} → statement M
 attempt-fitting-spec =
     tie.close
     (tie.spec
-    add-begun
+    (λ c. search needs)
     last-repeat-requires
-    answer-requires
+    (λ c κs. search needs)
     returns
     add-attempt-from
     attempt-from-requires
-    answer-requires-2
+    (λ c κs. search needs)
     returns-2
     first-capture-requires
-    answer-requires-3
+    (λ c κs. search needs)
     returns-3
     attempt-requires
-    answer-requires-4
+    (λ c κs. search needs)
     returns-4)

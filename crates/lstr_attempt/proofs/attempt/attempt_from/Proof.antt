@@ -9,23 +9,11 @@ use Rattle.lstr_attempt.proofs.Leads as leads
 use Rattle.lstr_attempt.proofs.attempt.attempt_from.Statement.{statement}
 use Rattle.lstr_attempt.proofs.attempt.attempt_from.Tie as tie
 
-add-matched : tie.Need-add-matched
-add-matched c = search needs
-
-matched-requires : tie.Need-matched-requires
-matched-requires c κs = search needs
-
 returns : tie.Need-returns
 returns c =
     let a = c .before .before .before .before .before .args in
     leads.bare-match _ _ _ _ _ _ (c .matched .ensures) (c .before .before .before .before .before .pre .1)
     (turns.at-end (classIn (a .classes .now)) (a .subject .now) (a .pattern .now) (a .budget) (a .at) (a .place) 1 _ (a .steps) (c .before .if2 .taken) (items-end (a .pattern .now) (a .at) (c .before .before .if1 .taken)))
-
-attempt-requires : tie.Need-attempt-requires
-attempt-requires c κs = search needs
-
-answer-requires : tie.Need-answer-requires
-answer-requires c κs = search needs
 
 returns-2 : tie.Need-returns-2
 returns-2 c = repeats.answered _ _ _ _ _ _ (c .answer .ensures) (c .before .attempt .ensures) refl
@@ -34,9 +22,7 @@ pub attempt-from-spec : {M : Type 1} → statement M
 attempt-from-spec =
     tie.close
     (tie.spec
-    add-matched
-    matched-requires
+    (λ c. search needs) (λ c κs. search needs)
     returns
-    attempt-requires
-    answer-requires
+    (λ c κs. search needs) (λ c κs. search needs)
     returns-2)

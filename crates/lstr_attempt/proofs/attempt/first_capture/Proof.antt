@@ -8,16 +8,10 @@ use Rattle.lstr_attempt.proofs.Leads as leads
 use Rattle.lstr_attempt.proofs.attempt.first_capture.Statement.{statement}
 use Rattle.lstr_attempt.proofs.attempt.first_capture.Tie as tie
 
-one-capture-requires : tie.Need-one-capture-requires
-one-capture-requires c κs = search needs
-
 do-match-requires : tie.Need-do-match-requires
 do-match-requires c κs =
     let q = c .before .before .before .before .pre in
     (q .0, q .1, c .before .one-capture .ensures .1)
-
-answer-requires : tie.Need-answer-requires
-answer-requires c κs = search needs
 
 returns : tie.Need-returns
 returns c =
@@ -29,7 +23,7 @@ pub first-capture-spec : {M : Type 1} → statement M
 first-capture-spec =
     tie.close
     (tie.spec
-    one-capture-requires
+    (λ c κs. search needs)
     do-match-requires
-    answer-requires
+    (λ c κs. search needs)
     returns)

@@ -8,16 +8,10 @@ use Rattle.lstr_attempt.proofs.Leads as leads
 use Rattle.lstr_attempt.proofs.attempt.first_level.Statement.{statement}
 use Rattle.lstr_attempt.proofs.attempt.first_level.Tie as tie
 
-no-captures-requires : tie.Need-no-captures-requires
-no-captures-requires c κs = search needs
-
 do-match-requires : tie.Need-do-match-requires
 do-match-requires c κs =
     let q = c .before .before .before .before .pre in
     (q .0, q .1, leads.none-sound _ _ (c .before .no-captures .ensures))
-
-answer-requires : tie.Need-answer-requires
-answer-requires c κs = search needs
 
 returns : tie.Need-returns
 returns c =
@@ -31,7 +25,7 @@ pub first-level-spec : {M : Type 1} → statement M
 first-level-spec =
     tie.close
     (tie.spec
-    no-captures-requires
+    (λ c κs. search needs)
     do-match-requires
-    answer-requires
+    (λ c κs. search needs)
     returns)

@@ -8,23 +8,11 @@ use Rattle.lstr_match.proofs.Repeats as repeats
 use Rattle.lstr_attempt.proofs.attempt.last_repeat.Statement.{statement}
 use Rattle.lstr_attempt.proofs.attempt.last_repeat.Tie as tie
 
-add-reach : tie.Need-add-reach
-add-reach c = search needs
-
-reach-requires : tie.Need-reach-requires
-reach-requires c κs = search needs
-
-spent-requires : tie.Need-spent-requires
-spent-requires c κs = search needs
-
 returns : tie.Need-returns
 returns c kept shortest h =
     let a = c .before .before .before .before .before .args in
     let r = c .before .before .reach in
     repeats.ended _ _ _ _ _ (c .spent .ensures) (leads.test-unpaid (classIn (a .classes .now)) (a .subject .now) (a .budget) _ _ _ (r .result) (r .ensures .0) shortest _ (c .before .if1 .taken))
-
-spent-requires-2 : tie.Need-spent-requires-2
-spent-requires-2 c κs = search needs
 
 returns-2 : tie.Need-returns-2
 returns-2 c kept shortest h =
@@ -32,12 +20,6 @@ returns-2 c kept shortest h =
     let r = c .before .before .before .before .reach in
     let g : shortest ≤ r .result .end = omega (arith, h, r .ensures .1) in
     repeats.ended _ _ _ _ _ (c .spent2 .ensures) (leads.end-unpaid (classIn (a .classes .now)) (a .subject .now) (a .budget) _ _ _ (r .result) (r .ensures .0) shortest _ (c .before .before .before .if1 .left) g (c .before .if2 .taken))
-
-add-matched : tie.Need-add-matched
-add-matched c = search needs
-
-matched-requires : tie.Need-matched-requires
-matched-requires c κs = search needs
 
 returns-3 : tie.Need-returns-3
 returns-3 c kept shortest h =
@@ -50,12 +32,9 @@ pub last-repeat-spec : {M : Type 1} → statement M
 last-repeat-spec =
     tie.close
     (tie.spec
-    add-reach
-    reach-requires
-    spent-requires
+    (λ c. search needs) (λ c κs. search needs) (λ c κs. search needs)
     returns
-    spent-requires-2
+    (λ c κs. search needs)
     returns-2
-    add-matched
-    matched-requires
+    (λ c. search needs) (λ c κs. search needs)
     returns-3)

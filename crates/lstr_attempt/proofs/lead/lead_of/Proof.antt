@@ -11,15 +11,6 @@ use Rattle.lstr_attempt.proofs.Leads as leads
 use Rattle.lstr_attempt.proofs.lead.lead_of.Statement.{statement}
 use Rattle.lstr_attempt.proofs.lead.lead_of.Tie as tie
 
-read-requires : tie.Need-read-requires
-read-requires c κs = search needs
-
-enum-known-item : tie.Need-enum-known-item
-enum-known-item c = search needs
-
-is-greedy-requires : tie.Need-is-greedy-requires
-is-greedy-requires c κs = search needs
-
 add-is-last : tie.Need-add-is-last
 add-is-last c =
     let a = c .before .before .before .before .before .before .before .args in
@@ -27,36 +18,6 @@ add-is-last c =
     let k = repeatAs (c .before .before .before .item .given .0 .1 .0) in
     let b = turns.behind-greedy _ _ _ _ k (it .on) (sym (c .before .is-greedy .ensures) ∙ c .if1 .taken) in
     omega (arith, b)
-
-is-once-requires : tie.Need-is-once-requires
-is-once-requires c κs = search needs
-
-has-to-fit-requires : tie.Need-has-to-fit-requires
-has-to-fit-requires c κs = search needs
-
-enum-known-item-2 : tie.Need-enum-known-item-2
-enum-known-item-2 c = search needs
-
-single-at-requires : tie.Need-single-at-requires
-single-at-requires c κs = search needs
-
-opening-requires : tie.Need-opening-requires
-opening-requires c κs = search needs
-
-enum-known-item-3 : tie.Need-enum-known-item-3
-enum-known-item-3 c = search needs
-
-single-at-requires-2 : tie.Need-single-at-requires-2
-single-at-requires-2 c κs = search needs
-
-opening-requires-2 : tie.Need-opening-requires-2
-opening-requires-2 c κs = search needs
-
-nothing-requires : tie.Need-nothing-requires
-nothing-requires c κs = search needs
-
-opening-requires-3 : tie.Need-opening-requires-3
-opening-requires-3 c κs = search needs
 
 returns : tie.Need-returns
 returns c =
@@ -95,20 +56,10 @@ pub lead-of-spec : {M : Type 1} → statement M
 lead-of-spec =
     tie.close
     (tie.spec
-    read-requires
-    enum-known-item
-    is-greedy-requires
+    (λ c κs. search needs) (λ c. search needs) (λ c κs. search needs)
     add-is-last
-    is-once-requires
-    has-to-fit-requires
-    enum-known-item-2
-    single-at-requires
-    opening-requires
-    enum-known-item-3
-    single-at-requires-2
-    opening-requires-2
-    nothing-requires
-    opening-requires-3
+    (λ c κs. search needs) (λ c κs. search needs) (λ c. search needs) (λ c κs. search needs) (λ c κs. search needs)
+    (λ c. search needs) (λ c κs. search needs) (λ c κs. search needs) (λ c κs. search needs) (λ c κs. search needs)
     returns
     returns-2
     returns-3

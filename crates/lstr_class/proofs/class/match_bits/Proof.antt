@@ -9,9 +9,6 @@ returns c =
     let s = c .before in
     bits-none (s .args .classes .now) (s .args .class) (s .args .byte) _ (s .pre) (c .if1 .taken)
 
-element-copy-out-mask : tie.Need-element-copy-out-mask
-element-copy-out-mask c = search needs
-
 returns-2 : tie.Need-returns-2
 returns-2 c =
     let s = c .before .before .before in
@@ -23,4 +20,4 @@ returns-3 c =
     bits-small (s .args .classes .now) (s .args .class) (s .args .byte) _ (s .pre) (s .fits .byte .fits) (c .before .before .if1 .left) (c .if2 .left)
 
 pub match-bits-spec : {M : Type 1} → statement M
-match-bits-spec = tie.close (tie.spec returns element-copy-out-mask returns-2 returns-3)
+match-bits-spec = tie.close (tie.spec returns (λ c. search needs) returns-2 returns-3)

@@ -8,14 +8,8 @@ use Rattle.lstr_class.proofs.subject.byte_before.Tie as tie
 returns : tie.Need-returns
 returns c = before-first (c .before .before .args .subject .now) (c .before .before .args .at) (c .if1 .taken)
 
-sub-byte-at : tie.Need-sub-byte-at
-sub-byte-at c = search needs
-
-byte-at-requires : tie.Need-byte-at-requires
-byte-at-requires c κs = search needs
-
 returns-2 : tie.Need-returns-2
 returns-2 c = c .byte-at .ensures ∙ before-later (c .before .before .before .args .subject .now) (c .before .before .before .args .at) (c .before .if1 .left)
 
 pub byte-before-spec : {M : Type 1} → statement M
-byte-before-spec = tie.close (tie.spec returns sub-byte-at byte-at-requires returns-2)
+byte-before-spec = tie.close (tie.spec returns (λ c. search needs) (λ c κs. search needs) returns-2)

@@ -30,53 +30,26 @@ abbrev μ-loop : tie.MeasureT-loop
 returns : tie.Need-returns Inv-loop μ-loop
 returns c = (sym (no-byte _ _ _ _ (c .if1 .taken)), tt)
 
-shared-slice-read-if2 : tie.Need-shared-slice-read-if2 Inv-loop μ-loop
-shared-slice-read-if2 c = omega arith
-
 returns-2 : tie.Need-returns-2 Inv-loop μ-loop
 returns-2 c = (sym (other-byte _ _ _ _ (c .before .before .if1 .left) (c .if2 .taken)), tt)
 
-add-at : tie.Need-add-at Inv-loop μ-loop
-add-at c = omega arith
-
 loop-holds : tie.Need-loop-holds Inv-loop μ-loop
 loop-holds c = (balance-starts _ _ _ _ (c .before .before .if1 .left) (c .if2 .left), omega arith)
-
-shared-slice-read-byte : tie.Need-shared-slice-read-byte Inv-loop μ-loop
-shared-slice-read-byte c = omega arith
-
-add-at-2 : tie.Need-add-at-2 Inv-loop μ-loop
-add-at-2 c = omega arith
 
 returns-3 : tie.Need-returns-3 Inv-loop μ-loop
 returns-3 c =
     let x = c .before .before .before in
     (sym (x .before .loop .inv .0 ∙ balance-ends _ _ _ _ _ (x .loop-test .taken) (c .before .if3 .taken) (c .if4 .taken)), omega arith)
 
-sub-depth : tie.Need-sub-depth Inv-loop μ-loop
-sub-depth c = omega arith
-
-loop-less : tie.Need-loop-less Inv-loop μ-loop
-loop-less c = omega arith
-
 loop-again : tie.Need-loop-again Inv-loop μ-loop
 loop-again c =
     let x = c .before .before .before in
     (x .before .loop .inv .0 ∙ balance-closes _ _ _ _ _ (x .loop-test .taken) (c .before .if3 .taken) (c .if4 .left), omega arith)
 
-add-depth : tie.Need-add-depth Inv-loop μ-loop
-add-depth c = omega arith
-
-loop-less-2 : tie.Need-loop-less-2 Inv-loop μ-loop
-loop-less-2 c = omega arith
-
 loop-again-2 : tie.Need-loop-again-2 Inv-loop μ-loop
 loop-again-2 c =
     let x = c .before .before .before in
     (x .before .loop .inv .0 ∙ balance-opens _ _ _ _ _ (x .loop-test .taken) (c .before .if3 .left) (c .if5 .taken), omega arith)
-
-loop-less-3 : tie.Need-loop-less-3 Inv-loop μ-loop
-loop-less-3 c = omega arith
 
 loop-again-3 : tie.Need-loop-again-3 Inv-loop μ-loop
 loop-again-3 c =
@@ -93,19 +66,16 @@ match-balance-spec =
     Inv-loop
     μ-loop
     returns
-    shared-slice-read-if2
+    (λ c. omega arith)
     returns-2
-    add-at
+    (λ c. omega arith)
     loop-holds
-    shared-slice-read-byte
-    add-at-2
+    (λ c. omega arith) (λ c. omega arith)
     returns-3
-    sub-depth
-    loop-less
+    (λ c. omega arith) (λ c. omega arith)
     loop-again
-    add-depth
-    loop-less-2
+    (λ c. omega arith) (λ c. omega arith)
     loop-again-2
-    loop-less-3
+    (λ c. omega arith)
     loop-again-3
     returns-4)

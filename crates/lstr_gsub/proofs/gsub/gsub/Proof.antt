@@ -8,23 +8,8 @@ use Rattle.lstr_gsub.proofs.Rounds as rounds
 use Rattle.lstr_gsub.proofs.gsub.gsub.Statement.{statement}
 use Rattle.lstr_gsub.proofs.gsub.gsub.Tie as tie
 
-is-version-requires : tie.Need-is-version-requires
-is-version-requires c κs = search needs
-
-classes-requires : tie.Need-classes-requires
-classes-requires c κs = search needs
-
-rules-of-requires : tie.Need-rules-of-requires
-rules-of-requires c κs = search needs
-
-shared-slice-read-if3 : tie.Need-shared-slice-read-if3
-shared-slice-read-if3 c = search needs
-
 run-anchored-requires : tie.Need-run-anchored-requires
 run-anchored-requires c κs = c .before .before .before .before .if2 .taken
-
-same-length : tie.Need-same-length
-same-length c = search needs
 
 returns : tie.Need-returns
 returns c =
@@ -32,12 +17,6 @@ returns c =
     let q = c .before .before .run-anchored .ensures in
     let e = rounds.gsub-anchored (a .version) (a .pattern .now) (a .replacement .now) (a .subject .now) (a .budget) (length (a .output .now)) (sym (c .before .before .before .before .before .before .before .before .before .before .before .is-version .ensures) ∙ c .before .before .before .before .before .before .before .before .before .before .if1 .taken) _ (c .before .before .before .before .before .before .before .before .rules-of .ensures) _ (c .before .before .before .before .before .before .before .before .before .classes .ensures) (c .before .before .before .before .before .if3 .taken) in
     (q .is ∙ ap report e, q .output ∙ ap (outputAfter (a .output .now)) e)
-
-run-rounds-requires : tie.Need-run-rounds-requires
-run-rounds-requires c κs = search needs
-
-same-length-2 : tie.Need-same-length-2
-same-length-2 c = search needs
 
 returns-2 : tie.Need-returns-2
 returns-2 c =
@@ -57,14 +36,10 @@ pub gsub-spec : {M : Type 1} → statement M
 gsub-spec =
     tie.close
     (tie.spec
-    is-version-requires
-    classes-requires
-    rules-of-requires
-    shared-slice-read-if3
+    (λ c κs. search needs) (λ c κs. search needs) (λ c κs. search needs) (λ c. search needs)
     run-anchored-requires
-    same-length
+    (λ c. search needs)
     returns
-    run-rounds-requires
-    same-length-2
+    (λ c κs. search needs) (λ c. search needs)
     returns-2
     returns-3)

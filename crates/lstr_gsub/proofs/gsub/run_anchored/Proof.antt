@@ -13,12 +13,6 @@ attempt-requires : tie.Need-attempt-requires
 attempt-requires c κs =
     (c .before .before .before .before .before .pre, omega arith)
 
-cast-t17 : tie.Need-cast-t17
-cast-t17 c = search needs
-
-cast-t18 : tie.Need-cast-t18
-cast-t18 c = search needs
-
 returns : tie.Need-returns
 returns c =
     let d = c .before .before .before .before in
@@ -26,15 +20,6 @@ returns c =
     let o = d .attempt .ensures .0 in
     let u = outputs.begins 0 (a .output .now) (omega arith) in
     rounds.reported (a .output .now) 0 (a .output .now) _ _ _ _ _ u (rounds.anchored-stops (classIn (a .classes .now)) (a .subject .now) (a .budget) (a .is-strict) (a .replacement .now) (items (a .pattern .now) 1) (a .output .now) (d .attempt .result) _ o (c .before .before .if1 .taken))
-
-append-requires : tie.Need-append-requires
-append-requires c κs = omega arith
-
-cast-t21 : tie.Need-cast-t21
-cast-t21 c = search needs
-
-same-length : tie.Need-same-length
-same-length c = search needs
 
 returns-2 : tie.Need-returns-2
 returns-2 c =
@@ -46,23 +31,11 @@ returns-2 c =
     rounds.reported (a .output .now) _ _ _ _ _ _ _ (outputs.goes-on 0 (a .output .now) 0 (a .output .now) u _ _ _ more (search needs))
     (rounds.anchored-fails (classIn (a .classes .now)) (a .subject .now) (a .budget) (a .is-strict) (a .replacement .now) (items (a .pattern .now) 1) (a .output .now) (d .attempt .result) _ o (c .before .before .before .before .before .if2 .taken) _ _ more)
 
-cast-add-pieces : tie.Need-cast-add-pieces
-cast-add-pieces c = search needs
-
 add-pieces-requires : tie.Need-add-pieces-requires
 add-pieces-requires c κs =
     let d = c .before .before .before .before .before .before .before in
     let z : d .attempt .result .number ≡ 0 = omega (arith, c .before .before .before .if2 .left, c .before .before .before .before .before .if1 .left) in
     (omega arith, omega arith, d .attempt .ensures .1 .end z, d .attempt .ensures .1 .captures z)
-
-cast-t26 : tie.Need-cast-t26
-cast-t26 c = search needs
-
-cast-t27 : tie.Need-cast-t27
-cast-t27 c = search needs
-
-same-length-2 : tie.Need-same-length-2
-same-length-2 c = search needs
 
 returns-3 : tie.Need-returns-3
 returns-3 c =
@@ -87,17 +60,8 @@ part-append-start c =
     let z : d .attempt .result .number ≡ 0 = omega (arith, c .before .before .before .before .before .before .before .before .before .if2 .left, c .before .before .before .before .before .before .before .before .before .before .before .if1 .left) in
     d .attempt .ensures .1 .end z
 
-part-append-end : tie.Need-part-append-end
-part-append-end c = search needs
-
 append-requires-2 : tie.Need-append-requires-2
 append-requires-2 c κs = search (needs, c .before .before .before .before .before .before .add-pieces .ensures .inside)
-
-cast-t33 : tie.Need-cast-t33
-cast-t33 c = search needs
-
-same-length-3 : tie.Need-same-length-3
-same-length-3 c = search needs
 
 returns-4 : tie.Need-returns-4
 returns-4 c =
@@ -117,23 +81,17 @@ run-anchored-spec =
     tie.close
     (tie.spec
     attempt-requires
-    cast-t17
-    cast-t18
+    (λ c. search needs) (λ c. search needs)
     returns
-    append-requires
-    cast-t21
-    same-length
+    (λ c κs. omega arith) (λ c. search needs) (λ c. search needs)
     returns-2
-    cast-add-pieces
+    (λ c. search needs)
     add-pieces-requires
-    cast-t26
-    cast-t27
-    same-length-2
+    (λ c. search needs) (λ c. search needs) (λ c. search needs)
     returns-3
     sub-append
     part-append-start
-    part-append-end
+    (λ c. search needs)
     append-requires-2
-    cast-t33
-    same-length-3
+    (λ c. search needs) (λ c. search needs)
     returns-4)

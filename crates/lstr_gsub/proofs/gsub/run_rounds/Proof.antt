@@ -17,9 +17,6 @@ abbrev μ-rounds : tie.MeasureT-rounds
 μ-rounds classes is-strict pattern replacement subject budget output₀ lead kept₀ place₀ after-last₀ written₀ replacements₀ steps₀ output kept place after-last written replacements steps =
     budget - steps
 
-lead-of-requires : tie.Need-lead-of-requires Inv-rounds μ-rounds
-lead-of-requires c κs = search needs
-
 rounds-holds : tie.Need-rounds-holds Inv-rounds μ-rounds
 rounds-holds c =
     let a = c .before .before .before .before .before .args in
@@ -29,12 +26,6 @@ attempt-at-requires : tie.Need-attempt-at-requires Inv-rounds μ-rounds
 attempt-at-requires c κs =
     let l = c .before .rounds in
     (c .before .before .lead-of .ensures, l .inv .inside, l .inv .steps)
-
-cast-t20 : tie.Need-cast-t20 Inv-rounds μ-rounds
-cast-t20 c = search needs
-
-cast-t21 : tie.Need-cast-t21 Inv-rounds μ-rounds
-cast-t21 c = search needs
 
 same-length : tie.Need-same-length Inv-rounds μ-rounds
 same-length c = c .before .before .before .before .before .before .rounds .inv .upto .same
@@ -53,9 +44,6 @@ add-if3 c = omega (arith, c .before .before .before .before .attempt-at .ensures
 add-replacements : tie.Need-add-replacements Inv-rounds μ-rounds
 add-replacements c = omega (arith, c .before .before .before .before .before .before .before .rounds .inv .few, c .before .before .before .before .before .before .before .rounds .inv .steps)
 
-cast-add-pieces : tie.Need-cast-add-pieces Inv-rounds μ-rounds
-cast-add-pieces c = search needs
-
 add-pieces-requires : tie.Need-add-pieces-requires Inv-rounds μ-rounds
 add-pieces-requires c κs =
     let d = c .before .before .before .before .before .before .before .before in
@@ -65,12 +53,6 @@ add-pieces-requires c κs =
     let z = c .before .before .before .before .if2 .taken in
     let u = l .inv .upto in
     (omega (arith, u .inside, u .same), rounds.ends-later (classIn (a .classes .now)) (a .subject .now) (a .budget) (a .is-strict) (a .replacement .now) (items (a .pattern .now) 0) (a .output .now) (l .place) (l .after-last) (l .written) (l .replacements) (l .steps) (l .output) (l .inv) (d .attempt-at .result) _ o z, d .attempt-at .ensures .1 .end z, d .attempt-at .ensures .1 .captures z)
-
-cast-t29 : tie.Need-cast-t29 Inv-rounds μ-rounds
-cast-t29 c = search needs
-
-cast-t30 : tie.Need-cast-t30 Inv-rounds μ-rounds
-cast-t30 c = search needs
 
 same-length-2 : tie.Need-same-length-2 Inv-rounds μ-rounds
 same-length-2 c = search (needs, c .before .before .before .before .before .before .before .before .before .before .before .before .before .before .before .before .before .rounds .inv .upto .same)
@@ -125,12 +107,6 @@ returns-4 c =
     let o = d .attempt-at .ensures .0 in
     rounds.reported (a .output .now) (l .written) (l .output) 26 0 _ _ _ (l .inv .upto) (rounds.copy-full (classIn (a .classes .now)) (a .subject .now) (a .budget) (a .is-strict) (a .replacement .now) (items (a .pattern .now) 0) (a .output .now) (l .place) (l .after-last) (l .written) (l .replacements) (l .steps) (l .output) (l .inv) (d .attempt-at .result) _ o (c .before .before .before .before .if1 .left) (⊎-elim (λ x. inr (x .1 .left)) (λ x. inl (x .left)) (c .before .before .if2 .came)) (c .before .if5 .left) (omega (arith, c .if6 .taken, l .inv .upto .same)))
 
-shared-slice-read-output : tie.Need-shared-slice-read-output Inv-rounds μ-rounds
-shared-slice-read-output c = search needs
-
-slice-write-output : tie.Need-slice-write-output Inv-rounds μ-rounds
-slice-write-output c = search needs
-
 add-written : tie.Need-add-written Inv-rounds μ-rounds
 add-written c = omega (arith, c .before .before .before .before .before .before .before .before .before .rounds .inv .upto .same, c .before .if6 .left, c .before .before .before .before .before .before .before .before .before .before .before .before .before .before .before .good .1 .1 .1 .1 .1 .1 .0 .0)
 
@@ -160,19 +136,17 @@ run-rounds-spec =
     (tie.spec
     Inv-rounds
     μ-rounds
-    lead-of-requires
+    (λ c κs. search needs)
     rounds-holds
     attempt-at-requires
-    cast-t20
-    cast-t21
+    (λ c. search needs) (λ c. search needs)
     same-length
     returns
     add-if3
     add-replacements
-    cast-add-pieces
+    (λ c. search needs)
     add-pieces-requires
-    cast-t29
-    cast-t30
+    (λ c. search needs) (λ c. search needs)
     same-length-2
     returns-2
     add-after-last
@@ -182,8 +156,7 @@ run-rounds-spec =
     returns-3
     same-length-4
     returns-4
-    shared-slice-read-output
-    slice-write-output
+    (λ c. search needs) (λ c. search needs)
     add-written
     add-place
     rounds-less-2

@@ -13,9 +13,6 @@ returns c = λ z. let e : _≡_ {A = ℕ} 0 1 = cc in absurd (omega arith)
 returns-2 : tie.Need-returns-2
 returns-2 c = λ z. let e : _≡_ {A = ℕ} 0 1 = cc in absurd (omega arith)
 
-sub-if3 : tie.Need-sub-if3
-sub-if3 c = search needs
-
 returns-3 : tie.Need-returns-3
 returns-3 c = λ z. let e : _≡_ {A = ℕ} 0 1 = cc in absurd (omega arith)
 
@@ -28,4 +25,4 @@ returns-4 c = λ z.
     record { known = omega arith; left = omega arith; unfit = sym (c .fits2 .ensures) ∙ not-true _ z }
 
 pub fails-at-spec : {M : Type 1} → statement M
-fails-at-spec = tie.close (tie.spec returns returns-2 sub-if3 returns-3 fits-requires returns-4)
+fails-at-spec = tie.close (tie.spec returns returns-2 (λ c. search needs) returns-3 fits-requires returns-4)

@@ -8,26 +8,8 @@ use Rattle.lstr_item.proofs.FirstTests.{single-ahead, opens-start, open
 use Rattle.lstr_item.proofs.ahead.first_test.Statement.{statement}
 use Rattle.lstr_item.proofs.ahead.first_test.Tie as tie
 
-nothing-requires : tie.Need-nothing-requires
-nothing-requires c κs = search needs
-
 returns : tie.Need-returns
 returns c = λ z. absurd (omega (arith, c .nothing .ensures))
-
-read-requires : tie.Need-read-requires
-read-requires c κs = search needs
-
-enum-known-item : tie.Need-enum-known-item
-enum-known-item c = search needs
-
-required-requires : tie.Need-required-requires
-required-requires c κs = search needs
-
-enum-known-item-2 : tie.Need-enum-known-item-2
-enum-known-item-2 c = search needs
-
-single-at-requires : tie.Need-single-at-requires
-single-at-requires c κs = search needs
 
 returns-2 : tie.Need-returns-2
 returns-2 c =
@@ -35,41 +17,17 @@ returns-2 c =
     let it = subst (ItemAt (a .pattern .now) (a .next)) (c .before .before .before .item2 .given .1) (c .before .before .before .before .before .read .ensures) in
     sure-two (a .count) (a .is-open) (a .pattern .now) (a .next) (a .level) _ start-capture _ (opens-start (a .count) (a .is-open) (c .before .if2 .taken)) (omega arith) it (c .single-at .ensures)
 
-nothing-requires-2 : tie.Need-nothing-requires-2
-nothing-requires-2 c κs = search needs
-
-enum-known-item-3 : tie.Need-enum-known-item-3
-enum-known-item-3 c = search needs
-
-single-at-requires-2 : tie.Need-single-at-requires-2
-single-at-requires-2 c κs = search needs
-
 returns-3 : tie.Need-returns-3
 returns-3 c =
     let a = c .before .before .before .before .before .before .before .before .args in
     let it = subst (ItemAt (a .pattern .now) (a .next)) (c .before .before .before .item3 .given .1) (c .before .before .before .before .before .read .ensures) in
     sure-two (a .count) (a .is-open) (a .pattern .now) (a .next) (a .level) _ position-capture _ (opens-position (a .count) (a .is-open) (c .before .if3 .taken)) (omega arith) it (c .single-at2 .ensures)
 
-nothing-requires-3 : tie.Need-nothing-requires-3
-nothing-requires-3 c κs = search needs
-
-enum-known-item-4 : tie.Need-enum-known-item-4
-enum-known-item-4 c = search needs
-
-single-at-requires-3 : tie.Need-single-at-requires-3
-single-at-requires-3 c κs = search needs
-
 returns-4 : tie.Need-returns-4
 returns-4 c =
     let a = c .before .before .before .before .before .before .before .before .args in
     let it = subst (ItemAt (a .pattern .now) (a .next)) (c .before .before .before .item4 .given .1) (c .before .before .before .before .before .read .ensures) in
     sure-two (a .count) (a .is-open) (a .pattern .now) (a .next) (a .level) _ end-capture _ (opens-end (a .count) (a .is-open) (c .before .if4 .taken)) (omega arith) it (c .single-at3 .ensures)
-
-nothing-requires-4 : tie.Need-nothing-requires-4
-nothing-requires-4 c κs = search needs
-
-nothing-requires-5 : tie.Need-nothing-requires-5
-nothing-requires-5 c κs = search needs
 
 returns-5 : tie.Need-returns-5
 returns-5 c =
@@ -93,24 +51,15 @@ pub first-test-spec : {M : Type 1} → statement M
 first-test-spec =
     tie.close
     (tie.spec
-    nothing-requires
+    (λ c κs. search needs)
     returns
-    read-requires
-    enum-known-item
-    required-requires
-    enum-known-item-2
-    single-at-requires
+    (λ c κs. search needs) (λ c. search needs) (λ c κs. search needs) (λ c. search needs) (λ c κs. search needs)
     returns-2
-    nothing-requires-2
-    enum-known-item-3
-    single-at-requires-2
+    (λ c κs. search needs) (λ c. search needs) (λ c κs. search needs)
     returns-3
-    nothing-requires-3
-    enum-known-item-4
-    single-at-requires-3
+    (λ c κs. search needs) (λ c. search needs) (λ c κs. search needs)
     returns-4
-    nothing-requires-4
-    nothing-requires-5
+    (λ c κs. search needs) (λ c κs. search needs)
     returns-5
     returns-6
     returns-7

@@ -6,18 +6,6 @@ use Rattle.lstr_item.proofs.FirstTests.{single-ahead, nothing-ahead}
 use Rattle.lstr_item.proofs.ahead.single_at.Statement.{statement}
 use Rattle.lstr_item.proofs.ahead.single_at.Tie as tie
 
-read-requires : tie.Need-read-requires
-read-requires c κs = search needs
-
-enum-known-item : tie.Need-enum-known-item
-enum-known-item c = search needs
-
-required-requires : tie.Need-required-requires
-required-requires c κs = search needs
-
-nothing-requires : tie.Need-nothing-requires
-nothing-requires c κs = search needs
-
 returns : tie.Need-returns
 returns c =
     let a = c .before .before .before .before .before .before .args in
@@ -30,4 +18,4 @@ returns-2 c =
     nothing-ahead (a .pattern .now) (a .at) (a .steps) _ (c .nothing .ensures)
 
 pub single-at-spec : {M : Type 1} → statement M
-single-at-spec = tie.close (tie.spec read-requires enum-known-item required-requires nothing-requires returns returns-2)
+single-at-spec = tie.close (tie.spec (λ c κs. search needs) (λ c. search needs) (λ c κs. search needs) (λ c κs. search needs) returns returns-2)

@@ -16,38 +16,11 @@ abbrev μ-loop : tie.MeasureT-loop
 loop-holds : tie.Need-loop-holds Inv-loop μ-loop
 loop-holds c = (holds-none _ _ (c .slots .given .0 .1), omega arith)
 
-mul-pair : tie.Need-mul-pair Inv-loop μ-loop
-mul-pair c = omega arith
-
-element-copy-out-pair : tie.Need-element-copy-out-pair Inv-loop μ-loop
-element-copy-out-pair c = omega arith
-
-mul-slots : tie.Need-mul-slots Inv-loop μ-loop
-mul-slots c = omega arith
-
-mul-slots-2 : tie.Need-mul-slots-2 Inv-loop μ-loop
-mul-slots-2 c = omega arith
-
 slice-write-slots : tie.Need-slice-write-slots Inv-loop μ-loop
 slice-write-slots c = omega (arith, c .before .before .loop .inv .0 .whole)
 
-mul-slots-3 : tie.Need-mul-slots-3 Inv-loop μ-loop
-mul-slots-3 c = omega arith
-
-add-slots : tie.Need-add-slots Inv-loop μ-loop
-add-slots c = omega arith
-
-mul-slots-4 : tie.Need-mul-slots-4 Inv-loop μ-loop
-mul-slots-4 c = omega arith
-
 slice-write-slots-2 : tie.Need-slice-write-slots-2 Inv-loop μ-loop
 slice-write-slots-2 c = half-room _ _ _ (omega arith) (c .before .before .loop .inv .0)
-
-add-i : tie.Need-add-i Inv-loop μ-loop
-add-i c = omega arith
-
-loop-less : tie.Need-loop-less Inv-loop μ-loop
-loop-less c = omega arith
 
 loop-again : tie.Need-loop-again Inv-loop μ-loop
 loop-again c = (holds-more _ _ _ (omega arith) (c .before .before .loop .inv .0), omega arith)
@@ -67,16 +40,10 @@ keep-spec =
     Inv-loop
     μ-loop
     loop-holds
-    mul-pair
-    element-copy-out-pair
-    mul-slots
-    mul-slots-2
+    (λ c. omega arith) (λ c. omega arith) (λ c. omega arith) (λ c. omega arith)
     slice-write-slots
-    mul-slots-3
-    add-slots
-    mul-slots-4
+    (λ c. omega arith) (λ c. omega arith) (λ c. omega arith)
     slice-write-slots-2
-    add-i
-    loop-less
+    (λ c. omega arith) (λ c. omega arith)
     loop-again
     returns)

@@ -25,26 +25,8 @@ wide c = omega (arith, c .pre .1 .few, all-pairs (c .args .t2 .pairs) (c .good .
 returns : tie.Need-returns
 returns c = (λ rest l u. no-digit _ _ _ _ rest _ l u (c .if1 .taken), tt)
 
-sub-index : tie.Need-sub-index
-sub-index c = omega arith
-
-cast-index : tie.Need-cast-index
-cast-index c = omega arith
-
 returns-2 : tie.Need-returns-2
 returns-2 c = (λ rest l u. no-capture _ _ _ _ rest _ l u (wide (c .before .before .before)) (c .before .if1 .left) (c .if2 .taken), tt)
-
-mul-start : tie.Need-mul-start
-mul-start c = omega arith
-
-element-copy-out-start : tie.Need-element-copy-out-start
-element-copy-out-start c = omega arith
-
-mul-len : tie.Need-mul-len
-mul-len c = omega arith
-
-element-copy-out-len : tie.Need-element-copy-out-len
-element-copy-out-len c = omega arith
 
 returns-3 : tie.Need-returns-3
 returns-3 c = (λ rest l u. refers-open _ _ _ _ rest _ l u (wide (c .before .before .before .before)) (c .before .before .if1 .left) (c .before .if2 .left) (c .if3 .taken), tt)
@@ -53,9 +35,6 @@ returns-4 : tie.Need-returns-4
 returns-4 c =
     let x = c .before .before in
     (λ rest l u. refers-position _ _ _ _ rest _ l u (wide (c .before .before .before .before .before)) (x .before .if1 .left) (x .if2 .left) (c .if4 .taken), tt)
-
-sub-if5 : tie.Need-sub-if5
-sub-if5 c = omega arith
 
 returns-5 : tie.Need-returns-5
 returns-5 c =
@@ -97,16 +76,12 @@ match-capture-spec =
     tie.close
     (tie.spec
     returns
-    sub-index
-    cast-index
+    (λ c. omega arith) (λ c. omega arith)
     returns-2
-    mul-start
-    element-copy-out-start
-    mul-len
-    element-copy-out-len
+    (λ c. omega arith) (λ c. omega arith) (λ c. omega arith) (λ c. omega arith)
     returns-3
     returns-4
-    sub-if5
+    (λ c. omega arith)
     returns-5
     same-bytes-requires
     returns-6

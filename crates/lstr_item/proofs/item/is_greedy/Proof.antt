@@ -6,21 +6,6 @@ use Rattle.lstr_item.specs.declared.item.Repeat.{Repeat}
 use Rattle.lstr_item.proofs.item.is_greedy.Statement.{statement}
 use Rattle.lstr_item.proofs.item.is_greedy.Tie as tie
 
-enum-told : tie.Need-enum-told
-enum-told c = search needs
-
-enum-told-2 : tie.Need-enum-told-2
-enum-told-2 c = search needs
-
-enum-told-3 : tie.Need-enum-told-3
-enum-told-3 c = search needs
-
-enum-told-4 : tie.Need-enum-told-4
-enum-told-4 c = search needs
-
-enum-told-5 : tie.Need-enum-told-5
-enum-told-5 c = search needs
-
 returns : tie.Need-returns
 returns c = sym (ap (λ (k : Repeat). isGreedy (repeatAs k)) (c .enum-told .given .1))
 
@@ -37,4 +22,4 @@ returns-5 : tie.Need-returns-5
 returns-5 c = sym (ap (λ (k : Repeat). isGreedy (repeatAs k)) (c .enum-told5 .given .1))
 
 pub is-greedy-spec : {M : Type 1} → statement M
-is-greedy-spec = tie.close (tie.spec enum-told enum-told-2 enum-told-3 enum-told-4 enum-told-5 returns returns-2 returns-3 returns-4 returns-5)
+is-greedy-spec = tie.close (tie.spec (λ c. search needs) (λ c. search needs) (λ c. search needs) (λ c. search needs) (λ c. search needs) returns returns-2 returns-3 returns-4 returns-5)

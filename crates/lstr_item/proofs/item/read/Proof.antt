@@ -10,39 +10,15 @@ returns c =
     let a = c .before .before .args in
     items-end (a .pattern .now) (a .at) (c .if1 .taken)
 
-add-next : tie.Need-add-next
-add-next c = search needs
-
-shared-slice-read-match : tie.Need-shared-slice-read-match
-shared-slice-read-match c = search needs
-
-shared-slice-read-if3 : tie.Need-shared-slice-read-if3
-shared-slice-read-if3 c = search needs
-
-add-t15 : tie.Need-add-t15
-add-t15 c = search needs
-
 returns-2 : tie.Need-returns-2
 returns-2 c =
     let a = c .before .before .before .before .before .before .before .args in
     position-at (a .pattern .now) (a .at) (c .before .before .before .before .before .if1 .left) (c .before .before .before .match .keys1) (c .if3 .taken)
 
-read-escape-requires : tie.Need-read-escape-requires
-read-escape-requires c κs = search needs
-
-read-set-requires : tie.Need-read-set-requires
-read-set-requires c κs = search needs
-
 returns-3 : tie.Need-returns-3
 returns-3 c =
     let a = c .before .before .before .before .before .args in
     anchor-at (a .pattern .now) (a .at) (c .before .before .before .if1 .left) (c .before .match .keys5) (c .if4 .taken)
-
-repeated-requires : tie.Need-repeated-requires
-repeated-requires c κs = search needs
-
-repeated-requires-2 : tie.Need-repeated-requires-2
-repeated-requires-2 c κs = search needs
 
 returns-4 : tie.Need-returns-4
 returns-4 c =
@@ -58,12 +34,6 @@ returns-6 : tie.Need-returns-6
 returns-6 c =
     let a = c .before .before .before .before .args in
     end-at (a .pattern .now) (a .at) (c .before .before .if1 .left) (c .match .keys2)
-
-returns-7 : tie.Need-returns-7
-returns-7 c = search needs
-
-returns-8 : tie.Need-returns-8
-returns-8 c = search needs
 
 returns-9 : tie.Need-returns-9
 returns-9 c =
@@ -81,20 +51,14 @@ read-spec =
     tie.close
     (tie.spec
     returns
-    add-next
-    shared-slice-read-match
-    shared-slice-read-if3
-    add-t15
+    (λ c. search needs) (λ c. search needs) (λ c. search needs) (λ c. search needs)
     returns-2
-    read-escape-requires
-    read-set-requires
+    (λ c κs. search needs) (λ c κs. search needs)
     returns-3
-    repeated-requires
-    repeated-requires-2
+    (λ c κs. search needs) (λ c κs. search needs)
     returns-4
     returns-5
     returns-6
-    returns-7
-    returns-8
+    (λ c. search needs) (λ c. search needs)
     returns-9
     returns-10)

@@ -10,26 +10,11 @@ use Rattle.lstr_item.proofs.Reading.{frontier-at, frontier-unclosed, fr
 use Rattle.lstr_item.proofs.item.read_frontier.Statement.{statement}
 use Rattle.lstr_item.proofs.item.read_frontier.Tie as tie
 
-add-opening : tie.Need-add-opening
-add-opening c = search needs
-
-shared-slice-read-if2 : tie.Need-shared-slice-read-if2
-shared-slice-read-if2 c = search needs
-
-set-end-requires : tie.Need-set-end-requires
-set-end-requires c κs = search needs
-
-enum-known-found : tie.Need-enum-known-found
-enum-known-found c = search needs
-
 add-t12 : tie.Need-add-t12
 add-t12 c =
     let a = c .before .before .before .before .before .before .before .before .args in
     let i = subst (λ (x : Found). ClosesIn x (a .at + 2) (length (a .pattern .now))) (c .before .found .given .1) (c .before .before .before .set-end .ensures .1) in
     search (needs, i .1)
-
-enum-told : tie.Need-enum-told
-enum-told c = search needs
 
 returns : tie.Need-returns
 returns c =
@@ -62,12 +47,9 @@ pub read-frontier-spec : {M : Type 1} → statement M
 read-frontier-spec =
     tie.close
     (tie.spec
-    add-opening
-    shared-slice-read-if2
-    set-end-requires
-    enum-known-found
+    (λ c. search needs) (λ c. search needs) (λ c κs. search needs) (λ c. search needs)
     add-t12
-    enum-told
+    (λ c. search needs)
     returns
     returns-2
     returns-3

@@ -8,23 +8,11 @@ use Rattle.lstr_item.proofs.Reading.{set-at, set-unclosed}
 use Rattle.lstr_item.proofs.item.read_set.Statement.{statement}
 use Rattle.lstr_item.proofs.item.read_set.Tie as tie
 
-set-end-requires : tie.Need-set-end-requires
-set-end-requires c κs = search needs
-
-enum-known-found : tie.Need-enum-known-found
-enum-known-found c = search needs
-
 add-repeated : tie.Need-add-repeated
 add-repeated c =
     let a = c .before .before .before .before .before .args in
     let i = subst (λ (x : Found). ClosesIn x (a .at) (length (a .pattern .now))) (c .before .found .given .1) (c .before .before .before .set-end .ensures .1) in
     search (needs, i .1)
-
-repeated-requires : tie.Need-repeated-requires
-repeated-requires c κs = search needs
-
-enum-told : tie.Need-enum-told
-enum-told c = search needs
 
 returns : tie.Need-returns
 returns c =
@@ -45,10 +33,8 @@ pub read-set-spec : {M : Type 1} → statement M
 read-set-spec =
     tie.close
     (tie.spec
-    set-end-requires
-    enum-known-found
+    (λ c κs. search needs) (λ c. search needs)
     add-repeated
-    repeated-requires
-    enum-told
+    (λ c κs. search needs) (λ c. search needs)
     returns
     returns-2)

@@ -7,9 +7,6 @@ use Rattle.lstr_item.proofs.Reading.{of-optional, of-star, of-plus, of-
 use Rattle.lstr_item.proofs.item.repeated.Statement.{statement}
 use Rattle.lstr_item.proofs.item.repeated.Tie as tie
 
-shared-slice-read-match : tie.Need-shared-slice-read-match
-shared-slice-read-match c = search needs
-
 returns : tie.Need-returns
 returns c = let a = c .before .before .before .args in ap (repeatRead (a .suffix)) (of-optional (byteAt (a .pattern .now) (a .suffix)) (c .match .keys1))
 
@@ -34,4 +31,4 @@ returns-6 c = let a = c .before .args in ap (repeatRead (a .suffix)) (of-end (a 
 pub repeated-spec : {M : Type 1} → statement M
 repeated-spec =
     tie.close
-    (tie.spec shared-slice-read-match returns returns-2 returns-3 returns-4 returns-5 returns-6)
+    (tie.spec (λ c. search needs) returns returns-2 returns-3 returns-4 returns-5 returns-6)

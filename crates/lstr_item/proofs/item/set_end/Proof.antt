@@ -21,15 +21,6 @@ Inv-members pattern opening at₀ first at =
 abbrev μ-members : tie.MeasureT-members
 μ-members pattern opening at₀ first at = length pattern - at
 
-add-at : tie.Need-add-at Inv-members μ-members
-add-at c = search needs
-
-shared-slice-read-if2 : tie.Need-shared-slice-read-if2 Inv-members μ-members
-shared-slice-read-if2 c = search needs
-
-add-at-2 : tie.Need-add-at-2 Inv-members μ-members
-add-at-2 c = search needs
-
 members-holds : tie.Need-members-holds Inv-members μ-members
 members-holds c =
     let a = c .before .args in
@@ -50,24 +41,12 @@ returns c =
     let first = c .before .before .if1 .at in
     (closes-nowhere (a .pattern .now) (a .opening) first (l .at) (l .inv .3) (c .if3 .taken), tt)
 
-shared-slice-read-match : tie.Need-shared-slice-read-match Inv-members μ-members
-shared-slice-read-match c = search needs
-
-add-at-3 : tie.Need-add-at-3 Inv-members μ-members
-add-at-3 c = search needs
-
-members-less : tie.Need-members-less Inv-members μ-members
-members-less c = omega arith
-
 members-again : tie.Need-members-again Inv-members μ-members
 members-again c =
     let l = c .before .before .before .before .before .members in
     let a = c .before .before .before .before .before .before .before .args in
     let first = c .before .before .before .before .before .before .if1 .at in
     (omega arith, omega arith, l .inv .2, set-first (a .pattern .now) (a .opening) first (l .at) (l .inv .3) (c .before .before .before .before .if3 .left) (l .inv .0) (c .before .before .match .keys1) (omega (arith, c .before .if4 .left)))
-
-sub-if5 : tie.Need-sub-if5 Inv-members μ-members
-sub-if5 c = search needs
 
 returns-2 : tie.Need-returns-2 Inv-members μ-members
 returns-2 c =
@@ -76,24 +55,12 @@ returns-2 c =
     let first = c .before .before .before .before .before .before .if1 .at in
     (closes-cut (a .pattern .now) (a .opening) first (l .at) (l .inv .3) (c .before .before .before .before .if3 .left) (c .before .before .match .keys2) (c .if5 .taken), tt)
 
-add-at-4 : tie.Need-add-at-4 Inv-members μ-members
-add-at-4 c = search needs
-
-members-less-2 : tie.Need-members-less-2 Inv-members μ-members
-members-less-2 c = omega arith
-
 members-again-2 : tie.Need-members-again-2 Inv-members μ-members
 members-again-2 c =
     let l = c .before .before .before .before .before .members in
     let a = c .before .before .before .before .before .before .before .args in
     let first = c .before .before .before .before .before .before .if1 .at in
     (omega arith, omega arith, l .inv .2, set-escaped (a .pattern .now) (a .opening) first (l .at) (l .inv .3) (c .before .before .before .before .if3 .left) (l .inv .0) (c .before .before .match .keys2) (c .if5 .left))
-
-add-at-5 : tie.Need-add-at-5 Inv-members μ-members
-add-at-5 c = search needs
-
-members-less-3 : tie.Need-members-less-3 Inv-members μ-members
-members-less-3 c = omega arith
 
 members-again-3 : tie.Need-members-again-3 Inv-members μ-members
 members-again-3 c =
@@ -115,21 +82,15 @@ set-end-spec =
     (tie.spec
     Inv-members
     μ-members
-    add-at
-    shared-slice-read-if2
-    add-at-2
+    (λ c. search needs) (λ c. search needs) (λ c. search needs)
     members-holds
     returns
-    shared-slice-read-match
-    add-at-3
-    members-less
+    (λ c. search needs) (λ c. search needs) (λ c. omega arith)
     members-again
-    sub-if5
+    (λ c. search needs)
     returns-2
-    add-at-4
-    members-less-2
+    (λ c. search needs) (λ c. omega arith)
     members-again-2
-    add-at-5
-    members-less-3
+    (λ c. search needs) (λ c. omega arith)
     members-again-3
     returns-3)

@@ -7,23 +7,8 @@ use Rattle.lstr_item.proofs.Singles.{fits-any, fits-class, fits-set, fi
 use Rattle.lstr_item.proofs.single.fits.Statement.{statement}
 use Rattle.lstr_item.proofs.single.fits.Tie as tie
 
-shared-slice-read-byte : tie.Need-shared-slice-read-byte
-shared-slice-read-byte c = search needs
-
-shared-slice-read-first : tie.Need-shared-slice-read-first
-shared-slice-read-first c = search needs
-
-add-match-class : tie.Need-add-match-class
-add-match-class c = search needs
-
 shared-slice-read-match-class : tie.Need-shared-slice-read-match-class
 shared-slice-read-match-class c = omega (arith, c .before .before .before .before .before .before .before .pre .escape (c .before .match .keys2))
-
-match-class-requires : tie.Need-match-class-requires
-match-class-requires c κs = search needs
-
-sub-in-set : tie.Need-sub-in-set
-sub-in-set c = search needs
 
 in-set-requires : tie.Need-in-set-requires
 in-set-requires c κs =
@@ -57,12 +42,9 @@ pub fits-spec : {M : Type 1} → statement M
 fits-spec =
     tie.close
     (tie.spec
-    shared-slice-read-byte
-    shared-slice-read-first
-    add-match-class
+    (λ c. search needs) (λ c. search needs) (λ c. search needs)
     shared-slice-read-match-class
-    match-class-requires
-    sub-in-set
+    (λ c κs. search needs) (λ c. search needs)
     in-set-requires
     returns
     returns-2

@@ -26,29 +26,11 @@ abbrev μ-elements : tie.MeasureT-elements
 elements-holds : tie.Need-elements-holds Inv-elements μ-elements
 elements-holds c = refl
 
-shared-slice-read-element : tie.Need-shared-slice-read-element Inv-elements μ-elements
-shared-slice-read-element c = search needs
-
-add-next : tie.Need-add-next Inv-elements μ-elements
-add-next c = search needs
-
-shared-slice-read-match-class : tie.Need-shared-slice-read-match-class Inv-elements μ-elements
-shared-slice-read-match-class c = search needs
-
-match-class-requires : tie.Need-match-class-requires Inv-elements μ-elements
-match-class-requires c κs = search needs
-
 returns : tie.Need-returns Inv-elements μ-elements
 returns c =
     let a = c .before .before .before .before .before .before .before .before .args in
     let l = c .before .before .before .before .before .before .elements in
     sym (l .inv ∙ any-escape (a .pattern .now) (a .closing) (classIn (a .classes .now)) (a .byte) (l .at) (c .before .before .before .before .before .elements-test .taken) true (c .before .before .before .if1 .taken) (sym (c .before .match-class .ensures) ∙ c .if2 .taken))
-
-add-at : tie.Need-add-at Inv-elements μ-elements
-add-at c = search needs
-
-elements-less : tie.Need-elements-less Inv-elements μ-elements
-elements-less c = search needs
 
 elements-again : tie.Need-elements-again Inv-elements μ-elements
 elements-again c =
@@ -56,29 +38,11 @@ elements-again c =
     let l = c .before .before .before .before .before .before .elements in
     l .inv ∙ any-escape (a .pattern .now) (a .closing) (classIn (a .classes .now)) (a .byte) (l .at) (c .before .before .before .before .before .elements-test .taken) false (c .before .before .before .if1 .taken) (sym (c .before .match-class .ensures) ∙ c .if2 .left)
 
-sub-if3 : tie.Need-sub-if3 Inv-elements μ-elements
-sub-if3 c = search needs
-
-shared-slice-read-if4 : tie.Need-shared-slice-read-if4 Inv-elements μ-elements
-shared-slice-read-if4 c = search needs
-
-add-last : tie.Need-add-last Inv-elements μ-elements
-add-last c = search needs
-
-shared-slice-read-if6 : tie.Need-shared-slice-read-if6 Inv-elements μ-elements
-shared-slice-read-if6 c = search needs
-
 returns-2 : tie.Need-returns-2 Inv-elements μ-elements
 returns-2 c =
     let a = c .before .before .before .before .before .before .before .before .before .before .before .args in
     let l = c .before .before .before .before .before .before .before .before .before .elements in
     sym (l .inv ∙ any-range (a .pattern .now) (a .closing) (classIn (a .classes .now)) (a .byte) (l .at) (c .before .before .before .before .before .before .before .before .elements-test .taken) true (c .before .before .before .before .before .before .if1 .left) (c .before .before .before .if4 .taken) (omega (arith, c .before .before .before .before .before .if3 .taken)) (within (byteAt (a .pattern .now) (l .at)) (byteAt (a .pattern .now) (l .at + 2)) (a .byte) (c .before .before .if5 .taken) (c .if6 .taken)))
-
-add-at-2 : tie.Need-add-at-2 Inv-elements μ-elements
-add-at-2 c = search needs
-
-elements-less-2 : tie.Need-elements-less-2 Inv-elements μ-elements
-elements-less-2 c = search needs
 
 elements-again-2 : tie.Need-elements-again-2 Inv-elements μ-elements
 elements-again-2 c =
@@ -93,9 +57,6 @@ returns-3 c =
     let a = c .before .before .before .before .before .before .before .args in
     let l = c .before .before .before .before .before .elements in
     sym (l .inv ∙ any-plain (a .pattern .now) (a .closing) (classIn (a .classes .now)) (a .byte) (l .at) (c .before .before .before .before .elements-test .taken) true (c .before .before .if1 .left) (⊎-elim (λ w. inl (w .2 .left)) (λ w. inr (omega (arith, w .left))) (c .before .if3 .came)) (eq-eqb (byteAt (a .pattern .now) (l .at)) (a .byte) (c .if7 .taken)))
-
-elements-less-3 : tie.Need-elements-less-3 Inv-elements μ-elements
-elements-less-3 c = search needs
 
 elements-again-3 : tie.Need-elements-again-3 Inv-elements μ-elements
 elements-again-3 c =
@@ -116,23 +77,15 @@ is-any-of-spec =
     Inv-elements
     μ-elements
     elements-holds
-    shared-slice-read-element
-    add-next
-    shared-slice-read-match-class
-    match-class-requires
+    (λ c. search needs) (λ c. search needs) (λ c. search needs) (λ c κs. search needs)
     returns
-    add-at
-    elements-less
+    (λ c. search needs) (λ c. search needs)
     elements-again
-    sub-if3
-    shared-slice-read-if4
-    add-last
-    shared-slice-read-if6
+    (λ c. search needs) (λ c. search needs) (λ c. search needs) (λ c. search needs)
     returns-2
-    add-at-2
-    elements-less-2
+    (λ c. search needs) (λ c. search needs)
     elements-again-2
     returns-3
-    elements-less-3
+    (λ c. search needs)
     elements-again-3
     returns-4)

@@ -22,17 +22,8 @@ Inv-loop classes subject pattern at suffix place budget steps₁ tested₀ steps
 abbrev μ-loop : tie.MeasureT-loop
 μ-loop classes subject pattern at suffix place budget steps₁ tested₀ steps₀ tested steps = length subject - tested
 
-shared-slice-read-if1 : tie.Need-shared-slice-read-if1 Inv-loop μ-loop
-shared-slice-read-if1 c = search needs
-
-add-reach-class : tie.Need-add-reach-class Inv-loop μ-loop
-add-reach-class c = search needs
-
 shared-slice-read-reach-class : tie.Need-shared-slice-read-reach-class Inv-loop μ-loop
 shared-slice-read-reach-class c = omega (arith, c .before .before .before .before .before .pre .0 .escape (c .before .if1 .taken), c .before .before .before .before .before .pre .0 .inside)
-
-reach-class-requires : tie.Need-reach-class-requires Inv-loop μ-loop
-reach-class-requires c κs = search needs
 
 returns : tie.Need-returns Inv-loop μ-loop
 returns c =
@@ -47,12 +38,6 @@ returns-2 c =
     let a = c .before .before .before .before .before .before .args in
     let l = c .before .loop in
     (sym (l .inv .0 ∙ reach-spent (classIn (a .classes .now)) (a .subject .now) (singleOf (a .pattern .now) (a .at) (a .suffix)) (l .tested) (a .budget) (l .steps) (c .if2 .taken)), (l .inv .1, l .inv .2))
-
-add-steps : tie.Need-add-steps Inv-loop μ-loop
-add-steps c = search needs
-
-fits-requires : tie.Need-fits-requires Inv-loop μ-loop
-fits-requires c κs = search needs
 
 returns-3 : tie.Need-returns-3 Inv-loop μ-loop
 returns-3 c =
@@ -84,15 +69,13 @@ reach-spec =
     (tie.spec
     Inv-loop
     μ-loop
-    shared-slice-read-if1
-    add-reach-class
+    (λ c. search needs) (λ c. search needs)
     shared-slice-read-reach-class
-    reach-class-requires
+    (λ c κs. search needs)
     returns
     loop-holds
     returns-2
-    add-steps
-    fits-requires
+    (λ c. search needs) (λ c κs. search needs)
     returns-3
     add-tested
     loop-less

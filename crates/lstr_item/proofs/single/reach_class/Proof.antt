@@ -19,9 +19,6 @@ Inv-loop classes subject letter place budget steps₁ bits tested₀ steps₀ te
 abbrev μ-loop : tie.MeasureT-loop
 μ-loop classes subject letter place budget steps₁ bits tested₀ steps₀ tested steps = length subject - tested
 
-class-bits-requires : tie.Need-class-bits-requires Inv-loop μ-loop
-class-bits-requires c κs = search needs
-
 loop-holds : tie.Need-loop-holds Inv-loop μ-loop
 loop-holds c = (refl, omega arith, omega arith)
 
@@ -31,17 +28,11 @@ returns c =
     let l = c .before .loop in
     (sym (l .inv .0 ∙ reach-spent (classIn (a .classes .now)) (a .subject .now) (class (a .letter)) (l .tested) (a .budget) (l .steps) (c .if1 .taken)), (l .inv .1, l .inv .2))
 
-add-steps : tie.Need-add-steps Inv-loop μ-loop
-add-steps c = search needs
-
 returns-2 : tie.Need-returns-2 Inv-loop μ-loop
 returns-2 c =
     let a = c .before .before .before .before .before .args in
     let l = c .before .before .loop in
     (sym (l .inv .0 ∙ reach-stop (classIn (a .classes .now)) (a .subject .now) (class (a .letter)) (l .tested) (a .budget) (l .steps) (c .before .if1 .left) (class-end (classIn (a .classes .now)) (a .subject .now) (a .letter) (l .tested) (c .if2 .taken))), (l .inv .1, l .inv .2))
-
-shared-slice-read-match-bits : tie.Need-shared-slice-read-match-bits Inv-loop μ-loop
-shared-slice-read-match-bits c = search needs
 
 match-bits-requires : tie.Need-match-bits-requires Inv-loop μ-loop
 match-bits-requires c κs = c .before .before .before .before .class-bits .ensures
@@ -51,12 +42,6 @@ returns-3 c =
     let a = c .before .before .before .before .before .before .before .before .args in
     let l = c .before .before .before .before .before .loop in
     (sym (l .inv .0 ∙ reach-stop (classIn (a .classes .now)) (a .subject .now) (class (a .letter)) (l .tested) (a .budget) (l .steps) (c .before .before .before .before .if1 .left) (sym (class-fits (classIn (a .classes .now)) (a .subject .now) (a .letter) (l .tested) (c .before .before .before .if2 .left)) ∙ sym (c .before .match-bits .ensures) ∙ not-true _ (c .if3 .taken))), (l .inv .1, l .inv .2))
-
-add-tested : tie.Need-add-tested Inv-loop μ-loop
-add-tested c = search needs
-
-loop-less : tie.Need-loop-less Inv-loop μ-loop
-loop-less c = search needs
 
 loop-again : tie.Need-loop-again Inv-loop μ-loop
 loop-again c =
@@ -70,14 +55,13 @@ reach-class-spec =
     (tie.spec
     Inv-loop
     μ-loop
-    class-bits-requires
+    (λ c κs. search needs)
     loop-holds
     returns
-    add-steps
+    (λ c. search needs)
     returns-2
-    shared-slice-read-match-bits
+    (λ c. search needs)
     match-bits-requires
     returns-3
-    add-tested
-    loop-less
+    (λ c. search needs) (λ c. search needs)
     loop-again)

@@ -21,9 +21,6 @@ add-append-decimal c = omega (arith, c .before .before .before .before .before .
 append-decimal-requires : tie.Need-append-decimal-requires
 append-decimal-requires c κs = c .before .before .before .before .before .pre .0
 
-same-length : tie.Need-same-length
-same-length c = search needs
-
 returns-2 : tie.Need-returns-2
 returns-2 c =
     let a = c .before .before .before .before .before .before .before .before .args in
@@ -36,12 +33,6 @@ add-end c =
     let l : a .len < positional = omega arith in
     omega (arith, c .before .before .before .before .pre .1 .1 l)
 
-sub-append : tie.Need-sub-append
-sub-append c = search needs
-
-part-append-start : tie.Need-part-append-start
-part-append-start c = search needs
-
 part-append-end : tie.Need-part-append-end
 part-append-end c =
     let a = c .before .before .before .before .before .args in
@@ -50,9 +41,6 @@ part-append-end c =
 
 append-requires : tie.Need-append-requires
 append-requires c κs = c .before .before .before .before .before .before .pre .0
-
-same-length-2 : tie.Need-same-length-2
-same-length-2 c = search needs
 
 returns-3 : tie.Need-returns-3
 returns-3 c =
@@ -67,12 +55,11 @@ add-capture-spec =
     returns
     add-append-decimal
     append-decimal-requires
-    same-length
+    (λ c. search needs)
     returns-2
     add-end
-    sub-append
-    part-append-start
+    (λ c. search needs) (λ c. search needs)
     part-append-end
     append-requires
-    same-length-2
+    (λ c. search needs)
     returns-3)

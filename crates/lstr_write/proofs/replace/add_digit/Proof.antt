@@ -21,38 +21,14 @@ part-append-end c = c .before .before .before .before .pre .2
 append-requires : tie.Need-append-requires
 append-requires c κs = c .before .before .before .before .before .pre .0
 
-same-length : tie.Need-same-length
-same-length c = search needs
-
 returns : tie.Need-returns
 returns c =
     let a = c .before .before .before .before .before .before .before .before .args in
     outputs.known-as _ _ _ _ _ _ (c .before .before .append .ensures)
     (replaced.digit-zero (a .subject .now) (length (a .output .now)) (a .place) (a .end) (capturesIn (a .count) (a .kept .now)) (a .digit) (take (a .at) (a .output .now)) (c .before .before .before .before .before .if1 .taken))
 
-sub-index : tie.Need-sub-index
-sub-index c = search needs
-
-cast-index : tie.Need-cast-index
-cast-index c = search needs
-
-mul-add-capture : tie.Need-mul-add-capture
-mul-add-capture c = search needs
-
-mul-add-capture-2 : tie.Need-mul-add-capture-2
-mul-add-capture-2 c = search needs
-
 shared-slice-read-add-capture : tie.Need-shared-slice-read-add-capture
 shared-slice-read-add-capture c = omega (arith, c .before .slots .given, c .before .before .before .before .before .before .pre .4 .few)
-
-mul-add-capture-3 : tie.Need-mul-add-capture-3
-mul-add-capture-3 c = search needs
-
-add-add-capture : tie.Need-add-add-capture
-add-add-capture c = search needs
-
-mul-add-capture-4 : tie.Need-mul-add-capture-4
-mul-add-capture-4 c = search needs
 
 shared-slice-read-add-capture-2 : tie.Need-shared-slice-read-add-capture-2
 shared-slice-read-add-capture-2 c = omega (arith, c .before .before .slots .given, c .before .before .before .before .before .before .before .pre .4 .few)
@@ -62,9 +38,6 @@ add-capture-requires c κs =
     let a = c .before .before .before .before .before .before .before .before .args in
     let q = c .before .before .before .before .before .before .before .before .pre in
     (q .0, replaced.pair-kept (length (a .subject .now)) (a .count) (a .kept .now) (a .digit - 1) (q .4) (c .before .before .before .before .if2 .taken))
-
-same-length-2 : tie.Need-same-length-2
-same-length-2 c = search needs
 
 returns-2 : tie.Need-returns-2
 returns-2 c =
@@ -84,9 +57,6 @@ part-append-end-2 c = c .before .before .before .before .before .before .pre .2
 
 append-requires-2 : tie.Need-append-requires-2
 append-requires-2 c κs = c .before .before .before .before .before .before .before .pre .0
-
-same-length-3 : tie.Need-same-length-3
-same-length-3 c = search needs
 
 returns-3 : tie.Need-returns-3
 returns-3 c =
@@ -112,24 +82,19 @@ add-digit-spec =
     part-append-start
     part-append-end
     append-requires
-    same-length
+    (λ c. search needs)
     returns
-    sub-index
-    cast-index
-    mul-add-capture
-    mul-add-capture-2
+    (λ c. search needs) (λ c. search needs) (λ c. search needs) (λ c. search needs)
     shared-slice-read-add-capture
-    mul-add-capture-3
-    add-add-capture
-    mul-add-capture-4
+    (λ c. search needs) (λ c. search needs) (λ c. search needs)
     shared-slice-read-add-capture-2
     add-capture-requires
-    same-length-2
+    (λ c. search needs)
     returns-2
     sub-append-2
     part-append-start-2
     part-append-end-2
     append-requires-2
-    same-length-3
+    (λ c. search needs)
     returns-3
     returns-4)

@@ -30,17 +30,11 @@ returns c =
 append-byte-requires-2 : tie.Need-append-byte-requires-2
 append-byte-requires-2 c κs = c .before .before .before .before .before .before .pre .0
 
-same-length : tie.Need-same-length
-same-length c = search needs
-
 returns-2 : tie.Need-returns-2
 returns-2 c =
     let a = c .before .before .before .before .before .before .before .args in
     outputs.known-as _ _ _ _ _ _ (c .before .before .append-byte .ensures)
     (replaced.adds-percent (a .subject .now) (length (a .output .now)) (a .place) (a .end) (capturesIn (a .count) (a .kept .now)) (a .is-strict) (a .behind) (take (a .at) (a .output .now)) (c .before .before .before .before .match .keys1))
-
-same-length-2 : tie.Need-same-length-2
-same-length-2 c = search needs
 
 returns-3 : tie.Need-returns-3
 unfolding isDigit
@@ -49,9 +43,6 @@ returns-3 c =
     outputs.known-as _ _ _ _ _ _ (c .before .before .add-digit .ensures)
     (replaced.adds-digit (a .subject .now) (length (a .output .now)) (a .place) (a .end) (capturesIn (a .count) (a .kept .now)) (a .is-strict) (a .behind) (take (a .at) (a .output .now)) (c .before .before .before .before .before .before .match .rest .1)
     (within 48 57 (a .behind) (omega arith) (omega arith)))
-
-same-length-3 : tie.Need-same-length-3
-same-length-3 c = search needs
 
 returns-4 : tie.Need-returns-4
 unfolding isDigit
@@ -69,9 +60,9 @@ add-escape-spec =
     add-digit-requires
     returns
     append-byte-requires-2
-    same-length
+    (λ c. search needs)
     returns-2
-    same-length-2
+    (λ c. search needs)
     returns-3
-    same-length-3
+    (λ c. search needs)
     returns-4)

@@ -27,12 +27,6 @@ pieces-holds c =
       is = refl;
     }
 
-shared-slice-read-byte : tie.Need-shared-slice-read-byte Inv-pieces μ-pieces
-shared-slice-read-byte c = search needs
-
-add-read : tie.Need-add-read Inv-pieces μ-pieces
-add-read c = search needs
-
 append-byte-requires : tie.Need-append-byte-requires Inv-pieces μ-pieces
 append-byte-requires c κs =
     let u = c .before .before .before .before .pieces .inv .upto in
@@ -50,9 +44,6 @@ returns c =
     let h = c .before .before .before .before .before .before .before .before .pieces-test .taken in
     replaced.piece-ended (a .subject .now) (a .place) (a .end) (capturesIn (a .count) (a .kept .now)) (a .is-strict) (a .replacement .now) (a .at) (a .output .now) (l .read) (l .next) (l .output) (l .inv)
     (literal b) (l .read + 1) (replaced.at-literal (a .replacement .now) (l .read) h (c .before .before .before .before .before .before .if1 .taken)) (omega (arith, h)) _ _ (c .before .before .before .before .append-byte .ensures) (search needs) (c .if2 .taken)
-
-pieces-less : tie.Need-pieces-less Inv-pieces μ-pieces
-pieces-less c = search needs
 
 pieces-again : tie.Need-pieces-again Inv-pieces μ-pieces
 unfolding addPiece
@@ -92,12 +83,6 @@ returns-3 c =
     (replaced.lone-zero (a .subject .now) (a .place) (a .end) (capturesIn (a .count) (a .kept .now)) (a .is-strict) (a .replacement .now) (a .at) (a .output .now) (l .read) (l .next) (l .output) (l .inv)
     (c .before .before .before .before .before .before .before .before .pieces-test .taken) (c .before .before .before .before .before .before .if1 .left) (c .before .before .before .before .before .if3 .taken) (c .before .before .before .before .if4 .left))
 
-shared-slice-read-behind : tie.Need-shared-slice-read-behind Inv-pieces μ-pieces
-shared-slice-read-behind c = search needs
-
-add-read-2 : tie.Need-add-read-2 Inv-pieces μ-pieces
-add-read-2 c = search needs
-
 add-escape-requires : tie.Need-add-escape-requires Inv-pieces μ-pieces
 add-escape-requires c κs =
     let u = c .before .before .before .before .before .before .pieces .inv .upto in
@@ -116,9 +101,6 @@ returns-4 c =
     let f = c .before .before .before .before .before .before .before .if3 .left in
     replaced.piece-ended (a .subject .now) (a .place) (a .end) (capturesIn (a .count) (a .kept .now)) (a .is-strict) (a .replacement .now) (a .at) (a .output .now) (l .read) (l .next) (l .output) (l .inv)
     (escaped b) (l .read + 1 + 1) (replaced.at-escape (a .replacement .now) (l .read) h (c .before .before .before .before .before .before .before .before .if1 .left) f) (omega (arith, f)) _ _ (c .before .before .before .before .add-escape .ensures) (search needs) (c .if5 .taken)
-
-pieces-less-2 : tie.Need-pieces-less-2 Inv-pieces μ-pieces
-pieces-less-2 c = search needs
 
 pieces-again-2 : tie.Need-pieces-again-2 Inv-pieces μ-pieces
 pieces-again-2 c =
@@ -148,24 +130,22 @@ add-pieces-spec =
     Inv-pieces
     μ-pieces
     pieces-holds
-    shared-slice-read-byte
-    add-read
+    (λ c. search needs) (λ c. search needs)
     append-byte-requires
     same-length
     returns
-    pieces-less
+    (λ c. search needs)
     pieces-again
     same-length-2
     returns-2
     append-byte-requires-2
     same-length-3
     returns-3
-    shared-slice-read-behind
-    add-read-2
+    (λ c. search needs) (λ c. search needs)
     add-escape-requires
     same-length-4
     returns-4
-    pieces-less-2
+    (λ c. search needs)
     pieces-again-2
     same-length-5
     returns-5)

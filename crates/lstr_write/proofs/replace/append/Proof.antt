@@ -33,21 +33,6 @@ returns c =
     ∙ sym (outputs.is-full (length (a .output .now)) (a .bytes .now) (l .i) (take (l .next) (l .output)) (c .before .loop-test .taken) (omega (arith, c .if1 .taken, l .inv .1 .same, outputs.length-so-far (a .at) (a .output .now) (l .next) (l .output) (l .inv .1))))
     ∙ l .inv .2)
 
-shared-slice-read-output : tie.Need-shared-slice-read-output Inv-loop μ-loop
-shared-slice-read-output c = search needs
-
-slice-write-output : tie.Need-slice-write-output Inv-loop μ-loop
-slice-write-output c = search needs
-
-add-i : tie.Need-add-i Inv-loop μ-loop
-add-i c = search needs
-
-add-next : tie.Need-add-next Inv-loop μ-loop
-add-next c = search needs
-
-loop-less : tie.Need-loop-less Inv-loop μ-loop
-loop-less c = search needs
-
 loop-again : tie.Need-loop-again Inv-loop μ-loop
 loop-again c =
     let l = c .before .before .before .loop in
@@ -81,11 +66,7 @@ append-spec =
     loop-holds
     same-length
     returns
-    shared-slice-read-output
-    slice-write-output
-    add-i
-    add-next
-    loop-less
+    (λ c. search needs) (λ c. search needs) (λ c. search needs) (λ c. search needs) (λ c. search needs)
     loop-again
     same-length-2
     returns-2)

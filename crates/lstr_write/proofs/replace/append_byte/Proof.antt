@@ -4,15 +4,6 @@ use Rattle.lstr_write.proofs.Outputs as outputs
 use Rattle.lstr_write.proofs.replace.append_byte.Statement.{statement}
 use Rattle.lstr_write.proofs.replace.append_byte.Tie as tie
 
-slice-write-output : tie.Need-slice-write-output
-slice-write-output c = search needs
-
-add-t7 : tie.Need-add-t7
-add-t7 c = search needs
-
-same-length : tie.Need-same-length
-same-length c = search needs
-
 returns : tie.Need-returns
 returns c =
     let a = c .before .args in
@@ -26,4 +17,4 @@ returns-2 c =
     outputs.byte-full (a .at) (a .output .now) (a .at) (a .output .now) u (a .byte) (c .if1 .left)
 
 pub append-byte-spec : {M : Type 1} → statement M
-append-byte-spec = tie.close (tie.spec slice-write-output add-t7 same-length returns returns-2)
+append-byte-spec = tie.close (tie.spec (λ c. search needs) (λ c. search needs) (λ c. search needs) returns returns-2)

@@ -23,12 +23,6 @@ loop-holds c = decimals.no-digit (c .before .args .number) _ refl (omega arith)
 sub-first : tie.Need-sub-first Inv-loop μ-loop
 sub-first c = c .loop .inv .low
 
-cast-digits : tie.Need-cast-digits Inv-loop μ-loop
-cast-digits c = search needs
-
-add-digits : tie.Need-add-digits Inv-loop μ-loop
-add-digits c = search needs
-
 array-write-digits : tie.Need-array-write-digits Inv-loop μ-loop
 array-write-digits c = omega (arith, c .loop .inv .high, c .loop .inv .low)
 
@@ -43,9 +37,6 @@ loop-again c =
 sub-append : tie.Need-sub-append Inv-loop μ-loop
 sub-append c = omega (arith, c .before .before .loop .inv .high)
 
-part-append-start : tie.Need-part-append-start Inv-loop μ-loop
-part-append-start c = search needs
-
 part-append-end : tie.Need-part-append-end Inv-loop μ-loop
 part-append-end c =
     let l = c .before .before .before .loop in
@@ -53,9 +44,6 @@ part-append-end c =
 
 append-requires : tie.Need-append-requires Inv-loop μ-loop
 append-requires c κs = c .before .before .before .before .before .before .pre
-
-same-length : tie.Need-same-length Inv-loop μ-loop
-same-length c = search needs
 
 returns : tie.Need-returns Inv-loop μ-loop
 returns c =
@@ -73,14 +61,13 @@ append-decimal-spec =
     μ-loop
     loop-holds
     sub-first
-    cast-digits
-    add-digits
+    (λ c. search needs) (λ c. search needs)
     array-write-digits
     loop-less
     loop-again
     sub-append
-    part-append-start
+    (λ c. search needs)
     part-append-end
     append-requires
-    same-length
+    (λ c. search needs)
     returns)

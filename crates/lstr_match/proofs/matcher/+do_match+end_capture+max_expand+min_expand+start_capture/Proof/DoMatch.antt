@@ -119,42 +119,21 @@ module _ (t : ℕ) where
 
   -- ---- The needs
 
-  too-deep-requires : lts.Need-too-deep-requires (E t) (do-match-at t) do-match.Post Inv μ
-  too-deep-requires c κs = search needs
-
   returns : lts.Need-returns (E t) (do-match-at t) do-match.Post Inv μ
   returns c = repeats.ended _ _ _ _ _ (c .too-deep .ensures) (turns.too-deep _ _ _ (c .before .if1 .taken))
-
-  add-deeper : lts.Need-add-deeper (E t) (do-match-at t) do-match.Post Inv μ
-  add-deeper c = omega arith
 
   items-holds : lts.Need-items-holds (E t) (do-match-at t) do-match.Post Inv μ
   items-holds c = (sym (turns.level-opens _ _ _ (c .if1 .left)), omega (arith, c .before .before .before .pre .1))
 
-  spent-requires : lts.Need-spent-requires (E t) (do-match-at t) do-match.Post Inv μ
-  spent-requires c κs = search needs
-
   returns-2 : lts.Need-returns-2 (E t) (do-match-at t) do-match.Post Inv μ
   returns-2 c =
       repeats.ended _ _ _ _ _ (c .spent .ensures) (turns.steps-spent _ _ (c .before .before .before .before .before .before .args .pattern .now) _ _ _ _ _ _ (c .before .if2 .taken) ∙ c .before .before .items .inv .0)
-
-  add-steps : lts.Need-add-steps (E t) (do-match-at t) do-match.Post Inv μ
-  add-steps c = omega arith
-
-  read-requires : lts.Need-read-requires (E t) (do-match-at t) do-match.Post Inv μ
-  read-requires c κs = search needs
-
-  enum-told : lts.Need-enum-told (E t) (do-match-at t) do-match.Post Inv μ
-  enum-told c = search needs
 
   keep-requires : lts.Need-keep-requires (E t) (do-match-at t) do-match.Post Inv μ
   keep-requires c κs = sound (c .before .before .before) .few
 
   cast-matched : lts.Need-cast-matched (E t) (do-match-at t) do-match.Post Inv μ
   cast-matched c = omega (arith, sound (c .before .before .before .before .before) .few)
-
-  matched-requires : lts.Need-matched-requires (E t) (do-match-at t) do-match.Post Inv μ
-  matched-requires c κs = search needs
 
   returns-3 : lts.Need-returns-3 (E t) (do-match-at t) do-match.Post Inv μ
   returns-3 c =
@@ -163,17 +142,11 @@ module _ (t : ℕ) where
       repeats.kept-matched _ _ _ _ _ _ _ _ (c .matched .ensures) (inside d) (kept-later _ _ _ _ (inside d) (k .1 _ (sound d))) (k .0)
       (turns.at-end _ _ _ _ _ _ _ _ _ (paid d) (item d _ (c .before .before .before .before .enum-told .given .1)) ∙ so-far d)
 
-  enum-told-2 : lts.Need-enum-told-2 (E t) (do-match-at t) do-match.Post Inv μ
-  enum-told-2 c = search needs
-
   keep-requires-2 : lts.Need-keep-requires-2 (E t) (do-match-at t) do-match.Post Inv μ
   keep-requires-2 c κs = sound (c .before .before .before .before) .few
 
   cast-matched-2 : lts.Need-cast-matched-2 (E t) (do-match-at t) do-match.Post Inv μ
   cast-matched-2 c = omega (arith, sound (c .before .before .before .before .before .before) .few)
-
-  matched-requires-2 : lts.Need-matched-requires-2 (E t) (do-match-at t) do-match.Post Inv μ
-  matched-requires-2 c κs = search needs
 
   returns-4 : lts.Need-returns-4 (E t) (do-match-at t) do-match.Post Inv μ
   returns-4 c =
@@ -182,27 +155,15 @@ module _ (t : ℕ) where
       repeats.kept-matched _ _ _ _ _ _ _ _ (c .matched2 .ensures) (inside d) (kept-later _ _ _ _ (inside d) (k .1 _ (sound d))) (k .0)
       (turns.at-anchor _ _ _ _ _ _ _ _ _ (paid d) (item d _ (c .before .before .before .before .before .enum-told2 .given .1)) (c .before .before .before .before .if3 .taken) ∙ so-far d)
 
-  failed-requires : lts.Need-failed-requires (E t) (do-match-at t) do-match.Post Inv μ
-  failed-requires c κs = search needs
-
   returns-5 : lts.Need-returns-5 (E t) (do-match-at t) do-match.Post Inv μ
   returns-5 c =
       let d = c .before .before .before .before in
       repeats.ended _ _ _ _ _ (c .failed .ensures) (turns.not-at-anchor _ _ _ _ _ _ _ _ _ (paid d) (item d _ (c .before .before .enum-told2 .given .1)) (c .before .if3 .left) ∙ so-far d)
 
-  enum-known-item : lts.Need-enum-known-item (E t) (do-match-at t) do-match.Post Inv μ
-  enum-known-item c = search needs
-
-  raised-requires : lts.Need-raised-requires (E t) (do-match-at t) do-match.Post Inv μ
-  raised-requires c κs = search needs
-
   returns-6 : lts.Need-returns-6 (E t) (do-match-at t) do-match.Post Inv μ
   returns-6 c =
       let d = c .before .before .before .before in
       repeats.ended _ _ _ _ _ (c .raised .ensures) (turns.at-raises _ _ _ _ _ _ _ _ _ (paid d) _ (item d _ (c .before .before .item .given .1)) ∙ so-far d)
-
-  enum-known-item-2 : lts.Need-enum-known-item-2 (E t) (do-match-at t) do-match.Post Inv μ
-  enum-known-item-2 c = search needs
 
   start-capture-requires : lts.Need-start-capture-requires (E t) (do-match-at t) do-match.Post Inv μ
   start-capture-requires c κs =
@@ -210,17 +171,11 @@ module _ (t : ℕ) where
       let i = item d _ (c .before .before .item2 .given .1) in
       (below d _ (i .further) (i .inside), (i .inside, inside d, omega arith, sound d))
 
-  answer-requires : lts.Need-answer-requires (E t) (do-match-at t) do-match.Post Inv μ
-  answer-requires c κs = search needs
-
   returns-7 : lts.Need-returns-7 (E t) (do-match-at t) do-match.Post Inv μ
   returns-7 c =
       let d = c .before .before .before .before .before .before in
       let i = item d _ (c .before .before .before .before .item2 .given .1) in
       repeats.answered _ _ _ _ _ _ (c .answer .ensures) (c .before .start-capture .ensures) (turns.at-start _ _ _ _ _ _ _ _ _ (paid d) _ _ (is-open _ _ refl) i ∙ so-far d)
-
-  enum-known-item-3 : lts.Need-enum-known-item-3 (E t) (do-match-at t) do-match.Post Inv μ
-  enum-known-item-3 c = search needs
 
   start-capture-requires-2 : lts.Need-start-capture-requires-2 (E t) (do-match-at t) do-match.Post Inv μ
   start-capture-requires-2 c κs =
@@ -228,17 +183,11 @@ module _ (t : ℕ) where
       let i = item d _ (c .before .before .item3 .given .1) in
       (below d _ (i .further) (i .inside), (i .inside, inside d, omega arith, sound d))
 
-  answer-requires-2 : lts.Need-answer-requires-2 (E t) (do-match-at t) do-match.Post Inv μ
-  answer-requires-2 c κs = search needs
-
   returns-8 : lts.Need-returns-8 (E t) (do-match-at t) do-match.Post Inv μ
   returns-8 c =
       let d = c .before .before .before .before .before .before in
       let i = item d _ (c .before .before .before .before .item3 .given .1) in
       repeats.answered _ _ _ _ _ _ (c .answer2 .ensures) (c .before .start-capture2 .ensures) (turns.at-position _ _ _ _ _ _ _ _ _ (paid d) _ _ (is-position _ _ refl) i ∙ so-far d)
-
-  enum-known-item-4 : lts.Need-enum-known-item-4 (E t) (do-match-at t) do-match.Post Inv μ
-  enum-known-item-4 c = search needs
 
   end-capture-requires : lts.Need-end-capture-requires (E t) (do-match-at t) do-match.Post Inv μ
   end-capture-requires c κs =
@@ -246,28 +195,16 @@ module _ (t : ℕ) where
       let i = item d _ (c .before .before .item4 .given .1) in
       (below d _ (i .further) (i .inside), (i .inside, inside d, sound d))
 
-  answer-requires-3 : lts.Need-answer-requires-3 (E t) (do-match-at t) do-match.Post Inv μ
-  answer-requires-3 c κs = search needs
-
   returns-9 : lts.Need-returns-9 (E t) (do-match-at t) do-match.Post Inv μ
   returns-9 c =
       let d = c .before .before .before .before .before .before in
       let i = item d _ (c .before .before .before .before .item4 .given .1) in
       repeats.answered _ _ _ _ _ _ (c .answer3 .ensures) (c .before .end-capture .ensures) (turns.at-close _ _ _ _ _ _ _ _ _ (paid d) _ i ∙ so-far d)
 
-  enum-known-item-5 : lts.Need-enum-known-item-5 (E t) (do-match-at t) do-match.Post Inv μ
-  enum-known-item-5 c = search needs
-
   match-capture-requires : lts.Need-match-capture-requires (E t) (do-match-at t) do-match.Post Inv μ
   match-capture-requires c κs =
       let d = c .before .before .before in
       (inside d, sound d)
-
-  enum-told-3 : lts.Need-enum-told-3 (E t) (do-match-at t) do-match.Post Inv μ
-  enum-told-3 c = search needs
-
-  raised-requires-2 : lts.Need-raised-requires-2 (E t) (do-match-at t) do-match.Post Inv μ
-  raised-requires-2 c κs = search needs
 
   returns-10 : lts.Need-returns-10 (E t) (do-match-at t) do-match.Post Inv μ
   returns-10 c =
@@ -276,21 +213,12 @@ module _ (t : ℕ) where
       let w = repeats.held-as _ _ _ _ _ _ held.Bad (c .before .enum-told3 .given .1) (c .before .before .before .match-capture .ensures .0 _ _ _ ∙ turns.at-reference _ _ _ _ _ _ _ _ _ (paid d) _ _ i) in
       repeats.ended _ _ _ _ _ (c .raised2 .ensures) (w ∙ so-far d)
 
-  enum-told-4 : lts.Need-enum-told-4 (E t) (do-match-at t) do-match.Post Inv μ
-  enum-told-4 c = search needs
-
-  failed-requires-2 : lts.Need-failed-requires-2 (E t) (do-match-at t) do-match.Post Inv μ
-  failed-requires-2 c κs = search needs
-
   returns-11 : lts.Need-returns-11 (E t) (do-match-at t) do-match.Post Inv μ
   returns-11 c =
       let d = c .before .before .before .before .before .before .before in
       let i = item d _ (c .before .before .before .before .before .item5 .given .1) in
       let w = repeats.held-as _ _ _ _ _ _ held.Differs (c .before .enum-told4 .given .1) (c .before .before .before .match-capture .ensures .0 _ _ _ ∙ turns.at-reference _ _ _ _ _ _ _ _ _ (paid d) _ _ i) in
       repeats.ended _ _ _ _ _ (c .failed2 .ensures) (w ∙ so-far d)
-
-  enum-known-held : lts.Need-enum-known-held (E t) (do-match-at t) do-match.Post Inv μ
-  enum-known-held c = search needs
 
   add-place : lts.Need-add-place (E t) (do-match-at t) do-match.Post Inv μ
   add-place c =
@@ -312,15 +240,6 @@ module _ (t : ℕ) where
       let g = subst (λ x. HeldIn x (c .before .before .before .before .before .before .before .before .before .items .place) (length (c .before .before .before .before .before .before .before .before .before .before .before .before .before .args .subject .now))) (c .before .held .given .1) (c .before .before .before .match-capture .ensures .1) in
       again d _ _ _ (i .further) (i .inside) (omega arith) (omega (arith, g)) w
 
-  enum-known-item-6 : lts.Need-enum-known-item-6 (E t) (do-match-at t) do-match.Post Inv μ
-  enum-known-item-6 c = search needs
-
-  match-balance-requires : lts.Need-match-balance-requires (E t) (do-match-at t) do-match.Post Inv μ
-  match-balance-requires c κs = search needs
-
-  enum-known-found : lts.Need-enum-known-found (E t) (do-match-at t) do-match.Post Inv μ
-  enum-known-found c = search needs
-
   items-less-2 : lts.Need-items-less-2 (E t) (do-match-at t) do-match.Post Inv μ
   items-less-2 c =
       let d = c .before .before .before .before .before .before .before in
@@ -335,21 +254,12 @@ module _ (t : ℕ) where
       let w = repeats.found-as (found.At _) (c .before .found .given .1) _ (c .before .before .before .match-balance .ensures .0) in
       again d _ _ _ (i .further) (i .inside) (omega (arith, g)) (omega (arith, g)) (turns.balanced _ _ _ _ _ _ _ _ _ (paid d) _ _ _ _ i w)
 
-  enum-told-5 : lts.Need-enum-told-5 (E t) (do-match-at t) do-match.Post Inv μ
-  enum-told-5 c = search needs
-
-  failed-requires-3 : lts.Need-failed-requires-3 (E t) (do-match-at t) do-match.Post Inv μ
-  failed-requires-3 c κs = search needs
-
   returns-12 : lts.Need-returns-12 (E t) (do-match-at t) do-match.Post Inv μ
   returns-12 c =
       let d = c .before .before .before .before .before .before .before in
       let i = item d _ (c .before .before .before .before .before .item6 .given .1) in
       let w = repeats.found-as found.Nothing (c .before .enum-told5 .given .1) _ (c .before .before .before .match-balance .ensures .0) in
       repeats.ended _ _ _ _ _ (c .failed3 .ensures) (turns.unbalanced _ _ _ _ _ _ _ _ _ (paid d) _ _ _ i w ∙ so-far d)
-
-  enum-known-item-7 : lts.Need-enum-known-item-7 (E t) (do-match-at t) do-match.Post Inv μ
-  enum-known-item-7 c = search needs
 
   sub-is-frontier : lts.Need-sub-is-frontier (E t) (do-match-at t) do-match.Post Inv μ
   sub-is-frontier c =
@@ -362,9 +272,6 @@ module _ (t : ℕ) where
       let d = c .before .before .before in
       let i = item d _ (c .before .item7 .given .1) in
       (omega (arith, i .1), omega (arith, i .1, i .0 .inside))
-
-  failed-requires-4 : lts.Need-failed-requires-4 (E t) (do-match-at t) do-match.Post Inv μ
-  failed-requires-4 c κs = search needs
 
   returns-13 : lts.Need-returns-13 (E t) (do-match-at t) do-match.Post Inv μ
   returns-13 c =
@@ -384,20 +291,11 @@ module _ (t : ℕ) where
       let i = item d _ (c .before .before .before .item7 .given .1) in
       again d _ _ _ (i .0 .further) (i .0 .inside) (omega arith) (inside d) (turns.at-frontier _ _ _ _ _ _ _ _ _ (paid d) _ _ (i .0) (sym (c .before .is-frontier .ensures) ∙ not-false _ (c .if4 .left)))
 
-  enum-known-item-8 : lts.Need-enum-known-item-8 (E t) (do-match-at t) do-match.Post Inv μ
-  enum-known-item-8 c = search needs
-
   fits-requires : lts.Need-fits-requires (E t) (do-match-at t) do-match.Post Inv μ
   fits-requires c κs =
       let d = c .before .before .before in
       let i = item d _ (c .before .item8 .given .1) in
       i .single
-
-  has-to-fit-requires : lts.Need-has-to-fit-requires (E t) (do-match-at t) do-match.Post Inv μ
-  has-to-fit-requires c κs = search needs
-
-  failed-requires-5 : lts.Need-failed-requires-5 (E t) (do-match-at t) do-match.Post Inv μ
-  failed-requires-5 c κs = search needs
 
   returns-14 : lts.Need-returns-14 (E t) (do-match-at t) do-match.Post Inv μ
   returns-14 c =
@@ -426,9 +324,6 @@ module _ (t : ℕ) where
       let b = turns.behind-repeat _ _ _ _ (kind (c .before .before .before)) (i .on) (turns.passed-repeats (kind (c .before .before .before)) (sym (c .before .has-to-fit .ensures) ∙ c .if6 .left)) in
       again d _ _ _ (b .0) (b .1) (omega arith) (inside d) (turns.unfit-passed _ _ _ _ _ _ _ _ _ (paid d) _ _ (kind (c .before .before .before)) (i .on) (sym (c .before .has-to-fit .ensures) ∙ c .if6 .left) (sym (c .before .before .before .fits2 .ensures) ∙ not-true _ (c .before .before .if5 .taken)))
 
-  enum-told-6 : lts.Need-enum-told-6 (E t) (do-match-at t) do-match.Post Inv μ
-  enum-told-6 c = search needs
-
   add-place-2 : lts.Need-add-place-2 (E t) (do-match-at t) do-match.Post Inv μ
   add-place-2 c =
       let g = fits-inside _ _ _ _ (sym (c .before .before .before .fits2 .ensures) ∙ not-false _ (c .before .before .if5 .left)) in
@@ -449,9 +344,6 @@ module _ (t : ℕ) where
       let g = fits-inside _ _ _ _ (sym (c .before .before .before .fits2 .ensures) ∙ not-false _ (c .before .before .if5 .left)) in
       again d _ _ _ (b .0) (b .1) (omega arith) (omega (arith, g)) (turns.fit-once _ _ _ _ _ _ _ _ _ (paid d) _ _ once (i .on) refl (sym (c .before .before .before .fits2 .ensures) ∙ not-false _ (c .before .before .if5 .left)))
 
-  enum-told-7 : lts.Need-enum-told-7 (E t) (do-match-at t) do-match.Post Inv μ
-  enum-told-7 c = search needs
-
   add-next : lts.Need-add-next (E t) (do-match-at t) do-match.Post Inv μ
   add-next c =
       let d = c .before .before .before .before .before .before .before in
@@ -471,9 +363,6 @@ module _ (t : ℕ) where
       let b = turns.behind-repeat _ _ _ _ optional (i .on) refl in
       let g = fits-inside _ _ _ _ (sym (c .before .before .before .before .fits2 .ensures) ∙ not-false _ (c .before .before .before .if5 .left)) in
       (omega (arith, below d _ (b .0) (b .1)), (b .1, omega (arith, g), sound-later _ _ _ (omega arith) (sound d)))
-
-  answer-requires-4 : lts.Need-answer-requires-4 (E t) (do-match-at t) do-match.Post Inv μ
-  answer-requires-4 c κs = search needs
 
   returns-15 : lts.Need-returns-15 (E t) (do-match-at t) do-match.Post Inv μ
   returns-15 c =
@@ -497,9 +386,6 @@ module _ (t : ℕ) where
       let b = turns.behind-repeat _ _ _ _ optional (i .on) refl in
       again d _ _ _ (b .0) (b .1) (omega arith) (inside d) (repeats.optional-fails _ _ _ _ _ _ _ _ _ _ _ (c .before .before .do-match .ensures .0) (c .if7 .left) ∙ turns.fit-more _ _ _ _ _ _ _ _ _ (paid d) _ _ optional (i .on) refl (sym (c .before .before .before .before .before .before .before .fits2 .ensures) ∙ not-false _ (c .before .before .before .before .before .before .if5 .left)))
 
-  enum-told-8 : lts.Need-enum-told-8 (E t) (do-match-at t) do-match.Post Inv μ
-  enum-told-8 c = search needs
-
   max-expand-requires : lts.Need-max-expand-requires (E t) (do-match-at t) do-match.Post Inv μ
   max-expand-requires c κs =
       let d = c .before .before .before .before .before .before .before .before in
@@ -508,18 +394,12 @@ module _ (t : ℕ) where
       let g = fits-inside _ _ _ _ (sym (c .before .before .before .before .fits2 .ensures) ∙ not-false _ (c .before .before .before .if5 .left)) in
       (below d _ (b .0) (b .1), (i .single, omega (arith, b), g, omega arith, omega arith, sound d))
 
-  answer-requires-5 : lts.Need-answer-requires-5 (E t) (do-match-at t) do-match.Post Inv μ
-  answer-requires-5 c κs = search needs
-
   returns-16 : lts.Need-returns-16 (E t) (do-match-at t) do-match.Post Inv μ
   returns-16 c =
       let d = c .before .before .before .before .before .before .before .before .before .before in
       let i = as-repeat (c .before .before .before .before .before .before) _ (c .before .before .before .enum-told8 .given .1) in
       let b = turns.behind-repeat _ _ _ _ star (i .on) refl in
       repeats.answered _ _ _ _ _ _ (c .answer5 .ensures) (c .before .max-expand .ensures) (repeats.star-on _ _ _ _ _ _ _ _ _ _ refl ∙ turns.fit-more _ _ _ _ _ _ _ _ _ (paid d) _ _ star (i .on) refl (sym (c .before .before .before .before .before .before .fits2 .ensures) ∙ not-false _ (c .before .before .before .before .before .if5 .left)) ∙ so-far d)
-
-  enum-told-9 : lts.Need-enum-told-9 (E t) (do-match-at t) do-match.Post Inv μ
-  enum-told-9 c = search needs
 
   add-max-expand : lts.Need-add-max-expand (E t) (do-match-at t) do-match.Post Inv μ
   add-max-expand c =
@@ -534,18 +414,12 @@ module _ (t : ℕ) where
       let g = fits-inside _ _ _ _ (sym (c .before .before .before .before .fits2 .ensures) ∙ not-false _ (c .before .before .before .if5 .left)) in
       (below d _ (b .0) (b .1), (i .single, omega (arith, b), g, omega arith, omega arith, sound d))
 
-  answer-requires-6 : lts.Need-answer-requires-6 (E t) (do-match-at t) do-match.Post Inv μ
-  answer-requires-6 c κs = search needs
-
   returns-17 : lts.Need-returns-17 (E t) (do-match-at t) do-match.Post Inv μ
   returns-17 c =
       let d = c .before .before .before .before .before .before .before .before .before .before in
       let i = as-repeat (c .before .before .before .before .before .before) _ (c .before .before .before .enum-told9 .given .1) in
       let b = turns.behind-repeat _ _ _ _ plus (i .on) refl in
       repeats.answered _ _ _ _ _ _ (c .answer6 .ensures) (c .before .max-expand2 .ensures) (repeats.plus-on _ _ _ _ _ _ _ _ _ _ refl ∙ turns.fit-more _ _ _ _ _ _ _ _ _ (paid d) _ _ plus (i .on) refl (sym (c .before .before .before .before .before .before .fits2 .ensures) ∙ not-false _ (c .before .before .before .before .before .if5 .left)) ∙ so-far d)
-
-  enum-told-10 : lts.Need-enum-told-10 (E t) (do-match-at t) do-match.Post Inv μ
-  enum-told-10 c = search needs
 
   min-expand-requires : lts.Need-min-expand-requires (E t) (do-match-at t) do-match.Post Inv μ
   min-expand-requires c κs =
@@ -554,9 +428,6 @@ module _ (t : ℕ) where
       let b = turns.behind-repeat _ _ _ _ minus (i .on) refl in
       let g = fits-inside _ _ _ _ (sym (c .before .before .before .before .fits2 .ensures) ∙ not-false _ (c .before .before .before .if5 .left)) in
       (below d _ (b .0) (b .1), (i .single, omega (arith, b), g, sound d))
-
-  answer-requires-7 : lts.Need-answer-requires-7 (E t) (do-match-at t) do-match.Post Inv μ
-  answer-requires-7 c κs = search needs
 
   returns-18 : lts.Need-returns-18 (E t) (do-match-at t) do-match.Post Inv μ
   returns-18 c =
@@ -568,98 +439,89 @@ module _ (t : ℕ) where
 pub do-match-proof : {M : Type 1} (t : ℕ) → lts.Closed (E t) (do-match-at t) do-match.Post M
 do-match-proof t =
     lts.spec (E t) (do-match-at t) do-match.Post Inv μ
-    (too-deep-requires t)
+    (λ c κs. search needs)
     (returns t)
-    (add-deeper t)
+    (λ c. omega arith)
     (items-holds t)
-    (spent-requires t)
+    (λ c κs. search needs)
     (returns-2 t)
-    (add-steps t)
-    (read-requires t)
-    (enum-told t)
+    (λ c. omega arith) (λ c κs. search needs) (λ c. search needs)
     (keep-requires t)
     (cast-matched t)
-    (matched-requires t)
+    (λ c κs. search needs)
     (returns-3 t)
-    (enum-told-2 t)
+    (λ c. search needs)
     (keep-requires-2 t)
     (cast-matched-2 t)
-    (matched-requires-2 t)
+    (λ c κs. search needs)
     (returns-4 t)
-    (failed-requires t)
+    (λ c κs. search needs)
     (returns-5 t)
-    (enum-known-item t)
-    (raised-requires t)
+    (λ c. search needs) (λ c κs. search needs)
     (returns-6 t)
-    (enum-known-item-2 t)
+    (λ c. search needs)
     (start-capture-requires t)
-    (answer-requires t)
+    (λ c κs. search needs)
     (returns-7 t)
-    (enum-known-item-3 t)
+    (λ c. search needs)
     (start-capture-requires-2 t)
-    (answer-requires-2 t)
+    (λ c κs. search needs)
     (returns-8 t)
-    (enum-known-item-4 t)
+    (λ c. search needs)
     (end-capture-requires t)
-    (answer-requires-3 t)
+    (λ c κs. search needs)
     (returns-9 t)
-    (enum-known-item-5 t)
+    (λ c. search needs)
     (match-capture-requires t)
-    (enum-told-3 t)
-    (raised-requires-2 t)
+    (λ c. search needs) (λ c κs. search needs)
     (returns-10 t)
-    (enum-told-4 t)
-    (failed-requires-2 t)
+    (λ c. search needs) (λ c κs. search needs)
     (returns-11 t)
-    (enum-known-held t)
+    (λ c. search needs)
     (add-place t)
     (items-less t)
     (items-again t)
-    (enum-known-item-6 t)
-    (match-balance-requires t)
-    (enum-known-found t)
+    (λ c. search needs) (λ c κs. search needs) (λ c. search needs)
     (items-less-2 t)
     (items-again-2 t)
-    (enum-told-5 t)
-    (failed-requires-3 t)
+    (λ c. search needs) (λ c κs. search needs)
     (returns-12 t)
-    (enum-known-item-7 t)
+    (λ c. search needs)
     (sub-is-frontier t)
     (is-frontier-requires t)
-    (failed-requires-4 t)
+    (λ c κs. search needs)
     (returns-13 t)
     (items-less-3 t)
     (items-again-3 t)
-    (enum-known-item-8 t)
+    (λ c. search needs)
     (fits-requires t)
-    (has-to-fit-requires t)
-    (failed-requires-5 t)
+    (λ c κs. search needs) (λ c κs. search needs)
     (returns-14 t)
     (add-at t)
     (items-less-4 t)
     (items-again-4 t)
-    (enum-told-6 t)
+    (λ c. search needs)
     (add-place-2 t)
     (items-less-5 t)
     (items-again-5 t)
-    (enum-told-7 t)
+    (λ c. search needs)
     (add-next t)
     (add-do-match t)
     (do-match-requires t)
-    (answer-requires-4 t)
+    (λ c κs. search needs)
     (returns-15 t)
     (items-less-6 t)
     (items-again-6 t)
-    (enum-told-8 t)
+    (λ c. search needs)
     (max-expand-requires t)
-    (answer-requires-5 t)
+    (λ c κs. search needs)
     (returns-16 t)
-    (enum-told-9 t)
+    (λ c. search needs)
     (add-max-expand t)
     (max-expand-requires-2 t)
-    (answer-requires-6 t)
+    (λ c κs. search needs)
     (returns-17 t)
-    (enum-told-10 t)
+    (λ c. search needs)
     (min-expand-requires t)
-    (answer-requires-7 t)
+    (λ c κs. search needs)
     (returns-18 t)

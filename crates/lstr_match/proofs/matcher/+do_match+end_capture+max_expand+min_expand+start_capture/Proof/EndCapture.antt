@@ -21,9 +21,6 @@ module _ (t : ℕ) where
   capture-to-close-requires : lts.Need-capture-to-close-requires (E t) (end-capture-at t) end-capture.Post
   capture-to-close-requires c κs = c .before .before .pre .1 .2 .few
 
-  enum-known-close : lts.Need-enum-known-close (E t) (end-capture-at t) end-capture.Post
-  enum-known-close c = search needs
-
   mul-start : lts.Need-mul-start (E t) (end-capture-at t) end-capture.Post
   mul-start c =
       let h = close-seen (c .before .before .before .before .before .before .args .t9) (close.Capture _) (c .before .close .given .1) (c .before .before .before .capture-to-close .ensures) in
@@ -54,15 +51,6 @@ module _ (t : ℕ) where
       let h = close-seen (c .before .before .before .before .before .before .before .args .t9) (close.Capture _) (c .before .before .close .given .1) (c .before .before .before .before .capture-to-close .ensures) in
       (omega arith, (c .before .before .before .before .before .before .before .pre .1 .0, c .before .before .before .before .before .before .before .pre .1 .1, sound-finished _ _ _ _ (h .1) refl (c .before .before .before .before .before .before .before .pre .1 .2)))
 
-  answer-requires : lts.Need-answer-requires (E t) (end-capture-at t) end-capture.Post
-  answer-requires c κs = search needs
-
-  enum-told : lts.Need-enum-told (E t) (end-capture-at t) end-capture.Post
-  enum-told c = search needs
-
-  raised-requires : lts.Need-raised-requires (E t) (end-capture-at t) end-capture.Post
-  raised-requires c κs = search needs
-
   returns : lts.Need-returns (E t) (end-capture-at t) end-capture.Post
   returns c =
       let z = c .before .before .before .before .before .before .before .before .before in
@@ -81,15 +69,13 @@ pub end-capture-proof : {M : Type 1} (t : ℕ) → lts.Closed (E t) (end-capture
 end-capture-proof t =
     lts.spec (E t) (end-capture-at t) end-capture.Post
     (capture-to-close-requires t)
-    (enum-known-close t)
+    (λ c. search needs)
     (mul-start t)
     (element-copy-out-start t)
     (sub-t19 t)
     (mul-t24 t)
     (element-set-from-closed t)
     (do-match-requires t)
-    (answer-requires t)
-    (enum-told t)
-    (raised-requires t)
+    (λ c κs. search needs) (λ c. search needs) (λ c κs. search needs)
     (returns t)
     (returns-2 t)

@@ -47,9 +47,6 @@ module _ (t : ℕ) where
       let g = c .before .before .pre .1 in
       (g .0, omega (arith, g .2))
 
-  spent-requires : lts.Need-spent-requires (E t) (max-expand-at t) max-expand.Post Inv μ
-  spent-requires c κs = search needs
-
   returns : lts.Need-returns (E t) (max-expand-at t) max-expand.Post Inv μ
   returns c =
       repeats.ended _ _ _ _ _ (c .spent .ensures)
@@ -58,17 +55,11 @@ module _ (t : ℕ) where
   add-next : lts.Need-add-next (E t) (max-expand-at t) max-expand.Post Inv μ
   add-next c = omega (arith, c .before .before .before .before .pre .1 .1)
 
-  sub-is-open : lts.Need-sub-is-open (E t) (max-expand-at t) max-expand.Post Inv μ
-  sub-is-open c = omega arith
-
   mul-is-open : lts.Need-mul-is-open (E t) (max-expand-at t) max-expand.Post Inv μ
   mul-is-open c = omega (arith, c .before .before .before .before .before .pre .1 .5 .few)
 
   element-copy-out-is-open : lts.Need-element-copy-out-is-open (E t) (max-expand-at t) max-expand.Post Inv μ
   element-copy-out-is-open c = omega (arith, c .before .before .before .before .before .pre .1 .5 .few)
-
-  first-test-requires : lts.Need-first-test-requires (E t) (max-expand-at t) max-expand.Post Inv μ
-  first-test-requires c κs = search needs
 
   loop-holds : lts.Need-loop-holds (E t) (max-expand-at t) max-expand.Post Inv μ
   loop-holds c =
@@ -89,9 +80,6 @@ module _ (t : ℕ) where
       let inv = c .before .before .before .loop .inv .1 in
       let g = c .before .before .before .before .before .before .before .before .before .before .pre .1 in
       (omega arith, (omega (arith, g .1), inv .1, sound-later _ _ _ (omega (arith, inv .0, g .3)) (g .5)))
-
-  answer-requires : lts.Need-answer-requires (E t) (max-expand-at t) max-expand.Post Inv μ
-  answer-requires c κs = search needs
 
   returns-2 : lts.Need-returns-2 (E t) (max-expand-at t) max-expand.Post Inv μ
   returns-2 c =
@@ -122,19 +110,10 @@ module _ (t : ℕ) where
       (c .before .fails-at .ensures (w .0 .taken)) (test .ensures) (pairs-few _ _) (opened (c .before .before .before .before)) (w .3))
       (λ w. tests.passed-tried _ _ _ (c .if3 .steps) (w .2 .ensures .0) (w .4 .left) (w .6)) (c .if3 .came)
 
-  failed-requires : lts.Need-failed-requires (E t) (max-expand-at t) max-expand.Post Inv μ
-  failed-requires c κs = search needs
-
   returns-3 : lts.Need-returns-3 (E t) (max-expand-at t) max-expand.Post Inv μ
   returns-3 c =
       let inv = c .before .before .before .before .loop .inv in
       repeats.ended _ _ _ _ _ (c .failed .ensures) (tests.passed-last _ _ _ _ _ _ _ (passed (c .before .before)) (inv .1 .0) (c .before .if5 .taken) ∙ inv .0)
-
-  sub-tried : lts.Need-sub-tried (E t) (max-expand-at t) max-expand.Post Inv μ
-  sub-tried c = omega arith
-
-  loop-less : lts.Need-loop-less (E t) (max-expand-at t) max-expand.Post Inv μ
-  loop-less c = omega arith
 
   loop-again : lts.Need-loop-again (E t) (max-expand-at t) max-expand.Post Inv μ
   loop-again c =
@@ -146,21 +125,20 @@ max-expand-proof t =
     lts.spec (E t) (max-expand-at t) max-expand.Post Inv μ
     (add-reach t)
     (reach-requires t)
-    (spent-requires t)
+    (λ c κs. search needs)
     (returns t)
     (add-next t)
-    (sub-is-open t)
+    (λ c. omega arith)
     (mul-is-open t)
     (element-copy-out-is-open t)
-    (first-test-requires t)
+    (λ c κs. search needs)
     (loop-holds t)
     (fails-at-requires t)
     (add-steps t)
     (do-match-requires t)
-    (answer-requires t)
+    (λ c κs. search needs)
     (returns-2 t)
-    (failed-requires t)
+    (λ c κs. search needs)
     (returns-3 t)
-    (sub-tried t)
-    (loop-less t)
+    (λ c. omega arith) (λ c. omega arith)
     (loop-again t)

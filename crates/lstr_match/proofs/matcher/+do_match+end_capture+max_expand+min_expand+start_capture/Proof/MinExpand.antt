@@ -39,20 +39,11 @@ abbrev μ : lts.MeasureT-loop
 μ classes subject pattern at suffix place level budget steps kept₀ captures next is-open count first tested₀ tried₀ steps₀ kept tested tried steps' = length subject + 1 - tried
 
 module _ (t : ℕ) where
-  add-next : lts.Need-add-next (E t) (min-expand-at t) min-expand.Post Inv μ
-  add-next c = omega arith
-
-  sub-is-open : lts.Need-sub-is-open (E t) (min-expand-at t) min-expand.Post Inv μ
-  sub-is-open c = omega arith
-
   mul-is-open : lts.Need-mul-is-open (E t) (min-expand-at t) min-expand.Post Inv μ
   mul-is-open c = omega (arith, c .before .before .before .pre .1 .3 .few)
 
   element-copy-out-is-open : lts.Need-element-copy-out-is-open (E t) (min-expand-at t) min-expand.Post Inv μ
   element-copy-out-is-open c = omega (arith, c .before .before .before .pre .1 .3 .few)
-
-  first-test-requires : lts.Need-first-test-requires (E t) (min-expand-at t) min-expand.Post Inv μ
-  first-test-requires c κs = search needs
 
   -- the latest capture was looked at
   opened : (c : lts.Joined1 (E t) (min-expand-at t) min-expand.Post Inv μ)
@@ -77,9 +68,6 @@ module _ (t : ℕ) where
       let pre = c .before .before .before .before .before .before .before .before .pre in
       (omega arith, (omega (arith, pre .1 .1), inv .1, sound-later _ _ _ (inv .0 .behind) (pre .1 .3)))
 
-  answer-requires : lts.Need-answer-requires (E t) (min-expand-at t) min-expand.Post Inv μ
-  answer-requires c κs = search needs
-
   returns : lts.Need-returns (E t) (min-expand-at t) min-expand.Post Inv μ
   returns c =
       let a = c .before .before .before .before .before .before .before .before .before .before .before .before .args in
@@ -103,9 +91,6 @@ module _ (t : ℕ) where
       (c .before .fails-at .ensures (w .0 .taken)) (test .ensures) (pairs-few _ _) (opened (c .before .before .before .before)) (w .3))
       (λ w. tests.passed-tried _ _ _ (c .if2 .steps) (w .2 .ensures .0) (w .4 .left) (w .6)) (c .if2 .came)
 
-  spent-requires : lts.Need-spent-requires (E t) (min-expand-at t) min-expand.Post Inv μ
-  spent-requires c κs = search needs
-
   returns-2 : lts.Need-returns-2 (E t) (min-expand-at t) min-expand.Post Inv μ
   returns-2 c =
       let a = c .before .before .before .before .before .before .before .before .before .before .args in
@@ -113,14 +98,8 @@ module _ (t : ℕ) where
       repeats.ended _ _ _ _ _ (c .spent .ensures)
       (tests.trying-spent (classIn (a .classes .now)) (a .subject .now) (a .budget) (singleOf (a .pattern .now) (a .at) (a .suffix)) (match (classIn (a .classes .now)) (a .subject .now) (a .budget) (items (a .pattern .now) (a .suffix + 1))) (a .level) (capturesOf (a .t10)) (a .place) (a .steps) (here .tested) (here .tried) (here .steps) (here .inv .0) _ (passed (c .before .before .before)) (c .before .before .if4 .taken) (c .before .if5 .taken))
 
-  add-steps-2 : lts.Need-add-steps-2 (E t) (min-expand-at t) min-expand.Post Inv μ
-  add-steps-2 c = omega arith
-
   fits-requires : lts.Need-fits-requires (E t) (min-expand-at t) min-expand.Post Inv μ
   fits-requires c κs = c .before .before .before .before .before .before .before .before .before .before .pre .1 .0
-
-  failed-requires : lts.Need-failed-requires (E t) (min-expand-at t) min-expand.Post Inv μ
-  failed-requires c κs = search needs
 
   returns-3 : lts.Need-returns-3 (E t) (min-expand-at t) min-expand.Post Inv μ
   returns-3 c =
@@ -158,22 +137,21 @@ module _ (t : ℕ) where
 pub min-expand-proof : {M : Type 1} (t : ℕ) → lts.Closed (E t) (min-expand-at t) min-expand.Post M
 min-expand-proof t =
     lts.spec (E t) (min-expand-at t) min-expand.Post Inv μ
-    (add-next t)
-    (sub-is-open t)
+    (λ c. omega arith) (λ c. omega arith)
     (mul-is-open t)
     (element-copy-out-is-open t)
-    (first-test-requires t)
+    (λ c κs. search needs)
     (loop-holds t)
     (fails-at-requires t)
     (add-steps t)
     (do-match-requires t)
-    (answer-requires t)
+    (λ c κs. search needs)
     (returns t)
-    (spent-requires t)
+    (λ c κs. search needs)
     (returns-2 t)
-    (add-steps-2 t)
+    (λ c. omega arith)
     (fits-requires t)
-    (failed-requires t)
+    (λ c κs. search needs)
     (returns-3 t)
     (add-tried t)
     (loop-less t)

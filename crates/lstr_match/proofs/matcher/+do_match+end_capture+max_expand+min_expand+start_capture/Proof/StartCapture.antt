@@ -15,29 +15,14 @@ abbrev E : ℕ → lts.Claims
 E t = (raised-reads.Asked, raised-reads.Learnt, do-match-below t, do-match.Post, answer-reads.Asked, answer-reads.Learnt)
 
 module _ (t : ℕ) where
-  raised-requires : lts.Need-raised-requires (E t) (start-capture-at t) start-capture.Post
-  raised-requires c κs = search needs
-
   returns : lts.Need-returns (E t) (start-capture-at t) start-capture.Post
   returns c =
       let z = c .before .before .before .before in
       repeats.ended _ _ _ _ _ (c .raised .ensures)
       (all-taken (z .args .captures) (all-pairs (z .args .captures .pairs) (z .good .1 .1 .1 .1 .1 .1 .1 .1 .0 .1 .1 .1 .0 .1 .0 .1)) (z .pre .1 .3 .few) _ _ _ _ _ (c .before .if1 .taken))
 
-  mul-t17 : lts.Need-mul-t17 (E t) (start-capture-at t) start-capture.Post
-  mul-t17 c = omega arith
-
-  element-set-from-opened : lts.Need-element-set-from-opened (E t) (start-capture-at t) start-capture.Post
-  element-set-from-opened c = omega arith
-
-  add-opened : lts.Need-add-opened (E t) (start-capture-at t) start-capture.Post
-  add-opened c = omega arith
-
   do-match-requires : lts.Need-do-match-requires (E t) (start-capture-at t) start-capture.Post
   do-match-requires c κs = (omega arith, (c .before .before .before .before .pre .1 .0, c .before .before .before .before .pre .1 .1, sound-started _ _ _ (c .before .before .before .before .pre .1 .2) (c .before .if1 .left) (c .before .before .before .before .pre .1 .3)))
-
-  answer-requires : lts.Need-answer-requires (E t) (start-capture-at t) start-capture.Post
-  answer-requires c κs = search needs
 
   returns-2 : lts.Need-returns-2 (E t) (start-capture-at t) start-capture.Post
   returns-2 c =
@@ -48,11 +33,9 @@ module _ (t : ℕ) where
 pub start-capture-proof : {M : Type 1} (t : ℕ) → lts.Closed (E t) (start-capture-at t) start-capture.Post M
 start-capture-proof t =
     lts.spec (E t) (start-capture-at t) start-capture.Post
-    (raised-requires t)
+    (λ c κs. search needs)
     (returns t)
-    (mul-t17 t)
-    (element-set-from-opened t)
-    (add-opened t)
+    (λ c. omega arith) (λ c. omega arith) (λ c. omega arith)
     (do-match-requires t)
-    (answer-requires t)
+    (λ c κs. search needs)
     (returns-2 t)
