@@ -64,10 +64,37 @@
 #include <stddef.h>
 #include <stdint.h>
 
+/* The version of this header and of the library that it was made with. */
+#define LUCK_VERSION_MAJOR 0
+#define LUCK_VERSION_MINOR 1
+#define LUCK_VERSION_PATCH 0
+#define LUCK_VERSION "0.1.0"
+
 #ifdef __cplusplus
 extern "C" {
 #endif
 
+/* `version`: whose rules a text is read by. */
+enum {
+    LUCK_LUA_51 = 1,
+    LUCK_LUA_52 = 2,
+    LUCK_LUA_53 = 3,
+    LUCK_LUA_54 = 4,
+    LUCK_LUA_55 = 5,
+    LUCK_LUAU = 6
+};
+
+/* `kind`: what a literal is used as. */
+enum {
+    LUCK_KIND_FORMAT = 'F',      /* string.format */
+    LUCK_KIND_PATTERN = 'P',     /* string.find, match, gmatch, gsub */
+    LUCK_KIND_PACK = 'K',        /* string.pack, unpack */
+    LUCK_KIND_PACKSIZE = 'S',    /* string.packsize */
+    LUCK_KIND_REPLACEMENT = 'G', /* the replacement of string.gsub */
+    LUCK_KIND_DATE = 'D'         /* os.date */
+};
+
+/* `number`: the refusals. */
 enum {
     LUCK_ACCEPTED = 0,
     LUCK_TRUNCATED_SPECIFIER = 1,
