@@ -2,7 +2,7 @@
 
 use std::fmt;
 
-use crate::known::{self, KNOWN};
+use crate::comparison::known::{self, KNOWN};
 
 #[derive(Debug, Clone, Copy, PartialEq, Eq)]
 pub enum Check {

@@ -5,13 +5,11 @@ use std::io;
 use std::path::Path;
 use std::time::Instant;
 
-use crate::line_heads;
-use crate::line_texts::{self, Lines};
-use crate::lines::{self, LONGEST};
-use crate::program;
-use crate::random::Random;
-use crate::report::Shown;
-use crate::store_lines;
+use crate::comparison::report::Shown;
+use crate::lines::texts::{self, Lines};
+use crate::lines::{self, LONGEST, heads, program};
+use crate::store::lines as stored;
+use crate::texts::random::Random;
 
 /// Bytes that are read beyond those wanted, so that a program that writes too much is told from one that does not.
 const EXCESS: usize = 1000;
@@ -48,7 +46,7 @@ impl<'program> LineComparison<'program> {
 
     fn stored(&mut self) -> io::Result<()> {
         self.section("the stored lines, and no line", |comparison| {
-            match store_lines::input() {
+            match stored::input() {
                 Ok(input) => {
                     comparison.in_one(&input)?;
                     comparison.in_pieces(&input)?;
@@ -60,10 +58,10 @@ impl<'program> LineComparison<'program> {
     }
 
     fn heads(&mut self) -> io::Result<()> {
-        self.section("heads of hostile bytes", |comparison| comparison.in_pieces(&line_heads::products()))?;
-        self.section("heads with any byte in one place", |comparison| comparison.in_pieces(&line_heads::any_byte()))?;
-        self.section("counts of captures", |comparison| comparison.in_pieces(&line_heads::counts()))?;
-        self.section("lines of up to 5 symbols", |comparison| comparison.in_pieces(&line_heads::short_lines()))
+        self.section("heads of hostile bytes", |comparison| comparison.in_pieces(&heads::products()))?;
+        self.section("heads with any byte in one place", |comparison| comparison.in_pieces(&heads::any_byte()))?;
+        self.section("counts of captures", |comparison| comparison.in_pieces(&heads::counts()))?;
+        self.section("lines of up to 5 symbols", |comparison| comparison.in_pieces(&heads::short_lines()))
     }
 
     fn random_lines(&mut self, seed: u64, count: u64) -> io::Result<()> {
@@ -231,7 +229,7 @@ impl fmt::Display for LineComparison<'_> {
 
 /// A format of so many bytes, and what is to stand after it.
 fn line_of(length: usize, after: &[u8]) -> Vec<u8> {
-    [b"F1   ".as_slice(), &vec![b'a'; length - line_texts::HEAD], after].concat()
+    [b"F1   ".as_slice(), &vec![b'a'; length - texts::HEAD], after].concat()
 }
 
 fn last_lines() -> Vec<Vec<u8>> {

@@ -6,8 +6,8 @@ use luck_linter::Fault;
 use luck_token::Span;
 
 use crate::kind::Kind;
-use crate::library::{Answer, Literal};
 use crate::reference::lua_version;
+use library::{Answer, Literal};
 
 const ACCEPTED: Answer = Answer { number: 0, first: 0, second: 0, offset: 0, count: 0 };
 const SKIPPED: Literal = Literal { skipped: 1, ..unspanned(ACCEPTED) };

@@ -1,12 +1,10 @@
 //! The runs of the checks: bodies of every kind, and literals.
 
-use crate::bodies;
-use crate::body_edges;
-use crate::exhaustive::{self, QUOTED, RAW};
-use crate::grammar;
+use super::{Extent, Run};
 use crate::kind::Kind;
-use crate::symbols::{self, ALPHABETS};
-use crate::{Extent, Run};
+use crate::texts::exhaustive::{self, QUOTED, RAW};
+use crate::texts::symbols::{self, ALPHABETS};
+use crate::texts::{bodies, body_edges, grammar};
 
 impl Run {
     pub fn checks(&mut self, extent: &Extent) {

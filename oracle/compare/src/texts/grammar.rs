@@ -1,6 +1,6 @@
 //! Random literals, made by a grammar, and damage to them.
 
-use crate::random::Random;
+use crate::texts::random::Random;
 
 const SIMPLE_ESCAPES: [&str; 10] = ["\\a", "\\b", "\\f", "\\n", "\\r", "\\t", "\\v", "\\\\", "\\\"", "\\'"];
 const UNDEFINED_ESCAPES: [&str; 14] =
@@ -219,7 +219,7 @@ fn bracket(byte: u8, level: usize, text: &mut Vec<u8>) {
 
 /// Damages a text in one to three places.
 pub fn damage(random: &mut Random, text: &mut Vec<u8>) {
-    damage_with(random, &crate::exhaustive::HOSTILE, text);
+    damage_with(random, &crate::texts::exhaustive::HOSTILE, text);
 }
 
 /// The same, with these symbols to insert.

@@ -1,7 +1,7 @@
 //! The texts of the stored checks: those picked by hand, and random ones over an alphabet for each kind.
 
 use crate::kind::Kind;
-use crate::random::Random;
+use crate::texts::random::Random;
 
 /// The counts of captures that are tried: unknown alone, but for replacements.
 pub const fn counts(kind: Kind) -> &'static [Option<u32>] {

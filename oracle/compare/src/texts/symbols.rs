@@ -1,8 +1,8 @@
 //! What the bodies of each kind are made of: every byte that its check tests for, some that it does not, characters of two
 //! and three bytes, and a byte that no text has.
 
-use crate::exhaustive::{Form, PERCENT, RAW};
 use crate::kind::Kind;
+use crate::texts::exhaustive::{Form, PERCENT, RAW};
 
 /// An alphabet of a kind, what is put around its texts, and how many symbols they have at most.
 pub struct Alphabet {

@@ -2,7 +2,7 @@
 
 use std::collections::HashSet;
 
-use crate::grammar::CODE_POINTS;
+use crate::texts::grammar::CODE_POINTS;
 
 /// Each text once, in a fixed order.
 pub fn texts() -> Vec<Vec<u8>> {

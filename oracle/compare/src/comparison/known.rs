@@ -1,6 +1,6 @@
 //! Differences from luck that are meant, each with its reason and where it applies. They are counted apart and do not fail a run.
 
-use crate::report::Check;
+use crate::comparison::report::Check;
 
 pub struct Known {
     pub reason: &'static str,

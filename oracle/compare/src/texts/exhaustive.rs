@@ -1,6 +1,6 @@
 //! Every text of some kind, shortest first.
 
-use crate::random::Random;
+use crate::texts::random::Random;
 
 /// What a literal is made of and what breaks one: quotes, escapes and their parts, digits, line breaks, brackets,
 /// characters of two and three bytes, and a byte that no text has.

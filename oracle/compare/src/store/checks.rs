@@ -6,12 +6,12 @@ use std::fs;
 use std::io;
 use std::path::Path;
 
-use crate::check_reference::{Body, Text};
 use crate::kind::Kind;
-use crate::library::{Answer, Literal};
-use crate::random::Random;
 use crate::reference::VERSIONS;
-use crate::store_texts;
+use crate::reference::checks::{Body, Text};
+use crate::store::picked;
+use crate::texts::random::Random;
+use library::{Answer, Literal};
 
 const SEED: u64 = 2;
 const TEXTS_OF_A_KIND: usize = 2000;
@@ -127,10 +127,10 @@ fn kind_records(kind: Kind) -> Records {
         let question = Question { kind: kind.letter(), version, captures, text };
         records.push(&question, &Body::new(text).check(kind, version.into(), known(captures)));
     };
-    let edges = store_texts::edges(kind);
+    let edges = picked::edges(kind);
     for text in &edges {
         for version in versions() {
-            store_texts::counts(kind).iter().for_each(|captures| add(version, *captures, text));
+            picked::counts(kind).iter().for_each(|captures| add(version, *captures, text));
         }
     }
     for version in NO_VERSIONS {
@@ -139,9 +139,9 @@ fn kind_records(kind: Kind) -> Records {
     }
     let mut random = Random::new(SEED + u64::from(kind.letter()));
     for _ in 0..TEXTS_OF_A_KIND {
-        let text = store_texts::hostile(&mut random, kind);
+        let text = picked::hostile(&mut random, kind);
         let version = 1 + random.below(6) as u8;
-        let counts = store_texts::counts(kind);
+        let counts = picked::counts(kind);
         add(version, counts[random.below(counts.len())], &text);
     }
     records
@@ -154,7 +154,7 @@ fn literal_records() -> Records {
         let Question { kind, version, captures, text } = *question;
         records.push_literal(question, start, &Text::new(text).check(kind, version.into(), known(captures), start));
     };
-    for (index, text) in store_texts::LITERALS.iter().enumerate() {
+    for (index, text) in picked::LITERALS.iter().enumerate() {
         for version in versions().chain(NO_VERSIONS) {
             for kind in *b"FPKSGDQ" {
                 add(&Question { kind, version, captures: Some(1), text }, STARTS[(index + usize::from(version)) % STARTS.len()]);
@@ -164,8 +164,8 @@ fn literal_records() -> Records {
     let mut random = Random::new(SEED);
     for _ in 0..LITERALS {
         let kind = Kind::ALL[random.below(Kind::ALL.len())];
-        let text = store_texts::literal(&mut random, kind);
-        let counts = store_texts::counts(kind);
+        let text = picked::literal(&mut random, kind);
+        let counts = picked::counts(kind);
         let captures = counts[random.below(counts.len())];
         let question = Question { kind: kind.letter(), version: 1 + random.below(6) as u8, captures, text: &text };
         add(&question, STARTS[random.below(STARTS.len())]);

@@ -1,6 +1,6 @@
 //! An output to lend: filled with a pattern, between two guards, so that any byte written outside the value shows.
 
-use crate::random::Random;
+use crate::texts::random::Random;
 
 const GUARD: usize = 16;
 

@@ -4,10 +4,10 @@ use std::fs;
 use std::io;
 use std::path::Path;
 
-use crate::library::{Answer, Literal};
-use crate::store_checks::{Question, Records};
+use crate::store::checks::{Question, Records};
+use library::{Answer, Literal};
 
-const ROWS: &str = include_str!("../../../crates/vectors/data/rows.txt");
+const ROWS: &str = include_str!("../../../../crates/vectors/data/rows.txt");
 const ROWS_FILE: &str = "rows.bin";
 const LITERAL_ROWS_FILE: &str = "literal_rows.bin";
 const WRONG_REAL_FILE: &str = "wrong_real.bin";

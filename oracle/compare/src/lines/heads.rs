@@ -1,6 +1,6 @@
 //! Heads of lines, by exhaustion: every misfit in every place, before a body that tells what was read.
 
-use crate::exhaustive::{self, RAW};
+use crate::texts::exhaustive::{self, RAW};
 
 /// The letters, their neighbours, and bytes that are none.
 const LETTERS: &[u8] = b"FPKSGDEHXf \0";

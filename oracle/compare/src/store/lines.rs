@@ -7,12 +7,12 @@ use std::fs;
 use std::io;
 use std::path::Path;
 
+use crate::comparison::report::Shown;
 use crate::kind::Kind;
-use crate::line_texts::{self, HEAD};
+use crate::lines::texts::{self, HEAD};
 use crate::lines::{self, Row};
-use crate::random::Random;
-use crate::report::Shown;
-use crate::store_texts;
+use crate::store::picked;
+use crate::texts::random::Random;
 
 const INPUT_FILE: &str = "stdin";
 const OUTPUT_FILE: &str = "stdout";
@@ -267,8 +267,8 @@ fn random_lines() -> Vec<Stored> {
         for version in b'1'..=b'6' {
             for _ in 0..RANDOM_LINES {
                 let columns = if kind == Kind::Replacement { random.pick(&COLUMNS) } else { COLUMNS[0] };
-                let mut body = store_texts::hostile(&mut random, kind);
-                line_texts::newlines_to_returns(&mut body);
+                let mut body = picked::hostile(&mut random, kind);
+                texts::newlines_to_returns(&mut body);
                 let line = [&[kind.letter(), version], columns.as_bytes(), b" ", &body].concat();
                 stored.push(Stored { line, row: None });
             }

@@ -1,13 +1,11 @@
 //! Random lines for the program `bodies`: good ones, damaged ones, and such about the limit and far over it.
 
-use crate::bodies;
-use crate::body_edges;
-use crate::grammar::{self, push};
 use crate::kind::Kind;
 use crate::lines::{LONGEST, MOST_CAPTURES};
-use crate::random::Random;
-use crate::store_texts;
-use crate::symbols;
+use crate::store::picked;
+use crate::texts::grammar::{self, push};
+use crate::texts::random::Random;
+use crate::texts::{bodies, body_edges, symbols};
 
 /// Bytes of a head.
 pub const HEAD: usize = 5;
@@ -62,7 +60,7 @@ impl Lines {
         let random = &mut self.random;
         let mut body = match random.below(8) {
             0 => self.picked[random.below(self.picked.len())].clone(),
-            1 | 2 => store_texts::hostile(random, kind),
+            1 | 2 => picked::hostile(random, kind),
             _ => {
                 let mut body = Vec::new();
                 bodies::body(random, kind, &mut body);

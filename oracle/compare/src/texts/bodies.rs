@@ -1,9 +1,9 @@
 //! Random bodies of each kind, made by a grammar. A body has either no fault that the grammar knows of, or one in every few
 //! pieces: a long body of pieces that may each be at fault would nearly always be refused at its first ones.
 
-use crate::grammar::{self, push};
 use crate::kind::Kind;
-use crate::random::Random;
+use crate::texts::grammar::{self, push};
+use crate::texts::random::Random;
 
 /// Appends a body: mostly short, and now and then of some thousand bytes.
 pub fn body(random: &mut Random, kind: Kind, text: &mut Vec<u8>) {
