@@ -8,7 +8,6 @@ ghost use Rattle.luck_text.specs.Bytes.{part};
 ghost use Rattle.luck_line.specs.Line.{longest};
 ghost use Rattle.luck_lines.specs.Stream.{rowLength, lineLength, feed};
 ghost use Rattle.bodies.specs.Held.{Within, Unended, heldIn, GoesOn};
-use libc::STDERR_FILENO;
 use libc::STDIN_FILENO;
 use libc::STDOUT_FILENO;
 use luck_lines::buffer;
@@ -132,7 +131,7 @@ fn list(input: &mut [u8], output: &mut [u8])
 fn main() {
     if 1 < os::arg_count() {
         io::write_all(
-            STDERR_FILENO,
+            libc::STDERR_FILENO,
             b"bodies: takes no arguments, and has read nothing; it lists standard input: bodies < FILE\n",
         );
         return;
