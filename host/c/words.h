@@ -19,12 +19,12 @@ enum { ACCEPTED = 0, REFUSED = 1, TROUBLE = 2, SKIPPED = 3 }; /* the exit status
 
 enum { DEFAULT_BUDGET = 10000000, DEFAULT_ROOM = 16 * 1024 * 1024 };
 
-enum { KINDS = 6, VERSIONS = 6, OPTIONS = 2 };
+enum { KINDS = 6, VERSIONS = 6 };
 
 static const char *const kind_names[KINDS] = {"format", "pattern", "pack", "packsize", "replacement", "date"};
 static const char kind_letters[] = "FPKSGD";
 static const char *const version_names[VERSIONS] = {"5.1", "5.2", "5.3", "5.4", "5.5", "luau"}; /* from 1 */
-static const char *const option_names[OPTIONS] = {"--budget", "--room"};
+static const char *const option_names[] = {"--room", "--budget"}; /* decoding has the first only */
 
 static bool is_kind(uint8_t kind)
 {
@@ -138,7 +138,7 @@ static int read_options(int count, char **words, bool has_budget, question *aske
         size_t number = 0;
         bool budget = has_budget && is_option(words[i], "--budget");
         if (!budget && !is_option(words[i], "--room"))
-            return wrong_word("one word too many", words[i], likely(words[i], option_names + !has_budget, OPTIONS - !has_budget));
+            return wrong_word("one word too many", words[i], likely(words[i], option_names, has_budget ? 2 : 1));
         const char *value = option_value(budget ? "--budget" : "--room", count - i, words + i, &taken);
         if (value == NULL)
             return wrong_word("a number is needed after", words[i], NULL);

@@ -117,7 +117,7 @@ impl FromStr for Version {
 /// As [`FromStr`] reads it.
 impl fmt::Display for Version {
     fn fmt(&self, f: &mut fmt::Formatter<'_>) -> fmt::Result {
-        f.write_str(match self {
+        f.pad(match self {
             Self::Lua51 => "Lua 5.1",
             Self::Lua52 => "Lua 5.2",
             Self::Lua53 => "Lua 5.3",

@@ -151,6 +151,7 @@ fn versions_by_number() {
 fn versions_by_name() {
     let names: Vec<String> = Version::ALL.into_iter().map(|version| version.to_string()).collect();
     assert_eq!(names, ["Lua 5.1", "Lua 5.2", "Lua 5.3", "Lua 5.4", "Lua 5.5", "Luau"]);
+    assert_eq!(format!("{:>8}", Version::Luau), "    Luau");
     for version in Version::ALL {
         for name in [version.to_string(), version.to_string().to_uppercase(), version.number().to_string()] {
             assert_eq!(name.parse(), Ok(version), "{name}");
