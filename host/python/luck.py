@@ -189,15 +189,19 @@ _RAISES = [
 
 def _refusal(number: int, offset: int, first: int = 0, second: int = 0) -> str:
     """Why a text is refused; empty where it is not."""
-    words = {"offset": offset, "character": chr(first), "modifier": chr(first), "conversion": chr(second)}
-    return _REFUSALS[number].format(**words) if number else ""
+    if number == 0:
+        return ""
+    sentence = _REFUSALS.get(number, f"refusal {number} at offset {{offset}}")
+    return sentence.format(offset=offset, character=chr(first), modifier=chr(first), conversion=chr(second))
 
 
 def _ending(number: int, kind: int) -> str:
     """Why a trial is not done; empty where it is."""
-    if number == Number.RAISED:
+    if number == 0:
+        return ""
+    if number == Number.RAISED and 1 <= kind <= len(_RAISES):
         return _RAISES[kind - 1]
-    return _ENDINGS[number] if number else ""
+    return _ENDINGS.get(number, f"refusal {number}, kind {kind}")
 
 
 class Answer(NamedTuple):

@@ -256,6 +256,12 @@ class Messages(unittest.TestCase):
         ]:
             self.assertEqual(answer.message, message)
 
+    def test_other_numbers(self) -> None:
+        """A number that this module does not know, of a later library, has the Rust crate's words for it."""
+        self.assertEqual(Answer(99, 0, 0, 5, 0).message, "refusal 99 at offset 5")
+        self.assertEqual(Trial(99, 0, b"", 0, 0).message, "refusal 99, kind 0")
+        self.assertEqual(Trial(29, 11, b"", 0, 0).message, "refusal 29, kind 11")
+
     def test_every_refusal(self) -> None:
         for kind, version, body, *_ in REFUSALS:
             self.assertNotEqual(CHECKS[kind](version, body).message, "")

@@ -26,7 +26,7 @@ pub struct Comparison {
 }
 
 impl Comparison {
-    pub fn new() -> Self {
+    pub(crate) fn new() -> Self {
         Self { report: Report::default(), output: Output::new(), turn: 0 }
     }
 
