@@ -126,7 +126,16 @@ fn list(input: &mut [u8], output: &mut [u8])
     }
 }
 
+// A word after the program's name is a slip, mostly a file's name without its `<`: a listing of standard input would be that
+// of another input, and at a terminal the program would wait for one.
 fn main() {
+    if 1 < os::arg_count() {
+        io::write_all(
+            libc::STDERR_FILENO,
+            b"bodies: takes no arguments, and has read nothing; it lists standard input: bodies < FILE\n",
+        );
+        return;
+    }
     let mut input = io::large_buffer();
     let mut output = io::large_buffer();
     list(&mut input, &mut output);
