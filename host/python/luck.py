@@ -27,7 +27,7 @@ Texts are bytes, any bytes, or a str, which is taken as its UTF-8; an offset cou
 5 for Lua 5.1 to 5.5 and 6 for Luau; another number is refused by the library (25). A number that the C type can't hold raises OverflowError
 here, since ctypes would cut it off without a word.
 
-A trial of gsub takes up to 476 KiB of stack: a thread that calls it needs 512 KiB (threading.stack_size), or the process dies.
+A trial of gsub takes up to 473 KiB of stack: a thread that calls it needs 512 KiB (threading.stack_size), or the process dies.
 
 Python 3.8 or later, and nothing but its standard library.
 """
@@ -507,7 +507,7 @@ class Luck:
     ) -> Trial:
         """string.gsub(subject, pattern, replacement), within `budget` steps and `room` bytes of output.
 
-        It takes up to 476 KiB of stack: a thread with less than 512 KiB (threading.stack_size) must not call it.
+        It takes up to 473 KiB of stack: a thread with less than 512 KiB (threading.stack_size) must not call it.
         """
         size = _number("room", room, SIZE_MAX)
         # Pages that are not written to take no memory, however large the room is; none is no size for it.
