@@ -10,11 +10,10 @@ use lib.Dec.{eqb}
 use lib.ListN.{length}
 use borrow.Author.Tests.{eqb-true, eq-eqb, ne-eqb}
 use Rattle.luck_text.specs.Bytes.{among}
-use Rattle.luck_token.specs.Version.{isVersion}
-use Rattle.luck_utf8.specs.Utf8.{sequence, sequenceAt, noneIllFormed, illFormed}
 use Rattle.luck_text.specs.Walk.{Turn, stop, goes, walk, walkFrom}
 use Rattle.luck_text.proofs.Cases.{by-test, and-left, and-right}
-use Rattle.luck_answer.specs.Answer.{Answer, afterVersion, afterUtf8, checkText}
+use Rattle.luck_answer.specs.Answer.{Answer, checkText}
+use Rattle.luck_answer.proofs.Texts.{in-any-case}
 
 -- ---- A walk
 
@@ -110,31 +109,8 @@ module _ (numbers : List ℕ) (a : Answer) (h : (isWhole a && among (a .number) 
   pub fits-numbered : among (a .number) numbers ≡ true
   fits-numbered = and-right (isWhole a) (among (a .number) numbers) h
 
-abbrev pub PlaceIn : ℕ → Option ℕ → Type 0
-PlaceIn len none = Unit {0}
-PlaceIn len (some p) = p < len
-
-module _ (text : List ℕ) where
-  sequence-in : (p : ℕ) (u : Unit {0}) → p < length text → Stops (PlaceIn (length text)) (sequenceAt text p u)
-  unfolding sequenceAt
-  sequence-in p u h = by-test (Stops (PlaceIn (length text))) (eqb (sequence text p) 0) _ _ (λ _. h) (λ _. tt)
-
-  no-sequence-in : (p : ℕ) (u : Unit {0}) → PlaceIn (length text) (noneIllFormed p u)
-  unfolding noneIllFormed
-  no-sequence-in p u = tt
-
-  pub place-in : PlaceIn (length text) (illFormed text)
-  unfolding illFormed
-  place-in = walk-every (sequenceAt text) noneIllFormed (length text) (PlaceIn (length text)) sequence-in no-sequence-in 0 tt
-
-  module _ (numbers : List ℕ) (has-23 : among 23 numbers ≡ true) (has-25 : among 25 numbers ≡ true) where
-    after-fits : (place : Option ℕ) (walked : Answer) → PlaceIn (length text) place → Fits (length text) numbers walked → Fits (length text) numbers (afterUtf8 place walked)
-    unfolding afterUtf8
-    after-fits none walked h i = i
-    after-fits (some p) walked h i = (omega arith, has-23)
-
-    -- a check's, if its walk's does
-    pub check-fits : (version : ℕ) (walked : Answer) → Fits (length text) numbers walked → Fits (length text) numbers (checkText version text walked)
-    unfolding checkText afterVersion
-    check-fits version walked h =
-        by-test (Fits (length text) numbers) (isVersion version) _ _ (λ _. after-fits (illFormed text) walked place-in h) (λ _. (omega arith, has-25))
+-- a check's does, if its walk's does
+pub check-fits : (text numbers : List ℕ) → among 23 numbers ≡ true → among 25 numbers ≡ true → (version : ℕ) (walked : Answer)
+    → Fits (length text) numbers walked → Fits (length text) numbers (checkText version text walked)
+check-fits text numbers has-23 has-25 version walked h =
+    in-any-case version text walked (Fits (length text) numbers) (omega arith, has-25) (λ place i. (omega arith, has-23)) h

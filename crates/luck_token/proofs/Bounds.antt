@@ -13,8 +13,8 @@ use borrow.Author.Tests.{eqb-true, eqb-false, leb-true}
 use Rattle.luck_text.specs.Bytes.{byteAt, part, among, isXdigit, run, numeral}
 use Rattle.luck_text.proofs.Cases.{by-test, and-left, and-right, present}
 use Rattle.luck_text.proofs.Keeps.{Turns, walk-keeps}
-use Rattle.luck_utf8.specs.Utf8.{utf8Bytes, sequence, sequenceAt, noneIllFormed, illFormed}
-use Rattle.luck_token.specs.Version.{isVersion, rulesOf}
+use Rattle.luck_utf8.specs.Utf8.{utf8Bytes}
+use Rattle.luck_token.specs.Version.{rulesOf}
 use Rattle.luck_token.specs.Whitespace.{lineBreak, stripLineBreak}
 use Rattle.luck_token.specs.Literal.{
   isShort,
@@ -40,10 +40,11 @@ use Rattle.luck_token.specs.Literal.{
   valueOf,
   literalValue,
 }
-use Rattle.luck_token.specs.Decode.{Outcome, value, refused, withRoom, ofText, decodeString, answerOf, outputOf}
+use Rattle.luck_token.specs.Decode.{Outcome, value, refused, withRoom, decodeString, answerOf, outputOf}
 use Rattle.luck_token.specs.declared.version.Rules.{Rules}
 use Rattle.luck_token.specs.declared.string.Escape.{Escape}
 use Rattle.luck_token.specs.declared.string.Escape.the-variants.{Simple, LineBreak, Hex, Whitespace, Decimal, Unicode, Itself, Undefined}
+use Rattle.luck_token.proofs.Texts.{in-any-case}
 
 -- ---- Pieces
 
@@ -162,18 +163,6 @@ literal-small rules raw =
 
 -- ---- Outcomes
 
--- the first ill-formed sequence lies in the text
-abbrev pub PlaceIn : ℕ → Option ℕ → Type 0
-PlaceIn len none = Unit {0}
-PlaceIn len (some p) = p < len
-
-pub place-in : (text : List ℕ) → PlaceIn (length text) (illFormed text)
-unfolding illFormed sequenceAt noneIllFormed
-place-in text =
-    walk-keeps (sequenceAt text) noneIllFormed (length text) (λ left u. Unit {0}) (PlaceIn (length text))
-    (λ p u h _. by-test (Turns (λ left u. Unit {0}) (PlaceIn (length text)) (length text - p)) (eqb (sequence text p) 0) _ _ (λ _. h) (λ _. tt))
-    (λ p u _. tt) tt tt
-
 -- of an outcome, with a text of this length and this room
 pub record Bounded (len room : ℕ) (o : Outcome) : Type 0 where
   pub numbered : among (answerOf o .number) (0 ∷ 23 ∷ 24 ∷ 25 ∷ 26 ∷ []) ≡ true
@@ -219,13 +208,9 @@ module _ (text : List ℕ) (room : ℕ) where
       by-test (Bounded (length text) room) (leb (length bytes) room) _ _
       (λ e. value-bounded bytes (leb-true (length bytes) room e) s) (λ _. refusal-bounded 26 0 refl (omega arith) (λ _. refl))
 
-  text-bounded : (version : ℕ) (place : Option ℕ) → PlaceIn (length text) place → Bounded (length text) room (ofText version room text place)
-  unfolding ofText among
-  text-bounded version none h = room-bounded (literalValue (rulesOf version) text) (literal-small (rulesOf version) text)
-  text-bounded version (some p) h = refusal-bounded 23 p refl (omega arith) (λ n. absurd (n refl))
-
   pub decode-bounded : (version : ℕ) → Bounded (length text) room (decodeString version text room)
   unfolding decodeString among
   decode-bounded version =
-      by-test (Bounded (length text) room) (isVersion version) _ _
-      (λ _. text-bounded version (illFormed text) (place-in text)) (λ _. refusal-bounded 25 0 refl (omega arith) (λ _. refl))
+      in-any-case (Bounded (length text) room) refused text _ (refusal-bounded 25 0 refl (omega arith) (λ _. refl))
+      (λ place h. refusal-bounded 23 place refl (omega arith) (λ n. absurd (n refl)))
+      (room-bounded (literalValue (rulesOf version) text) (literal-small (rulesOf version) text)) version

@@ -34,7 +34,8 @@ use Rattle.luck_token.specs.Literal.{
   valueOf,
   literalValue,
 }
-use Rattle.luck_token.specs.Decode.{refused, withRoom, ofText, decodeString, answerOf, numbered, outputOf}
+use Rattle.luck_token.specs.Decode.{refused, withRoom, decodeString, answerOf, numbered, outputOf}
+use Rattle.luck_token.proofs.Texts.{text-fine, text-ill-formed, text-unknown-version}
 use Rattle.luck_token.specs.Inner.{IsPiece, Lies, sizeOf, plain, Within, Written}
 use Rattle.luck_output.specs.Output.{stores}
 use Rattle.luck_token.specs.declared.version.Rules.{Rules}
@@ -300,12 +301,12 @@ module _ (rules : Rules) (raw : List ℕ) where
 module _ (version : ℕ) (raw : List ℕ) (room : ℕ) where
   pub unknown-version : isVersion version ≡ false → refused 25 0 ≡ decodeString version raw room
   unfolding decodeString
-  unknown-version e = sym (if-false _ _ _ e)
+  unknown-version = text-unknown-version refused version raw _
 
   pub not-utf8 : isVersion version ≡ true → (p : ℕ) → some p ≡ illFormed raw → refused 23 p ≡ decodeString version raw room
-  unfolding decodeString ofText
-  not-utf8 e p f = ap (ofText version room raw) f ∙ sym (if-true _ _ _ e)
+  unfolding decodeString
+  not-utf8 = text-ill-formed refused version raw _
 
   pub literal : isVersion version ≡ true → none ≡ illFormed raw → withRoom room (literalValue (rulesOf version) raw) ≡ decodeString version raw room
-  unfolding decodeString ofText
-  literal e f = ap (ofText version room raw) f ∙ sym (if-true _ _ _ e)
+  unfolding decodeString
+  literal = text-fine refused version raw _

@@ -7,8 +7,8 @@ use mathlib.Core.Option.{Option, none, some}
 use lib.ListN.{length}
 use lib.Dec.{leb}
 use Rattle.luck_text.specs.Bytes.{if_then_else_, inFront}
-use Rattle.luck_token.specs.Version.{isVersion, rulesOf}
-use Rattle.luck_utf8.specs.Utf8.{illFormed}
+use Rattle.luck_token.specs.Version.{rulesOf}
+use Rattle.luck_token.specs.Text.{afterText}
 use Rattle.luck_token.specs.Literal.{literalValue}
 use Rattle.luck_token.specs.declared.string.Decoded.{Decoded}
 use Rattle.luck_token.specs.declared.string.Decoded.the-variants.{Value, UnknownVersion, NotUtf8, Undecodable, OutputTooShort}
@@ -22,12 +22,8 @@ unfoldable pub withRoom : ℕ → Option (List ℕ) → Outcome
 withRoom room none = refused 24 0
 withRoom room (some bytes) = if leb (length bytes) room then value bytes else refused 26 0
 
-unfoldable pub ofText : ℕ → ℕ → List ℕ → Option ℕ → Outcome
-ofText version room raw (some p) = refused 23 p
-ofText version room raw none = withRoom room (literalValue (rulesOf version) raw)
-
 unfoldable pub decodeString : ℕ → List ℕ → ℕ → Outcome
-decodeString version raw room = let text = ofText version room raw (illFormed raw) in if isVersion version then text else refused 25 0
+decodeString version raw room = afterText refused version raw (withRoom room (literalValue (rulesOf version) raw))
 
 -- an answer in document 01's numbers (0: decoded)
 pub record Answer : Type 0 where
