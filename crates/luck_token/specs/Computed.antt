@@ -14,10 +14,10 @@ unfolding
     Text.afterVersion Text.afterUtf8 Text.afterText
     Whitespace.lineBreak Whitespace.stripLineBreak
     Literal.isShort Literal.shortStringBody Literal.equals Literal.bracketAt Literal.bracketWidth
-    Literal.longStringBody Literal.longPiece Literal.otherEscape Literal.escapeOf Literal.lineBreakEscape
+    Literal.longStringBody Literal.longPiece Literal.otherEscape Literal.escapeKind Literal.lineBreakEscape
     Literal.hexEscape Literal.whitespaceEscape Literal.decimalEscape Literal.allowsDigits Literal.codePointLimit
-    Literal.allowsCodePoint Literal.unicodeEscape Literal.escapeAs Literal.escapeAt Literal.shortPiece Literal.pieceAt
-    Literal.taken Literal.wholeValue Literal.valueOf Literal.literalValue
-    Decode.withRoom Decode.decodeString Decode.answerOf Decode.numbered Decode.outputOf
+    Literal.allowsCodePoint Literal.unicodeEscape Literal.escapePiece Literal.escapePieceAt Literal.shortPiece
+    Literal.pieceAt Literal.pieceTurn Literal.wholeValue Literal.valueOf Literal.literalValue
+    Decode.withRoom Decode.decodeString Decode.decodingOf Decode.numbered Decode.outputOf
     Span.spanOf Span.shiftedBy
 computed = tt

@@ -4,7 +4,7 @@ use Prim.Native.Nat.{_+_, _-_, _≤_}
 use native.Mathlib.Omega.{arith}
 use mathlib.Core.Logic.{inl, inr, ⊎-elim}
 use lib.ListN.{length}
-use Rattle.luck_pack.specs.Pack.{state, packWalk}
+use Rattle.luck_pack.specs.Pack.{packState, packWalk}
 use Rattle.luck_pack.specs.declared.pack.Turn.{Turn}
 use Rattle.luck_pack.proofs.Packs.{on, start, After, after, done, counted}
 use borrow.Author.Needs.{needs}
@@ -12,7 +12,7 @@ use Rattle.luck_pack.proofs.pack.scan_pack_format.Statement.{statement}
 use Rattle.luck_pack.proofs.pack.scan_pack_format.Tie as tie
 
 abbrev Inv-loop : tie.InvT-loop
-Inv-loop text is-packsize values₀ alignment₀ at₀ values alignment at = (at ≤ length text) × (values ≤ at) × (on is-packsize text at (state values alignment) ≡ packWalk is-packsize text)
+Inv-loop text is-packsize values₀ alignment₀ at₀ values alignment at = (at ≤ length text) × (values ≤ at) × (on is-packsize text at (packState values alignment) ≡ packWalk is-packsize text)
 
 abbrev μ-loop : tie.MeasureT-loop
 μ-loop text is-packsize values₀ alignment₀ at₀ values alignment at = length text - at
