@@ -6,24 +6,6 @@ use borrow.Author.Needs.{needs}
 use Rattle.luck_pack.proofs.pack.validate_pack_format.Statement.{statement}
 use Rattle.luck_pack.proofs.pack.validate_pack_format.Tie as tie
 
-read-text-requires : tie.Need-read-text-requires
-read-text-requires c κs = search needs
-
-enum-told : tie.Need-enum-told
-enum-told c = search needs
-
-scan-pack-format-requires : tie.Need-scan-pack-format-requires
-scan-pack-format-requires c κs = search needs
-
-as-checked-requires : tie.Need-as-checked-requires
-as-checked-requires c κs = search needs
-
-enum-known-read : tie.Need-enum-known-read
-enum-known-read c = search needs
-
-enum-told-2 : tie.Need-enum-told-2
-enum-told-2 c = search needs
-
 returns : tie.Need-returns
 unfolding checkPack
 returns c =
@@ -41,12 +23,8 @@ pub validate-pack-format-spec : {M : Type 1} → statement M
 validate-pack-format-spec =
     tie.close
     (tie.spec
-    read-text-requires
-    enum-told
-    scan-pack-format-requires
-    as-checked-requires
-    enum-known-read
-    enum-told-2
+    (λ c κs. search needs) (λ c. search needs) (λ c κs. search needs) (λ c κs. search needs) (λ c. search needs)
+    (λ c. search needs)
     returns
     returns-2
     returns-3)

@@ -6,24 +6,6 @@ use Rattle.luck_pattern.specs.Pattern.{checkPatternAs, checkPattern}
 use Rattle.luck_pattern.proofs.pattern.validate_lua_pattern.Statement.{statement}
 use Rattle.luck_pattern.proofs.pattern.validate_lua_pattern.Tie as tie
 
-read-text-requires : tie.Need-read-text-requires
-read-text-requires c κs = search needs
-
-enum-told : tie.Need-enum-told
-enum-told c = search needs
-
-scan-pattern-requires : tie.Need-scan-pattern-requires
-scan-pattern-requires c κs = search needs
-
-as-checked-requires : tie.Need-as-checked-requires
-as-checked-requires c κs = search needs
-
-enum-known-read : tie.Need-enum-known-read
-enum-known-read c = search needs
-
-enum-told-2 : tie.Need-enum-told-2
-enum-told-2 c = search needs
-
 returns : tie.Need-returns
 unfolding checkPattern checkPatternAs
 returns c =
@@ -41,12 +23,8 @@ pub validate-lua-pattern-spec : {M : Type 1} → statement M
 validate-lua-pattern-spec =
     tie.close
     (tie.spec
-    read-text-requires
-    enum-told
-    scan-pattern-requires
-    as-checked-requires
-    enum-known-read
-    enum-told-2
+    (λ c κs. search needs) (λ c. search needs) (λ c κs. search needs) (λ c κs. search needs) (λ c. search needs)
+    (λ c. search needs)
     returns
     returns-2
     returns-3)

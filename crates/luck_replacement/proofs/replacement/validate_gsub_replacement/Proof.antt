@@ -6,27 +6,6 @@ use borrow.Author.Needs.{needs}
 use Rattle.luck_replacement.proofs.replacement.validate_gsub_replacement.Statement.{statement}
 use Rattle.luck_replacement.proofs.replacement.validate_gsub_replacement.Tie as tie
 
-read-text-requires : tie.Need-read-text-requires
-read-text-requires c κs = search needs
-
-enum-told : tie.Need-enum-told
-enum-told c = search needs
-
-rules-of-requires : tie.Need-rules-of-requires
-rules-of-requires c κs = search needs
-
-scan-replacement-requires : tie.Need-scan-replacement-requires
-scan-replacement-requires c κs = search needs
-
-as-checked-requires : tie.Need-as-checked-requires
-as-checked-requires c κs = search needs
-
-enum-known-read : tie.Need-enum-known-read
-enum-known-read c = search needs
-
-enum-told-2 : tie.Need-enum-told-2
-enum-told-2 c = search needs
-
 returns : tie.Need-returns
 unfolding checkReplacement
 returns c =
@@ -47,13 +26,8 @@ pub validate-gsub-replacement-spec : {M : Type 1} → statement M
 validate-gsub-replacement-spec =
     tie.close
     (tie.spec
-    read-text-requires
-    enum-told
-    rules-of-requires
-    scan-replacement-requires
-    as-checked-requires
-    enum-known-read
-    enum-told-2
+    (λ c κs. search needs) (λ c. search needs) (λ c κs. search needs) (λ c κs. search needs) (λ c κs. search needs)
+    (λ c. search needs) (λ c. search needs)
     returns
     returns-2
     returns-3)
