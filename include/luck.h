@@ -1,61 +1,78 @@
 /*
  * luck.h: checks of Lua string literals, and a trial of gsub, for Lua 5.1 to 5.5 and Luau.
  *
- * Link libluck.a, which `rt staticlib luck` writes to target/staticlib, for 64-bit x86 on Linux. Of the C library it calls memcpy and memset only.
- * C99 and C++.
+ * Link libluck.a, which `rt staticlib luck` writes to target/staticlib, for 64-bit x86 on Linux. Of the C library it
+ * calls memcpy and memset only. C99 and C++.
+ *
+ * Which function:
+ *
+ * - A loader decodes a literal first (luck_decode_string), then checks the value (luck_check_pattern and its like): the
+ *   value is what Lua sees. Give it what a lexer took for one literal.
+ * - luck_check_literal checks a literal as it is written, without decoding it, and gives a span of the source, for an
+ *   editor. What it accepts need not load: `"a\q%d"` is an accepted format, and Lua 5.2 to 5.5 do not load it.
+ * - The checks read UTF-8. Other bytes, such as the value of `"[\128-\255]"`, are refused (23) and can't be checked;
+ *   luck_gsub_trial takes any bytes.
  *
  * For every function:
  *
- * - `version` is 1 to 5 for Lua 5.1 to 5.5 and 6 for Luau. Another number is refused (25).
- * - A text is a pointer and a count of bytes: any bytes, and a zero byte does not end it. With a count of 0 the pointer is not
- *   read and may be null; with any other count it points to so many readable bytes, at most PTRDIFF_MAX, as of any object in C.
+ * - `version` is LUCK_LUA_51 to LUCK_LUA_55 (1 to 5) or LUCK_LUAU (6). Another number is refused (25).
+ * - A text is a pointer and a count of bytes: any bytes, and a zero byte does not end it. With a count of 0 the pointer
+ *   is not read and may be null; with any other count it points to so many readable bytes, at most PTRDIFF_MAX, as of
+ *   any object in C.
  * - A `bool` is false or true: what C and C++ do by themselves, and what another language has to see to.
- * - The functions keep no state, allocate nothing, and write nothing but the output that decoding and the trial are lent. They may run in
- *   any number of threads at once, also on the same text. Each takes less than 1 KiB of stack, as measured, but for
- *   luck_gsub_trial, whose 200 levels take up to 476 KiB: give it 512.
+ * - The functions keep no state, allocate nothing, and write nothing but the output that decoding and the trial are
+ *   lent. They may run in any number of threads at once, also on the same text. Each takes less than 1 KiB of stack, as
+ *   measured, but for luck_gsub_trial, whose 200 levels take up to 473 KiB: give it 512.
  *
- * The refusals, by `number`, with their names after LUCK_. 0 is none: accepted, decoded, done, or skipped.
+ * The refusals, by `number`, with their names after LUCK_. 0 is none: accepted, decoded, done, or skipped. "at" is the
+ * byte that `offset` counts to, from 0; of a character of several bytes it is the first.
  *
  *    format
- *    1  TRUNCATED_SPECIFIER   the text ends after a `%` or its modifiers (patterns too: after `%`, or inside `%b`); at the `%`
- *    2  UNKNOWN_SPECIFIER     no conversion of this version; carries the character
- *    3  BAD_FLAG              the sixth flag of a specifier; carries it (versions 1, 2, 3 and 6)
+ *    1  TRUNCATED_SPECIFIER   the text ends after a `%` or its modifiers (patterns too: after `%`, also in a set, or
+ *                             inside `%b`); at the `%`
+ *    2  UNKNOWN_SPECIFIER     no conversion of this version; at the conversion, after the modifiers; carries it
+ *    3  BAD_FLAG              the sixth flag of a specifier; at that flag; carries it (versions 1, 2, 3 and 6)
  *    4  BAD_WIDTH             a width of more than two digits; at its first (versions 1, 2, 3 and 6)
  *    5  BAD_PRECISION         a precision of more than two digits; at its first (versions 1, 2, 3 and 6)
- *    6  BAD_MODIFIER          a modifier that the conversion does not take; carries it, and the conversion (versions 4 and 5)
+ *    6  BAD_MODIFIER          a flag, a third digit, a `.` or a precision that the conversion does not take; at that
+ *                             byte; carries it, and the conversion (versions 4 and 5)
  *    7  LONG_SPECIFIER        21 or more modifiers; at the first (versions 4 and 5)
  *    pattern
  *    8  UNTERMINATED_SET      a set without its `]`; at its `[`
  *    9  EMPTY_SET             a `[]` or `[^]` that ends the text; at its `[`
  *   10  BAD_ESCAPE            a `%f` without a set after it; at its `%`; carries the `f`
- *   11  UNMATCHED_CAPTURE     a `)` without an open capture; or a `(` that is never closed, then at the text's end
- *   12  TOO_MANY_CAPTURES     the 33rd capture
+ *   11  UNMATCHED_CAPTURE     a `)` without an open capture, at the `)`; or a `(` that is never closed, at the
+ *                             text's end
+ *   12  TOO_MANY_CAPTURES     the 33rd capture; at its `(`
  *   13  BAD_BACK_REFERENCE    `%0`, or `%1` to `%9` of a capture that was not seen or is still open; at the digit
  *    pack and packsize
- *   14  INVALID_PACK_OPTION   no option, or one that `X` can't align to; carries the character
+ *   14  INVALID_PACK_OPTION   no option, or one that `X` can't align to; at that option, not at the `X`; carries it
  *   15  TRUNCATED_PACK_SIZE   a `c` without a size, or an `X` at the text's end; at the place after it
  *   16  PACK_SIZE_LIMITS      a size of `i`, `I`, `s` or `!` that is not 1 to 16; at its first digit (`c` takes any)
- *   17  BAD_PACK_ALIGNMENT    an alignment that is no power of 2; at the option
- *   18  VARIABLE_LENGTH       an `s` or `z` in a packsize format; carries it
+ *   17  BAD_PACK_ALIGNMENT    an alignment that is no power of 2; at the option, or at the `X` that reads it
+ *   18  VARIABLE_LENGTH       an `s` or `z` in a packsize format; at that option; carries it
  *    replacement and date
- *   19  LONE_PERCENT          the text ends in a single `%` (replacements: versions 2 to 6; dates: 2 to 5)
- *   20  BAD_REPLACEMENT       a replacement's `%` before something other than a digit or `%`; at that (versions 2 to 6)
+ *   19  LONE_PERCENT          the text ends in a single `%`; at that `%` (replacements: versions 2 to 6; dates: 2 to 5)
+ *   20  BAD_REPLACEMENT       a replacement's `%` before something other than a digit or `%`; at what follows the `%`
+ *                             (versions 2 to 6)
  *   21  CAPTURE_INDEX         a replacement's digit above the larger of the known count of captures and 1; at the digit
- *   22  BAD_DATE_SPECIFIER    a date's `%` before something other than a conversion of this version; at that (versions 2 to 6)
+ *   22  BAD_DATE_SPECIFIER    a date's `%` before something other than a conversion of this version; at what follows
+ *                             the `%`, also where the fault is after `%E`, `%O` or `%#` (versions 2 to 6)
  *    any text
  *   23  NOT_UTF8              not UTF-8 (RFC 3629); at the first byte of the first ill-formed sequence
- *   24  UNDECODABLE           no literal, or an escape that is malformed or that this version does not have (decoding only);
- *                             without a place
- *   25  UNKNOWN_VERSION       `version` is not 1 to 6; without a place
- *   26  OUTPUT_TOO_SHORT      decoding: the value is longer than the output; trial: a byte was due and the output was full
- *    trial
- *   27  STEPS_SPENT           a step was due and the budget was spent
- *   28  TOO_DEEP              the 201st level
- *   29  RAISED                Lua raises an error, of the kind that the answer has
- *   30  UNKNOWN_KIND          `kind` is none of the six letters (luck_check_literal only); without a place
+ *    without a place: the offset is 0, or the answer has none
+ *   24  UNDECODABLE           no literal, or an escape that is malformed or that this version does not have, or a
+ *                             `\u{}` of a surrogate or above 10FFFF, which some versions take (decoding only)
+ *   25  UNKNOWN_VERSION       `version` is not 1 to 6
+ *   26  OUTPUT_TOO_SHORT      decoding: the value is longer than the output; trial: a byte was due and the output was
+ *                             full
+ *   27  STEPS_SPENT           trial: a step was due and the budget was spent
+ *   28  TOO_DEEP              trial: the 201st level
+ *   29  RAISED                trial: Lua raises an error, of the kind that the answer has
+ *   30  UNKNOWN_KIND          `kind` is none of the six letters (luck_check_literal only)
  *
- * 25 is tested first (by luck_check_literal: 30, then 25), then 23, then the text from its front: the first fault is the answer.
- * Decoding tests 25, 23, 24, 26.
+ * 25 is tested first (by luck_check_literal: 30, then 25), then 23, then the text from its front: the first fault is
+ * the answer. Decoding tests 25, 23, 24, 26.
  */
 #ifndef LUCK_H
 #define LUCK_H
@@ -64,10 +81,41 @@
 #include <stddef.h>
 #include <stdint.h>
 
+#if SIZE_MAX <= 0xFFFFFFFF
+#error "libluck.a is made for 64-bit x86: a size_t of 64 bits is needed"
+#endif
+
+/* The version of this header and of the library beside it. */
+#define LUCK_VERSION_MAJOR 0
+#define LUCK_VERSION_MINOR 1
+#define LUCK_VERSION_PATCH 0
+#define LUCK_VERSION "0.1.0"
+
 #ifdef __cplusplus
 extern "C" {
 #endif
 
+/* `version`: whose rules a text is read by. */
+enum {
+    LUCK_LUA_51 = 1,
+    LUCK_LUA_52 = 2,
+    LUCK_LUA_53 = 3,
+    LUCK_LUA_54 = 4,
+    LUCK_LUA_55 = 5,
+    LUCK_LUAU = 6
+};
+
+/* `kind`: what a literal is used as. */
+enum {
+    LUCK_KIND_FORMAT = 'F',      /* string.format */
+    LUCK_KIND_PATTERN = 'P',     /* string.find, match, gmatch, gsub */
+    LUCK_KIND_PACK = 'K',        /* string.pack, unpack */
+    LUCK_KIND_PACKSIZE = 'S',    /* string.packsize */
+    LUCK_KIND_REPLACEMENT = 'G', /* the replacement of string.gsub */
+    LUCK_KIND_DATE = 'D'         /* os.date */
+};
+
+/* `number`: the refusals. */
 enum {
     LUCK_ACCEPTED = 0,
     LUCK_TRUNCATED_SPECIFIER = 1,
@@ -105,13 +153,13 @@ enum {
 /* What a check of a body answers. */
 typedef struct {
     uint32_t number; /* 0: accepted; else the refusal */
-    uint32_t first;  /* the character that the refusal carries, as a code point; 0 for none. A zero byte looks like none. */
+    uint32_t first;  /* the character that the refusal carries, as a code point; 0 for none (and for a zero byte) */
     uint32_t second; /* the second one: the conversion of BAD_MODIFIER, else 0 */
-    size_t offset;   /* the byte of the body that is at fault, at most its length; 0 where accepted or without a place */
+    size_t offset;   /* the byte of the body at fault, at most its length; 0 where accepted or without a place */
     size_t count;    /* accepted: the count that the function speaks of; else 0 */
 } luck_answer;
 
-/* A body is a literal's text between its quotes, its escapes as they are written. */
+/* A body is the text that Lua's function is handed: the value of a literal, as luck_decode_string gives it. */
 
 /* A format of string.format. `count`: the arguments that its specifiers take. */
 luck_answer luck_check_format(uint32_t version, const uint8_t *body, size_t len);
@@ -119,7 +167,7 @@ luck_answer luck_check_format(uint32_t version, const uint8_t *body, size_t len)
 /* A pattern of string.find, match, gmatch and gsub. `count`: its captures, `()` included. */
 luck_answer luck_check_pattern(uint32_t version, const uint8_t *body, size_t len);
 
-/* A format of string.pack and unpack. `count`: its values. A version that has no string.pack is checked in the same way. */
+/* A format of string.pack and unpack. `count`: its values. 5.1 and 5.2, which lack string.pack, are checked alike. */
 luck_answer luck_check_pack(uint32_t version, const uint8_t *body, size_t len);
 
 /* A format of string.packsize, which has no option of variable length. `count`: its values. */
@@ -129,8 +177,8 @@ luck_answer luck_check_packsize(uint32_t version, const uint8_t *body, size_t le
 luck_answer luck_check_date(uint32_t version, const uint8_t *body, size_t len);
 
 /*
- * A replacement of string.gsub. `captures` is the count of the pattern's captures, any number, where `known` is true; where it
- * is false, `captures` is not looked at and no digit is refused. `count` is 0.
+ * A replacement of string.gsub. `captures` is the count of the pattern's captures, any number, where `known` is true;
+ * where it is false, `captures` is not looked at and no digit is refused. `count` is 0.
  */
 luck_answer luck_check_replacement(uint32_t version, bool known, size_t captures, const uint8_t *body, size_t len);
 
@@ -140,23 +188,26 @@ typedef struct {
     uint32_t first;  /* as in luck_answer */
     uint32_t second; /* as in luck_answer */
     bool skipped;    /* not checked; all else is 0 and false */
-    bool spanned;    /* `start` and `end` hold the span of a fault in the body; refusals 23, 25 and 30 have none */
-    uint32_t start;  /* the source's offset of the character at fault; 4,294,967,295 where it does not fit */
-    uint32_t end;    /* the offset after that character, or one after `start` where the fault is at the body's end; likewise */
-    size_t offset;   /* the fault's place in the body, as in luck_answer; for 23 in the text, its quote included */
+    bool spanned;    /* `start` and `end` hold the span of a fault in the body; accepted, 23, 25 and 30 have none */
+    uint32_t start;  /* spanned: the source's offset of the character at fault, at most 4,294,967,295; else 0 */
+    uint32_t end;    /* spanned: the offset after that character, or one after `start` where the fault is at the
+                        body's end, at most 4,294,967,295; else 0 */
+    size_t offset;   /* the fault's place between the quotes; for 23 in the text, its quote included */
     size_t count;    /* as in luck_answer, by the kind */
 } luck_literal;
 
 /*
- * A literal as it stands in a source, with its quotes; `start` is the offset of its first byte there. `kind` is 'F' (format),
- * 'P' (pattern), 'K' (pack), 'S' (packsize), 'G' (replacement, with `known` and `captures` as above) or 'D' (date); for the
- * others `known` and `captures` are not looked at.
+ * A literal as it stands in a source, with its quotes; `start` is the offset of its first byte there. `kind` is one of
+ * LUCK_KIND_FORMAT to LUCK_KIND_DATE. For LUCK_KIND_REPLACEMENT `known` and `captures` are as above; for the others
+ * they are not looked at.
  *
- * It skips a text that is not in two equal quotes, and one with an escape `\0` to `\9`, `\x` or `\u`, which spells a byte by its
- * number. Other escapes are read as the two bytes that are written, not as the one that Lua reads: `"%b\""` is accepted, though
- * the value `%b"` is refused. Neither this function nor decoding is a lexer: a quote or a line break between the quotes is taken.
+ * It skips a text that is not in two equal quotes, and one with an escape `\0` to `\9`, `\x` or `\u`, which spells a
+ * byte by its number: decode such a literal, and check the value. Other escapes are read as the two bytes that are
+ * written, and not as what Lua reads: `"%b\""` is an accepted pattern, though its value `%b"` is refused. Neither this
+ * function nor decoding is a lexer: a quote or a line break between the quotes is taken.
  */
-luck_literal luck_check_literal(uint8_t kind, uint32_t version, bool known, size_t captures, uint32_t start, const uint8_t *text, size_t len);
+luck_literal luck_check_literal(uint8_t kind, uint32_t version, bool known, size_t captures, uint32_t start,
+                                const uint8_t *text, size_t len);
 
 /* What decoding answers. */
 typedef struct {
@@ -167,9 +218,9 @@ typedef struct {
 
 /*
  * The bytes that a literal stands for: short in two equal quotes, or in long brackets. They are written to the front of
- * `output`, which has room for `room` bytes, and no byte after them is touched; a refusal leaves the whole output untouched.
- * A value is never longer than its literal, so a room of `len` bytes is always enough. With a room of 0, `output` may be null.
- * `text` and `output` must not overlap.
+ * `output`, which has room for `room` bytes, and no byte after them is touched; a refusal leaves the whole output
+ * untouched. A value is never longer than its literal, so a room of `len` bytes is always enough. With a room of 0,
+ * `output` may be null. `text` and `output` must not overlap.
  */
 luck_decoded luck_decode_string(uint32_t version, const uint8_t *text, size_t len, uint8_t *output, size_t room);
 
@@ -183,23 +234,30 @@ typedef struct {
 } luck_trial;
 
 /*
- * string.gsub(subject, pattern, replacement) by the rules of 5.4 in every version; in a replacement 5.1 writes the byte after
- * a `%` that is neither a digit nor `%`, and a zero byte for a final `%`, where the others raise kind 9. A step is due when an item of
- * the pattern is begun, its end included, and for each test that a repeat makes after its first. The budget bounds the steps, not
- * the time: a step may read the whole pattern (a set) or the whole subject (`%b`), and each replacement reads the whole replacement.
- * The result is written to the front of `output`, which has room for `room` bytes; no byte after the written ones is touched. The texts are any bytes and are not checked first. `output` must overlap none of them.
+ * string.gsub(subject, pattern, replacement) by the rules of 5.4 in every version; in a replacement 5.1 writes the byte
+ * after a `%` that is neither a digit nor `%`, and a zero byte for a final `%`, where the others raise kind 9. The
+ * texts are any bytes and are not checked first. The result is written to the front of `output`, which has room for
+ * `room` bytes; no byte after the written ones is touched. `output` must overlap none of the texts.
  *
- * Kinds, by Lua's message: 1 pattern ends with '%'; 2 missing ']'; 3 missing '[' after '%f'; 4 missing arguments to '%b';
- * 5 invalid pattern capture; 6 unfinished capture; 7 invalid capture index in the pattern; 8 too many captures;
+ * A step is due when an item of the pattern is begun, its end included, and for each test that a repeat makes after its
+ * first. A budget of 16 steps for each byte of the subject, or 1,000,000 for a log of 60 KiB, is enough for most
+ * patterns: `%d+`, `(%w+)=(%w+)`, `.-\n` and the like took 1 to 5 steps a byte of such a log, and at most 3 ms. A
+ * pattern that tries the rest of the text from every place, such as `.-@` where there is no `@`, takes steps by the
+ * square of the length: there the budget ends it (27). It bounds the steps, not the time: a step may read the whole
+ * pattern (a set) or the whole subject (`%b`), and each replacement reads the whole replacement.
+ *
+ * Kinds, by Lua's message: 1 pattern ends with '%'; 2 missing ']'; 3 missing '[' after '%f'; 4 missing arguments to
+ * '%b'; 5 invalid pattern capture; 6 unfinished capture; 7 invalid capture index in the pattern; 8 too many captures;
  * 9 invalid use of '%' in the replacement; 10 invalid capture index in the replacement.
  *
- * With a pattern that luck_check_pattern accepts, and a replacement that luck_check_replacement accepts for its count under a
- * version other than 1, the six versions give the same answer and the same output, and none raises; with one that it accepts
- * for its count under version 1, the trial under version 1 does not raise. 28, which real Lua raises as "pattern too complex",
- * can still be the answer.
+ * With a pattern that luck_check_pattern accepts, and a replacement that luck_check_replacement accepts for its count
+ * under a version other than 1, the six versions give the same answer and the same output, and none raises; with one
+ * that it accepts for its count under version 1, the trial under version 1 does not raise. 28, which real Lua raises as
+ * "pattern too complex", can still be the answer.
  */
-luck_trial luck_gsub_trial(uint32_t version, const uint8_t *pattern, size_t pattern_len, const uint8_t *replacement, size_t replacement_len,
-                           const uint8_t *subject, size_t subject_len, uint32_t budget, uint8_t *output, size_t room);
+luck_trial luck_gsub_trial(uint32_t version, const uint8_t *pattern, size_t pattern_len, const uint8_t *replacement,
+                           size_t replacement_len, const uint8_t *subject, size_t subject_len, uint32_t budget,
+                           uint8_t *output, size_t room);
 
 #ifdef __cplusplus
 }

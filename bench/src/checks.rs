@@ -5,11 +5,12 @@ use std::str::{self, Utf8Error};
 
 use luck_linter::Fault;
 
-use crate::kind::Kind;
-use crate::library::{self, Answer};
+use compare::kind::Kind;
+use compare::reference::lua_version;
+use library::Answer;
+
 use crate::measure::{Grown, TIMES, growth, side, side_by_side};
 use crate::plan::{KIB, MIB, Plan, size_name};
-use crate::reference::lua_version;
 use crate::table::Tables;
 use crate::texts::{self, Alphabet};
 
@@ -37,7 +38,7 @@ pub fn run(plan: &Plan, tables: &mut Tables) -> Result<(), String> {
 }
 
 fn by_library(kind: Kind, body: &[u8]) -> Answer {
-    library::check(kind, VERSION, CAPTURES, body)
+    kind.by_library(VERSION, CAPTURES, body)
 }
 
 /// What a caller of luck has: nothing is made of its answer.

@@ -5,10 +5,11 @@
 
 use std::hint::black_box;
 
-use crate::library::{self, Decoded};
+use compare::reference;
+use library::Decoded;
+
 use crate::measure::{Grown, TIMES, growth, side, side_by_side};
 use crate::plan::{MIB, Plan, size_name};
-use crate::reference;
 use crate::table::Tables;
 use crate::texts;
 

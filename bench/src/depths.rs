@@ -2,13 +2,14 @@
 
 use std::hint::black_box;
 
-use crate::deep;
-use crate::functions::{Check, Decode, Gsub, Literals, Replacement, empty, library};
-use crate::kind::Kind;
+use compare::kind::Kind;
+use library::c::{self, Check, Decode, Gsub, Literals, Replacement};
+
 use crate::plan::{KIB, MIB, Plan};
 use crate::stack::Stack;
 use crate::table::Tables;
 use crate::texts::{self, Alphabet};
+use crate::{deep, empty};
 
 /// Far more than a function takes, the trial aside.
 const SMALL: usize = 64 * KIB;
@@ -115,11 +116,11 @@ fn many_bodies(plan: &Plan, kind: Kind) -> Vec<Vec<u8>> {
 
 fn checks(plan: &Plan, tables: &mut Tables, stack: &mut Stack) -> Result<(), String> {
     let functions: [(&str, Kind, Check); 5] = [
-        ("luck_check_format", Kind::Format, library::luck_check_format),
-        ("luck_check_pattern", Kind::Pattern, library::luck_check_pattern),
-        ("luck_check_pack", Kind::Pack, library::luck_check_pack),
-        ("luck_check_packsize", Kind::Packsize, library::luck_check_packsize),
-        ("luck_check_date", Kind::Date, library::luck_check_date),
+        ("luck_check_format", Kind::Format, c::luck_check_format),
+        ("luck_check_pattern", Kind::Pattern, c::luck_check_pattern),
+        ("luck_check_pack", Kind::Pack, c::luck_check_pack),
+        ("luck_check_packsize", Kind::Packsize, c::luck_check_packsize),
+        ("luck_check_date", Kind::Date, c::luck_check_date),
     ];
     for (name, kind, function) in functions {
         let mut deepest = Deepest::default();
@@ -139,7 +140,7 @@ fn replacements(plan: &Plan, tables: &mut Tables, stack: &mut Stack) -> Result<(
     let mut deepest = Deepest::default();
     for (version, body) in asked(&few_bodies(Kind::Replacement), &many_bodies(plan, Kind::Replacement)) {
         for known in [0, 1] {
-            let bytes = deeper(stack, library::luck_check_replacement as Replacement, empty::replacement, |function| {
+            let bytes = deeper(stack, c::luck_check_replacement as Replacement, empty::replacement, |function| {
                 // SAFETY: as above; `known` is false or true.
                 black_box(unsafe { function(version, known, 2, body.as_ptr(), body.len()) });
             })?;
@@ -161,7 +162,7 @@ fn literals(plan: &Plan, tables: &mut Tables, stack: &mut Stack) -> Result<(), S
         few.extend(owned(&[b"", b"\"", b"'a\"", b"[[a]]", b"\"\\065\"", b"'\\n%'"]));
         let many: Vec<_> = many_bodies(plan, kind).iter().map(|body| quoted(body)).collect();
         for (version, text) in asked(&few, &many) {
-            let bytes = deeper(stack, library::luck_check_literal as Literals, empty::literal, |function| {
+            let bytes = deeper(stack, c::luck_check_literal as Literals, empty::literal, |function| {
                 // SAFETY: the slice is whole and live, and the count of captures is known.
                 black_box(unsafe { function(kind.letter(), version, 1, 2, u32::MAX - 2, text.as_ptr(), text.len()) });
             })?;
@@ -200,7 +201,7 @@ fn decoding(plan: &Plan, tables: &mut Tables, stack: &mut Stack) -> Result<(), S
         for room in [text.len(), 0] {
             let mut output = vec![0; room];
             let output = output.as_mut_ptr();
-            let bytes = deeper(stack, library::luck_decode_string as Decode, empty::decode, |function| {
+            let bytes = deeper(stack, c::luck_decode_string as Decode, empty::decode, |function| {
                 // SAFETY: text and output are whole, live and apart.
                 black_box(unsafe { function(version, text.as_ptr(), text.len(), output, room) });
             })?;
@@ -248,8 +249,8 @@ fn trial(stack: &mut Stack, version: u32, input: &deep::Input) -> Result<(usize,
         };
         black_box(answer).number
     };
-    let bytes = deeper(stack, library::luck_gsub_trial as Gsub, empty::gsub, |function| _ = call(function))?;
-    Ok((bytes, call(library::luck_gsub_trial)))
+    let bytes = deeper(stack, c::luck_gsub_trial as Gsub, empty::gsub, |function| _ = call(function))?;
+    Ok((bytes, call(c::luck_gsub_trial)))
 }
 
 #[cfg(test)]

@@ -3,8 +3,8 @@
 use std::io::BufRead;
 use std::str;
 
-use crate::kind::Kind;
-use crate::reference::lua_version;
+use compare::kind::Kind;
+use compare::reference::lua_version;
 
 /// The bytes that a line may have, its newline not counted.
 const LONGEST: usize = 4005;

@@ -7,7 +7,7 @@ mod decode;
 mod deep;
 mod depths;
 mod document;
-mod functions;
+mod empty;
 mod lines;
 mod listing;
 mod measure;
@@ -19,26 +19,6 @@ mod table;
 mod texts;
 mod trial;
 mod utf8;
-
-/// The oracle's own files, which look for each other at the crate's root. Each has more than is used here.
-macro_rules! of_oracle {
-    ($($file:literal $name:ident;)*) => { $(#[allow(dead_code)] #[path = $file] mod $name;)* };
-}
-
-of_oracle! {
-    "../../oracle/compare/src/bodies.rs" bodies;
-    "../../oracle/compare/src/check_reference.rs" check_reference;
-    "../../oracle/compare/src/exhaustive.rs" exhaustive;
-    "../../oracle/compare/src/grammar.rs" grammar;
-    "../../oracle/compare/src/kind.rs" kind;
-    "../../oracle/compare/src/known.rs" known;
-    "../../oracle/compare/src/library.rs" library;
-    "../../oracle/compare/src/random.rs" random;
-    "../../oracle/compare/src/reference.rs" reference;
-    "../../oracle/compare/src/report.rs" report;
-    "../../oracle/trials/src/library.rs" trial_library;
-    "../../oracle/trials/src/plain.rs" plain;
-}
 
 use std::env;
 use std::fs;

@@ -6,12 +6,12 @@ use std::io::{ErrorKind, Write};
 use std::path::Path;
 use std::process::{Child, Command, Stdio};
 
+use library::ARCHIVE;
+
 use crate::plan::{MB, Plan, size_name};
 use crate::table::Tables;
 use crate::texts;
 
-/// The archive that this program is linked with.
-const ARCHIVE: &str = env!("LUCK_ARCHIVE");
 /// What the library may call. None of them allocates.
 const COPYING: [&str; 4] = ["memcmp", "memcpy", "memmove", "memset"];
 /// In KiB.

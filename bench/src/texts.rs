@@ -1,11 +1,10 @@
 //! The texts that are measured on. They are the same in every run.
 
-use crate::bodies;
-use crate::check_reference::Body;
-use crate::grammar::{self, push};
-use crate::kind::Kind;
-use crate::random::Random;
-use crate::reference;
+use compare::kind::Kind;
+use compare::reference::{self, checks::Body};
+use compare::texts::bodies;
+use compare::texts::grammar::{self, push};
+use compare::texts::random::Random;
 
 const SEED: u64 = 20_240_501;
 const VERSION: u32 = 4;

@@ -4,13 +4,14 @@ use std::fs;
 use std::hint::black_box;
 use std::path::{Path, PathBuf};
 
+use library::Trial;
+use trials::plain;
+
 use crate::measure::{Grown, Side, TIMES, growth, side, side_by_side};
-use crate::plain;
 use crate::plan::{KIB, Plan, size_name};
 use crate::real_lua::{self, Gsub};
 use crate::table::Tables;
 use crate::texts;
-use crate::trial_library::{self, Trial};
 
 const VERSION: u32 = 4;
 const BUDGET: u32 = u32::MAX;
@@ -79,7 +80,7 @@ impl<'texts> Lent<'texts> {
 
     fn trial(&mut self) -> Trial {
         let (pattern, replacement) = (self.case.pattern.as_bytes(), self.case.replacement.as_bytes());
-        let trial = trial_library::gsub(VERSION, pattern, replacement, black_box(self.subject), BUDGET, &mut self.output);
+        let trial = library::gsub(VERSION, pattern, replacement, black_box(self.subject), BUDGET, &mut self.output);
         black_box(&mut self.output);
         trial
     }

@@ -3,7 +3,8 @@
 use std::hint::black_box;
 use std::str;
 
-use crate::library;
+use library::token;
+
 use crate::measure::{Grown, TIMES, growth, side, side_by_side};
 use crate::plan::{MIB, Plan, size_name};
 use crate::table::Tables;
@@ -19,14 +20,14 @@ pub fn run(plan: &Plan, tables: &mut Tables) -> Result<(), String> {
 fn measure(plan: &Plan, tables: &mut Tables, alphabet: &str, unit: usize, text: &[u8]) -> Result<(), String> {
     let name = format!("UTF-8 test, {alphabet}");
     TIMES.iter().try_for_each(|times| compare(&name, &text[..times * unit]))?;
-    let mut library = side(|| library::utf8(black_box(text)));
+    let mut library = side(|| token::utf8(black_box(text)));
     let baseline = side(|| str::from_utf8(black_box(text)));
     let measured = side_by_side(plan, &mut library, &mut [baseline])?;
     tables.row(&format!("{name}, {}", size_name(text.len())), "from_utf8", measured[0]);
 
     let grown = TIMES.map(|times| {
         let text = &text[..times * unit];
-        Grown { work: text.len() as f64, side: side(move || library::utf8(black_box(text))) }
+        Grown { work: text.len() as f64, side: side(move || token::utf8(black_box(text))) }
     });
     tables.growth(&name, &size_name(unit), &growth(plan, grown.into())?);
     Ok(())
@@ -36,8 +37,8 @@ fn measure(plan: &Plan, tables: &mut Tables, alphabet: &str, unit: usize, text: 
 fn compare(name: &str, text: &[u8]) -> Result<(), String> {
     let ended = [text, b"\xFF"].concat();
     let is_same = str::from_utf8(text).is_ok()
-        && library::utf8(text) == text.len()
+        && token::utf8(text) == text.len()
         && str::from_utf8(&ended).is_err_and(|error| error.valid_up_to() == text.len())
-        && library::utf8(&ended) == text.len();
+        && token::utf8(&ended) == text.len();
     if is_same { Ok(()) } else { Err(format!("{name}: the answers differ")) }
 }

@@ -9,7 +9,7 @@ int main(int argc, char **argv)
         fputs("usage: example PATTERN\n", stderr);
         return 2;
     }
-    luck_answer answer = luck_check_pattern(4, (const uint8_t *)argv[1], strlen(argv[1]));
+    luck_answer answer = luck_check_pattern(LUCK_LUA_54, (const uint8_t *)argv[1], strlen(argv[1]));
     const char *why = "not UTF-8";
     switch (answer.number) {
     case LUCK_ACCEPTED: printf("accepted, captures: %zu\n", answer.count); return 0;

@@ -39,6 +39,27 @@ static void same(const char *what, const char *field, unsigned long long found, 
     }
 }
 
+/* ---- names ---- */
+
+/* The names of the versions and kinds are those that the functions take, and the parts of the header's version make the whole. */
+static void check_names(void)
+{
+    static const uint32_t versions[] = {LUCK_LUA_51, LUCK_LUA_52, LUCK_LUA_53, LUCK_LUA_54, LUCK_LUA_55, LUCK_LUAU};
+    static const uint8_t kinds[] = {LUCK_KIND_FORMAT,   LUCK_KIND_PATTERN,     LUCK_KIND_PACK,
+                                    LUCK_KIND_PACKSIZE, LUCK_KIND_REPLACEMENT, LUCK_KIND_DATE};
+    char parts[32];
+    for (unsigned i = 0; i < 6; i++) {
+        same("the versions", "number", versions[i], i + 1);
+        same("the kinds", "letter", kinds[i], (uint8_t)"FPKSGD"[i]);
+    }
+    same("%a of 5.1", "number", luck_check_format(LUCK_LUA_51, bytes("%a"), 2).number, LUCK_UNKNOWN_SPECIFIER);
+    same("%a of 5.2", "number", luck_check_format(LUCK_LUA_52, bytes("%a"), 2).number, LUCK_ACCEPTED);
+    same("%* of 5.5", "number", luck_check_format(LUCK_LUA_55, bytes("%*"), 2).number, LUCK_UNKNOWN_SPECIFIER);
+    same("%* of Luau", "number", luck_check_format(LUCK_LUAU, bytes("%*"), 2).number, LUCK_ACCEPTED);
+    snprintf(parts, sizeof parts, "%d.%d.%d", LUCK_VERSION_MAJOR, LUCK_VERSION_MINOR, LUCK_VERSION_PATCH);
+    same("LUCK_VERSION", "difference", strcmp(parts, LUCK_VERSION) != 0, 0);
+}
+
 /* ---- checks of bodies ---- */
 
 static void same_answer(const char *what, luck_answer found, luck_answer wanted)
@@ -394,6 +415,7 @@ static void check_trials(void)
 
 int main(void)
 {
+    check_names();
     check_bodies();
     check_captures();
     check_rows_as_literals();

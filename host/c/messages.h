@@ -1,12 +1,12 @@
 /*
- * The sentences of the command `luck` (luck.c): for each refusal what is wrong and what to write instead, after docs/REFUSALS.md;
- * and the help.
+ * The sentences of the command `luck` (luck.c): for each refusal what is wrong and what to write instead, after
+ * docs/REFUSALS.md.
  *
  * In a sentence, these stand for parts of what was asked and answered (put_sentence writes them):
  *
  *     $c  the character at the fault        $v  the version's name            $r  the room of the output
  *     $2  the conversion of refusal 6       $n  the pattern's captures        $b  the budget of steps
- *     $k  the kind
+ *     $k  the kind                          $e  the escape at `wide`
  */
 #ifndef LUCK_MESSAGES_H
 #define LUCK_MESSAGES_H
@@ -16,12 +16,13 @@
 /* Refusals of a line, which the library does not read: its head does not fit; it is too long. */
 enum { BAD_LINE = 30, LONG_LINE = 31 };
 
-/* Kinds of questions beside the letters F P K S G D of the checks: a trial, and a line's version. */
-enum { TO_TRY = 't', A_LINE = 'l' };
+/* What the text of a question is. */
+enum asked_of { A_BODY, A_LITERAL, A_VALUE, A_SUBJECT, A_LINE };
 
 /* What was asked: all that a sentence may speak of. `text` is the text in which the answer's offset counts. */
 typedef struct {
-    uint8_t kind;
+    enum asked_of of;
+    uint8_t kind; /* 0 where nothing is checked: decoding, a trial */
     uint32_t version;
     bool known; /* whether `captures` is known */
     size_t captures;
@@ -29,6 +30,8 @@ typedef struct {
     uint32_t budget;
     const uint8_t *text;
     size_t len;
+    bool has_wide; /* whether escapes that Lua itself takes are all that is wrong; then `wide` is the place of the first one */
+    size_t wide;
 } question;
 
 typedef struct {
@@ -85,7 +88,7 @@ static const message messages[] = {
     /* 22 */ {"unexpected character after `%`: `%$c` is no date specifier of $v", ""},
     /* any text */
     /* 23 */ {"not UTF-8: `$c` and the bytes after it make no character",
-     "save the text as UTF-8; in a literal, spell a byte by its number, as in `\\255`"},
+     "save the text as UTF-8; one that is meant to hold other bytes can't be checked, though Lua takes any"},
     /* 24 */ {"undecodable: no string literal, or an escape that is malformed or not of $v",
      "write it in two equal quotes or in long brackets, and `\\\\` for a backslash"},
     /* 25 */ {"unknown version: $v is none of 1 to 6",
@@ -159,13 +162,37 @@ static const char *modifiers_of(uint32_t conversion)
     }
 }
 
+/* Refusal 1: a format, or a pattern after `%` or inside `%b`. */
+static message of_cut_specifier(const question *asked, const luck_answer *refused)
+{
+    static const message escape = {"truncated specifier: the pattern ends after `%`",
+                                   "write `%%` for a percent sign"};
+    static const message balance = {"truncated specifier: the pattern ends inside `%b`",
+                                    "write two characters after `%b`, as in `%b()`"};
+    if (asked->kind != LUCK_KIND_PATTERN)
+        return messages[LUCK_TRUNCATED_SPECIFIER];
+    return refused->offset + 1 == asked->len ? escape : balance;
+}
+
+/* Refusal 2. */
+static message of_specifier(const question *asked, const luck_answer *refused)
+{
+    static const message late_star = {"unknown specifier `%*`: $v takes `*` only right after its `%`",
+                                      "write `%*` without flags, width and precision"};
+    message found = messages[LUCK_UNKNOWN_SPECIFIER];
+    if (asked->version == LUCK_LUAU && refused->first == '*')
+        return late_star;
+    found.advice = conversions_of(asked->version);
+    return found;
+}
+
 /* Refusal 14: a digit, an option that stands after `X` and has no alignment (elsewhere it is taken), or no option at all. */
 static message of_pack_option(uint32_t character)
 {
     static const message size = {"invalid pack option `$c`: a number where no size is taken",
-                                       "write a size only right after `i`, `I`, `s`, `c` or `!`"};
+                                 "write a size only right after `i`, `I`, `s`, `c` or `!`"};
     static const message next = {"invalid pack option `$c`: `X` can't align to it",
-                                       "write an option with a size, or `x`, after `X`, as in `Xi4`"};
+                                 "write an option with a size, or `x`, after `X`, as in `Xi4`"};
     if (character >= '0' && character <= '9')
         return size;
     switch (character) {
@@ -183,120 +210,92 @@ static message of_pack_option(uint32_t character)
     }
 }
 
+/* Refusal 21: the captures that there are. */
+static const char *captures_of(size_t count)
+{
+    return count == 0   ? "write `%0` or `%1`: both are the match"
+           : count == 1 ? "write `%1`, or `%0` for the match"
+                        : "write `%1` to `%$n`, or `%0` for the match";
+}
+
+/* Refusal 22. */
+static message of_date(const question *asked, const luck_answer *refused)
+{
+    message found = messages[LUCK_BAD_DATE_SPECIFIER];
+    uint8_t letter = asked->text[refused->offset];
+    if (asked->version == LUCK_LUAU) {
+        found.advice = "write one of `aAbBcdHIjmMpSUwWxXyYzZ%` after the `%`";
+        return found;
+    }
+    if (letter == 'E' || letter == 'O')
+        found.fault = "unexpected character after `%$c`: no date specifier of $v";
+    found.advice = "write one of `aAbBcCdDeFgGhHIjmMnprRStTuUVwWxXyYzZ%` after the `%`, or"
+                   " `%E` before one of `cCxXyY`, or `%O` before one of `deHImMSuUVwWy`";
+    return found;
+}
+
+/* Refusal 23: a check reads UTF-8 only, and a byte that is spelled by its number is checked no more than one that stands there. */
+static message of_bytes(const question *asked)
+{
+    static const message value = {"the value is not UTF-8: `$c` and the bytes after it make no character",
+                                  "it can't be checked: a check reads UTF-8, though Lua takes any bytes"};
+    message found = messages[LUCK_NOT_UTF8];
+    if (asked->of == A_VALUE)
+        return value;
+    if (asked->kind == 0)
+        found.advice = "save the text as UTF-8, and spell a byte of no character by its number, as in `\\255`";
+    return found;
+}
+
+/* The second sentences of 15, 11, 24 and 26. */
+static const message cut_alignment = {"truncated pack size: no option follows `X`",
+                                      "write an option with a size, or `x`, after `X`, as in `Xi4`"};
+static const message open_capture = {"unmatched capture: a `(` is never closed",
+                                     "write a `)` for each `(`; write `%(` for the character `(`"};
+static const message wide_escape = {"undecodable: `$e` is not read here, though $v itself takes it",
+                                    "the script can keep it; only its value can't be decoded or checked"};
+static const message output_full = {"output full: one byte more than the room of $r was due", "write a larger --room"};
+
 /* The sentence of a refusal. */
 static message message_of(const question *asked, const luck_answer *refused)
 {
-    static const message cut_escape = {"truncated specifier: the pattern ends after `%`",
-                                       "write `%%` for a percent sign"};
-    static const message cut_balance = {"truncated specifier: the pattern ends inside `%b`",
-                                       "write two characters after `%b`, as in `%b()`"};
-    static const message late_star = {"unknown specifier `%*`: $v takes `*` only right after its `%`",
-                                       "write `%*` without flags, width and precision"};
     message found = messages[refused->number];
     switch (refused->number) {
     case LUCK_TRUNCATED_SPECIFIER:
-        if (asked->kind == 'P')
-            return refused->offset + 1 == asked->len ? cut_escape : cut_balance;
-        break;
+        return of_cut_specifier(asked, refused);
     case LUCK_UNKNOWN_SPECIFIER:
-        if (asked->version == 6 && refused->first == '*')
-            return late_star;
-        found.advice = conversions_of(asked->version);
-        break;
+        return of_specifier(asked, refused);
     case LUCK_BAD_MODIFIER:
         found.advice = modifiers_of(refused->second);
-        break;
+        return found;
     case LUCK_UNMATCHED_CAPTURE:
-        if (refused->offset == asked->len) {
-            found.fault = "unmatched capture: a `(` is never closed";
-            found.advice = "write a `)` for each `(`; write `%(` for the character `(`";
-        }
-        break;
+        return refused->offset == asked->len ? open_capture : found;
     case LUCK_INVALID_PACK_OPTION:
         return of_pack_option(refused->first);
     case LUCK_TRUNCATED_PACK_SIZE:
-        if (refused->offset > 0 && asked->text[refused->offset - 1] == 'X') {
-            found.fault = "truncated pack size: no option follows `X`";
-            found.advice = "write an option with a size, or `x`, after `X`, as in `Xi4`";
-        }
-        break;
+        return refused->offset > 0 && asked->text[refused->offset - 1] == 'X' ? cut_alignment : found;
     case LUCK_CAPTURE_INDEX:
-        found.advice = asked->captures == 0   ? "write `%0` or `%1`: both are the match"
-                       : asked->captures == 1 ? "write `%1`, or `%0` for the match"
-                                              : "write `%1` to `%$n`, or `%0` for the match";
-        break;
+        found.advice = captures_of(asked->captures);
+        return found;
     case LUCK_BAD_DATE_SPECIFIER:
-        if (asked->version != 6 && (asked->text[refused->offset] == 'E' || asked->text[refused->offset] == 'O'))
-            found.fault = "unexpected character after `%$c`: no date specifier of $v";
-        found.advice = asked->version == 6 ? "write one of `aAbBcdHIjmMpSUwWxXyYzZ%` after the `%`"
-                                           : "write one of `aAbBcCdDeFgGhHIjmMnprRStTuUVwWxXyYzZ%` after the `%`, or"
-                                             " `%E` before one of `cCxXyY`, or `%O` before one of `deHImMSuUVwWy`";
-        break;
-    case LUCK_OUTPUT_TOO_SHORT:
-        if (asked->kind == TO_TRY) {
-            found.fault = "output full: one byte more than the room of $r was due";
-            found.advice = "write a larger --room";
-        }
-        break;
+        return of_date(asked, refused);
+    case LUCK_NOT_UTF8:
+        return of_bytes(asked);
+    case LUCK_UNDECODABLE:
+        return asked->has_wide ? wide_escape : found;
     case LUCK_UNKNOWN_VERSION:
-        if (asked->kind == A_LINE)
+        if (asked->of == A_LINE)
             found.advice = "write a digit: 1 to 5 for Lua 5.1 to 5.5, 6 for Luau";
-        break;
+        return found;
+    case LUCK_OUTPUT_TOO_SHORT:
+        return asked->of == A_SUBJECT ? output_full : found;
     default:
-        break;
+        return found;
     }
-    return found;
 }
 
 /* Refusal 30, of a line. */
 static const char *const head_advice =
     "write the kind (F P K S G D), the version digit, two columns of captures (only for G), a space, then the body";
-
-static const char *const usage_text =
-    "usage: luck check KIND VERSION TEXT [CAPTURES]\n"
-    "       luck literal KIND VERSION TEXT [CAPTURES]\n"
-    "       luck decode VERSION TEXT [--room N]\n"
-    "       luck trial VERSION PATTERN REPLACEMENT [--budget N] [--room N]\n"
-    "       luck lines [FILE]\n"
-    "       luck --help | --version\n";
-
-/* In parts, since C99 promises no string of more than 4,095 bytes. */
-static const char *const help_text[] = {
-    "\n"
-    "Checks of Lua string literals, their decoding, and a trial of gsub, for Lua 5.1 to 5.5 and Luau.\n"
-    "\n"
-    "  check    a body: a literal's text between its quotes, its escapes as they are written\n"
-    "  literal  a literal with its quotes; skipped, that is not checked, if it is not in two equal quotes, or has an\n"
-    "           escape by number (`\\0` to `\\9`, `\\x`, `\\u`)\n"
-    "  decode   writes the bytes that a literal stands for, and nothing else, to standard output\n"
-    "  trial    string.gsub of the subject, which is read from standard input; the result goes to standard output,\n"
-    "           replacements, steps and how it ended to standard error\n"
-    "  lines    a file of bodies, one a line (standard input without FILE, or for -): kind letter, version digit,\n"
-    "           two columns of captures (0 to 32, set right, only for G; blank: unknown), a space, the body.\n"
-    "           Each refused line is explained. A line is at most 4,005 bytes; its newline is not counted.\n"
-    "\n"
-    "  KIND     format, pattern, pack, packsize, replacement or date, or its letter: F P K S G D. Another single\n"
-    "           byte is refused (30); any other word is wrong usage\n"
-    "  VERSION  5.1, 5.2, 5.3, 5.4, 5.5 or luau, or its number: 1 to 6. Another number up to 4294967295 is\n"
-    "           refused (25); any other word is wrong usage\n"
-    "  TEXT     - reads standard input to its end. All its bytes are the text, a last newline too:\n"
-    "           printf %s TEXT gives exactly TEXT, echo adds a newline.\n"
-    "  CAPTURES the captures of the pattern, for a replacement only; without it they are unknown\n"
-    "  N        a number in digits. --budget: the steps that a trial may take, at most 4294967295, by default 10000000.\n"
-    "           It bounds the steps and not the time: a step may read the whole pattern or, with %b, the whole subject.\n"
-    "           --room: the bytes of the output, by default 16777216 (16 MiB). Neither is raised by itself.\n"
-    "\n",
-    "Words are taken as they stand in their places: a TEXT may begin with `-`, as in `luck check format 5.1 -5d`, and\n"
-    "needs no `--` before it. The text - itself goes through standard input. --help and --version are options only\n"
-    "in the first place, --budget and --room only after the texts.\n"
-    "\n"
-    "The answers of check, literal and lines go to standard output, the refused ones too; those of decode and trial\n"
-    "to standard error. A refusal shows its number and its offset, in bytes from 0 (docs/REFUSALS.md lists them), and,\n"
-    "where it has a place in the text, the text with a caret under the first column of the character at fault. Bytes\n"
-    "that are not UTF-8, control characters and common ones without a column of their own are shown as `\\n`, `\\x1B`,\n"
-    "`\\u{202E}`; common wide ones count two columns. After others that take no column or two, the caret may stand off.\n"
-    "\n"
-    "Exit status: 0 accepted, skipped, decoded or done; 1 refused or raised, also a trial that spent its steps, filled\n"
-    "its output or went too deep, and lines of which one is refused; 2 wrong usage, or a read or write that failed.\n"};
 
 #endif

@@ -138,6 +138,21 @@ static size_t columns_before(const uint8_t *text, size_t len, size_t start, size
     return before;
 }
 
+/* The text from `at`, which is at `column`, to the column `until`; dots stand for what follows. */
+static void put_part_of_text(FILE *out, const uint8_t *text, size_t len, size_t at, size_t column, size_t until)
+{
+    while (at < len) {
+        character next = character_at(text + at, len - at);
+        if (column + next.columns > until) {
+            fputs("...", out);
+            return;
+        }
+        fputs(next.shown, out);
+        at += next.taken;
+        column += next.columns;
+    }
+}
+
 /* A row of the text, and under it a row with a caret; `place` may be the text's end, or nowhere. Of a text longer than SCREEN
  * columns a part is shown that has the place in it. All columns are counted from `start`, which is the text's, or more than SCREEN
  * columns before the place. */
@@ -165,17 +180,7 @@ static void put_place(FILE *out, const uint8_t *text, size_t len, size_t place)
     if (at > 0)
         fputs("...", out);
     size_t caret = before - column + (at > 0 ? DOTS : 0);
-    size_t until = all > SCREEN ? from + PART : all;
-    while (at < len) {
-        character next = character_at(text + at, len - at);
-        if (column + next.columns > until) {
-            fputs("...", out);
-            break;
-        }
-        fputs(next.shown, out);
-        at += next.taken;
-        column += next.columns;
-    }
+    put_part_of_text(out, text, len, at, column, all > SCREEN ? from + PART : all);
     fputs("\n", out);
     if (place == nowhere)
         return;

@@ -1,6 +1,7 @@
 /*
- * The deepest trials that are known, on a stack of 512 KiB: thirty-two captures and repeats to the 201st level, greedy ones and lazy ones, and those
- * with a lazy one before the captures too. It dies where the stack is too small, and exits with 1 where the answer is another.
+ * The deepest trials that are known, on a stack of 512 KiB: thirty-two captures and repeats to the 201st level, greedy ones and lazy
+ * ones, and those with a lazy one before the captures too. It dies where the stack is too small, and exits with 1 where the answer is
+ * another.
  *
  *     cc -std=c99 -D_POSIX_C_SOURCE=200112L -Wall -Wextra -Werror -Iinclude host/c/stack.c target/staticlib/libluck.a -lpthread -o stack
  */
@@ -46,7 +47,8 @@ static void *trial(void *given)
     if (deep->closed < CAPTURES) {
         pattern[at++] = ')';
     }
-    deep->answer = luck_gsub_trial(4, pattern, at, (const uint8_t *)"x", 1, subject, sizeof subject, 1000000, output, sizeof output);
+    deep->answer = luck_gsub_trial(LUCK_LUA_54, pattern, at, (const uint8_t *)"x", 1, subject, sizeof subject, 1000000, output,
+                                   sizeof output);
     return NULL;
 }
 
@@ -61,7 +63,8 @@ static int run(struct deep *deep)
         return 1;
     }
     pthread_attr_destroy(&attributes);
-    printf("%s repeats, on 512 KiB of stack: number %u, %u steps\n", deep->name, (unsigned)deep->answer.number, (unsigned)deep->answer.steps);
+    printf("%s repeats, on 512 KiB of stack: number %u, %u steps\n", deep->name, (unsigned)deep->answer.number,
+           (unsigned)deep->answer.steps);
     return deep->answer.number == LUCK_TOO_DEEP ? 0 : 1;
 }
 

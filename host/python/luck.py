@@ -7,18 +7,27 @@ position independent, so one command makes the shared object from it (or `make_s
 
 Then, with `luck = Luck("target/libluck.so")`:
 
-    >>> luck.check_pattern(4, b"(%d+)")
+    >>> luck.check_pattern(Version.LUA_54, "(%d+)")
     Answer(number=0, first=0, second=0, offset=0, count=1)
-    >>> answer = luck.check_pattern(4, b"(%d+")
+    >>> answer = luck.check_pattern(Version.LUA_54, "(%d+")
+    >>> if not answer:
+    ...     print(answer.message)
+    unmatched capture at offset 4
     >>> Number(answer.number).name, answer.offset
     ('UNMATCHED_CAPTURE', 4)
-    >>> luck.decode_string(4, b"'\\\\u{E9}'").value.decode()
+    >>> luck.decode_string(Version.LUA_54, r"'\\u{E9}'").value.decode()
     'é'
-    >>> luck.gsub_trial(4, b"%d+", b"<%0>", b"trip 17", budget=1000, room=64).output
+    >>> luck.gsub_trial(Version.LUA_54, "%d+", "<%0>", "trip 17").output
     b'trip <17>'
 
-Texts are bytes, any bytes. A version is 1 to 5 for Lua 5.1 to 5.5 and 6 for Luau; another number is refused by the library (25). A
-number that the C type can't hold raises OverflowError here, since ctypes would cut it off without a word.
+An answer is true where the text is accepted, decoded or done, and false where it is refused; a literal that was skipped, which is not
+checked, is false too. `message` says why, in the words of the Rust crate.
+
+Texts are bytes, any bytes, or a str, which is taken as its UTF-8; an offset counts bytes. A version is one of `Version`, or its number: 1 to
+5 for Lua 5.1 to 5.5 and 6 for Luau; another number is refused by the library (25). A number that the C type can't hold raises OverflowError
+here, since ctypes would cut it off without a word.
+
+A trial of gsub takes up to 473 KiB of stack: a thread that calls it needs 512 KiB (threading.stack_size), or the process dies.
 
 Python 3.8 or later, and nothing but its standard library.
 """
@@ -27,18 +36,66 @@ from __future__ import annotations
 
 import ctypes
 import enum
+import mmap
 import operator
 import os
 import subprocess
 from typing import Any, List, NamedTuple, Optional, Tuple, Type, Union
 
+__version__ = "0.1.0"
+
+__all__ = [
+    "DEFAULT_BUDGET",
+    "DEFAULT_ROOM",
+    "Answer",
+    "Decoded",
+    "DecodedInto",
+    "Kind",
+    "Literal",
+    "Luck",
+    "Number",
+    "Trial",
+    "TrialInto",
+    "Version",
+    "make_shared_object",
+]
+
+# The steps and the bytes of a trial where none are named, as in the command `luck`.
+DEFAULT_BUDGET = 10_000_000
+DEFAULT_ROOM = 16 * 1024 * 1024
+
 Path = Union[str, "os.PathLike[str]"]
+
+# A text: any bytes, or a str, which is taken as its UTF-8.
+Text = Union[bytes, str]
 
 # What decoding and the trial write to. A memoryview has to be writable and without gaps.
 Output = Union[bytearray, memoryview]
 
 UINT32_MAX = 2**32 - 1
 SIZE_MAX = 2 ** (8 * ctypes.sizeof(ctypes.c_size_t)) - 1
+
+
+class Version(enum.IntEnum):
+    """The versions of Lua, by the names of include/luck.h."""
+
+    LUA_51 = 1
+    LUA_52 = 2
+    LUA_53 = 3
+    LUA_54 = 4
+    LUA_55 = 5
+    LUAU = 6
+
+
+class Kind(bytes, enum.Enum):
+    """What a literal is used for, by the names of include/luck.h."""
+
+    FORMAT = b"F"
+    PATTERN = b"P"
+    PACK = b"K"
+    PACKSIZE = b"S"
+    REPLACEMENT = b"G"
+    DATE = b"D"
 
 
 class Number(enum.IntEnum):
@@ -77,6 +134,76 @@ class Number(enum.IntEnum):
     UNKNOWN_KIND = 30
 
 
+# The messages of the Rust crate. It has none for 25 and 30, since a version and a kind are no numbers there.
+_REFUSALS = {
+    1: "truncated specifier at offset {offset}",
+    2: "unknown specifier `%{character}` at offset {offset}",
+    3: "too many flags at `{character}` at offset {offset}",
+    4: "width too long at offset {offset}",
+    5: "precision too long at offset {offset}",
+    6: "`%{conversion}` can't take `{modifier}` at offset {offset}",
+    7: "specifier too long at offset {offset}",
+    8: "unterminated set at offset {offset}",
+    9: "empty set at offset {offset}",
+    10: "bad escape `%{character}` at offset {offset}",
+    11: "unmatched capture at offset {offset}",
+    12: "too many captures at offset {offset}",
+    13: "back reference names no closed capture at offset {offset}",
+    14: "invalid pack option `{character}` at offset {offset}",
+    15: "truncated pack size at offset {offset}",
+    16: "integer size out of limits at offset {offset}",
+    17: "alignment is not a power of 2 at offset {offset}",
+    18: "variable-length option `{character}` at offset {offset}",
+    19: "ends with a lone `%`",
+    20: "unexpected character after `%`, expected a digit or `%`",
+    21: "capture index is higher than the pattern's capture count",
+    22: "unexpected character after `%`, expected a date specifier or `%`",
+    23: "not UTF-8 at offset {offset}",
+    24: "no literal, or an escape that this version does not have",
+    25: "unknown version",
+    26: "the value is longer than the output",
+    30: "unknown kind",
+}
+
+_ENDINGS = {
+    25: "unknown version",
+    26: "the output is full",
+    27: "the budget of steps is spent",
+    28: "too deep: real Lua raises \"pattern too complex\"",
+}
+
+# By the kind, from 1.
+_RAISES = [
+    "pattern ends with '%'",
+    "missing ']'",
+    "missing '[' after '%f'",
+    "missing arguments to '%b'",
+    "invalid pattern capture",
+    "unfinished capture",
+    "invalid capture index in the pattern",
+    "too many captures",
+    "invalid use of '%' in the replacement",
+    "invalid capture index in the replacement",
+]
+
+
+def _refusal(number: int, offset: int, first: int = 0, second: int = 0) -> str:
+    """Why a text is refused; empty where it is not."""
+    if number == 0:
+        return ""
+    sentence = _REFUSALS.get(number, f"refusal {number} at offset {{offset}}")
+    return sentence.format(offset=offset, character=chr(first), modifier=chr(first), conversion=chr(second))
+
+
+def _ending(number: int, kind: int) -> str:
+    """Why a trial is not done; empty where it is."""
+    if number == 0:
+        return ""
+    if number == Number.RAISED and 1 <= kind <= len(_RAISES):
+        return _RAISES[kind - 1]
+    return _ENDINGS.get(number, f"refusal {number}, kind {kind}")
+
+
 class Answer(NamedTuple):
     """What a check of a body answers."""
 
@@ -85,6 +212,15 @@ class Answer(NamedTuple):
     second: int  # the second one: the conversion of BAD_MODIFIER, else 0
     offset: int  # the byte of the body that is at fault
     count: int  # accepted: arguments, captures or values; else 0
+
+    def __bool__(self) -> bool:
+        """Whether it is accepted."""
+        return self.number == 0
+
+    @property
+    def message(self) -> str:
+        """Why it is refused; empty where it is not."""
+        return _refusal(self.number, self.offset, self.first, self.second)
 
 
 class Literal(NamedTuple):
@@ -100,6 +236,17 @@ class Literal(NamedTuple):
     offset: int  # the fault's place in the body; for NOT_UTF8 in the text, its quote included
     count: int  # as in Answer, by the kind
 
+    def __bool__(self) -> bool:
+        """Whether it was checked and is accepted."""
+        return self.number == 0 and not self.skipped
+
+    @property
+    def message(self) -> str:
+        """Why it is refused or was not checked; empty where it is accepted."""
+        if self.skipped:
+            return "not checked: not in two equal quotes, or with an escape `\\0` to `\\9`, `\\x` or `\\u`"
+        return _refusal(self.number, self.offset, self.first, self.second)
+
 
 class Decoded(NamedTuple):
     """What decoding answers, with the value."""
@@ -108,6 +255,15 @@ class Decoded(NamedTuple):
     offset: int  # for NOT_UTF8 its place in the text; else 0
     value: bytes  # decoded: the value; else empty
 
+    def __bool__(self) -> bool:
+        """Whether it is decoded, the empty value included."""
+        return self.number == 0
+
+    @property
+    def message(self) -> str:
+        """Why it is refused; empty where it is not."""
+        return _refusal(self.number, self.offset)
+
 
 class DecodedInto(NamedTuple):
     """What decoding into a lent output answers."""
@@ -115,6 +271,15 @@ class DecodedInto(NamedTuple):
     number: int  # as in Decoded
     offset: int  # as in Decoded
     written: int  # decoded: the value's length; else 0
+
+    def __bool__(self) -> bool:
+        """As in Decoded."""
+        return self.number == 0
+
+    @property
+    def message(self) -> str:
+        """As in Decoded."""
+        return _refusal(self.number, self.offset)
 
 
 class Trial(NamedTuple):
@@ -126,6 +291,15 @@ class Trial(NamedTuple):
     replacements: int  # the matches that were replaced, the one at which it stopped included
     steps: int  # the steps taken, at most the budget
 
+    def __bool__(self) -> bool:
+        """Whether it is done."""
+        return self.number == 0
+
+    @property
+    def message(self) -> str:
+        """Why it is not done; empty where it is."""
+        return _ending(self.number, self.kind)
+
 
 class TrialInto(NamedTuple):
     """What a trial of gsub into a lent output answers."""
@@ -135,6 +309,15 @@ class TrialInto(NamedTuple):
     written: int  # the bytes written to the front of the output
     replacements: int  # as in Trial
     steps: int  # as in Trial
+
+    def __bool__(self) -> bool:
+        """As in Trial."""
+        return self.number == 0
+
+    @property
+    def message(self) -> str:
+        """As in Trial."""
+        return _ending(self.number, self.kind)
 
 
 class _CAnswer(ctypes.Structure):
@@ -202,11 +385,19 @@ def _version(value: int) -> int:
     return _number("version", value, UINT32_MAX)
 
 
-def _text(name: str, value: bytes) -> Tuple[bytes, int]:
-    """A text and its length. A str has no bytes of its own, and a bytearray could be changed by another thread."""
+def _bytes(name: str, value: Text) -> bytes:
+    """The bytes of a text. A bytearray could be changed by another thread; a str with a lone surrogate raises UnicodeEncodeError."""
+    if isinstance(value, str):
+        return value.encode()
     if not isinstance(value, bytes):
-        raise TypeError(f"{name} is {type(value).__name__}, not bytes")
-    return value, len(value)
+        raise TypeError(f"{name} is {type(value).__name__}, not bytes or str")
+    return value
+
+
+def _text(name: str, value: Text) -> Tuple[bytes, int]:
+    """A text's bytes and their count."""
+    text = _bytes(name, value)
+    return text, len(text)
 
 
 def _captures(count: Optional[int]) -> Tuple[bool, int]:
@@ -224,7 +415,7 @@ def _output(value: Output) -> Tuple[Any, int]:
     return (ctypes.c_uint8 * room).from_buffer(value), room
 
 
-def _check(function: Any, version: int, body: bytes) -> Answer:
+def _check(function: Any, version: int, body: Text) -> Answer:
     """A C function that checks a body and asks for nothing else."""
     return Answer(*_fields(function(_version(version), *_text("body", body))))
 
@@ -252,72 +443,82 @@ class Luck:
         function.argtypes = arguments
         function.restype = answer
 
-    def check_format(self, version: int, body: bytes) -> Answer:
+    def check_format(self, version: int, body: Text) -> Answer:
         """A format of string.format; counts the arguments that its specifiers take."""
         return _check(self._library.luck_check_format, version, body)
 
-    def check_pattern(self, version: int, body: bytes) -> Answer:
+    def check_pattern(self, version: int, body: Text) -> Answer:
         """A pattern of string.find, match, gmatch and gsub; counts its captures, `()` included."""
         return _check(self._library.luck_check_pattern, version, body)
 
-    def check_pack(self, version: int, body: bytes) -> Answer:
+    def check_pack(self, version: int, body: Text) -> Answer:
         """A format of string.pack and unpack; counts its values."""
         return _check(self._library.luck_check_pack, version, body)
 
-    def check_packsize(self, version: int, body: bytes) -> Answer:
+    def check_packsize(self, version: int, body: Text) -> Answer:
         """A format of string.packsize; counts its values."""
         return _check(self._library.luck_check_packsize, version, body)
 
-    def check_date(self, version: int, body: bytes) -> Answer:
+    def check_date(self, version: int, body: Text) -> Answer:
         """A format of os.date; counts nothing."""
         return _check(self._library.luck_check_date, version, body)
 
-    def check_replacement(self, version: int, captures: Optional[int], body: bytes) -> Answer:
+    def check_replacement(self, version: int, captures: Optional[int], body: Text) -> Answer:
         """A replacement of string.gsub, with the pattern's count of captures, or None where it is not known; counts nothing."""
         known, count = _captures(captures)
         answer = self._library.luck_check_replacement(_version(version), known, count, *_text("body", body))
         return Answer(*_fields(answer))
 
-    def check_literal(self, kind: bytes, version: int, captures: Optional[int], start: int, text: bytes) -> Literal:
+    def check_literal(self, kind: Text, version: int, captures: Optional[int], start: int, text: Text) -> Literal:
         """A literal with its quotes, at the offset `start` of a source.
 
-        `kind` is b"F" (format), b"P" (pattern), b"K" (pack), b"S" (packsize), b"G" (replacement, with `captures`) or b"D" (date).
+        `kind` is one of `Kind`, or its letter: "F" (format), "P" (pattern), "K" (pack), "S" (packsize), "G" (replacement, with `captures`) or
+        "D" (date).
         """
-        if not isinstance(kind, bytes):
-            raise TypeError(f"kind is {type(kind).__name__}, not bytes")
-        if len(kind) != 1:
-            raise ValueError(f"kind is {len(kind)} bytes, not one")
+        letter = _bytes("kind", kind)
+        if len(letter) != 1:
+            raise ValueError(f"kind is {len(letter)} bytes, not one")
         known, count = _captures(captures)
         place = _number("start", start, UINT32_MAX)
-        answer = self._library.luck_check_literal(kind[0], _version(version), known, count, place, *_text("text", text))
+        answer = self._library.luck_check_literal(letter[0], _version(version), known, count, place, *_text("text", text))
         return Literal(*_fields(answer))
 
-    def decode_string(self, version: int, text: bytes) -> Decoded:
+    def decode_string(self, version: int, text: Text) -> Decoded:
         """The bytes that a literal stands for: short in two equal quotes, or in long brackets."""
         # A value is never longer than its literal.
         output = bytearray(_text("text", text)[1])
         number, offset, written = self.decode_string_into(version, text, output)
         return Decoded(number, offset, bytes(output[:written]))
 
-    def decode_string_into(self, version: int, text: bytes, output: Output) -> DecodedInto:
+    def decode_string_into(self, version: int, text: Text, output: Output) -> DecodedInto:
         """Writes the bytes that a literal stands for to the front of `output`; the rest of it stays as it was."""
         lent, room = _output(output)
         answer = self._library.luck_decode_string(_version(version), *_text("text", text), lent, room)
         return DecodedInto(*_fields(answer))
 
-    def gsub_trial(self, version: int, pattern: bytes, replacement: bytes, subject: bytes, budget: int, room: int) -> Trial:
-        """string.gsub(subject, pattern, replacement), within `budget` steps and `room` bytes of output."""
-        output = bytearray(_number("room", room, SIZE_MAX))
+    def gsub_trial(
+        self,
+        version: int,
+        pattern: Text,
+        replacement: Text,
+        subject: Text,
+        budget: int = DEFAULT_BUDGET,
+        room: int = DEFAULT_ROOM,
+    ) -> Trial:
+        """string.gsub(subject, pattern, replacement), within `budget` steps and `room` bytes of output.
+
+        It takes up to 473 KiB of stack: a thread with less than 512 KiB (threading.stack_size) must not call it.
+        """
+        size = _number("room", room, SIZE_MAX)
+        # Pages that are not written to take no memory, however large the room is; none is no size for it.
+        output = memoryview(mmap.mmap(-1, max(size, 1)))[:size]
         answer = self.gsub_trial_into(version, pattern, replacement, subject, budget, output)
         return Trial(answer.number, answer.kind, bytes(output[: answer.written]), answer.replacements, answer.steps)
 
     def gsub_trial_into(
-        self, version: int, pattern: bytes, replacement: bytes, subject: bytes, budget: int, output: Output
+        self, version: int, pattern: Text, replacement: Text, subject: Text, budget: int, output: Output
     ) -> TrialInto:
-        """The same, to the front of `output`; the rest of it stays as it was.
-
-        It takes up to 476 KiB of stack: a thread with less than 512 KiB (threading.stack_size) must not call it.
-        """
+        """The same, to the front of `output`; the rest of it stays as it was. It takes as much stack."""
         texts = (*_text("pattern", pattern), *_text("replacement", replacement), *_text("subject", subject))
         steps = _number("budget", budget, UINT32_MAX)
         lent, room = _output(output)

@@ -18,10 +18,24 @@ import tempfile
 import threading
 import unittest
 from pathlib import Path
-from typing import Tuple
+from typing import Dict, Tuple
 
 import luck as module
-from luck import SIZE_MAX, UINT32_MAX, Answer, Decoded, DecodedInto, Literal, Luck, Number, Trial, TrialInto, make_shared_object
+from luck import (
+    SIZE_MAX,
+    UINT32_MAX,
+    Answer,
+    Decoded,
+    DecodedInto,
+    Kind,
+    Literal,
+    Luck,
+    Number,
+    Trial,
+    TrialInto,
+    Version,
+    make_shared_object,
+)
 
 ROOT = Path(__file__).resolve().parent.parent.parent
 ARCHIVE = ROOT / os.environ.get("LUCK_LIB", "target/staticlib") / "libluck.a"
@@ -53,7 +67,7 @@ CHECKS = {
     b"G": lambda version, body: luck.check_replacement(version, 1, body),
 }
 
-# Every refusal of a check at its smallest input of docs/REFUSALS.md: kind, version, body, number, offset, characters.
+# Every refusal of a check at its smallest input of docs/REFUSALS.md: kind, version, body, number, offset, characters. The last is not UTF-8.
 REFUSALS = [
     (b"F", 1, b"%", 1, 0, ""),
     (b"F", 1, b"%y", 2, 1, "y"),
@@ -184,6 +198,97 @@ class Bodies(unittest.TestCase):
     def test_characters(self) -> None:
         self.assertEqual(luck.check_format(1, "%é".encode()), refused(2, 1, "é"))
         self.assertEqual(luck.check_pack(3, "\U0001F600".encode()), refused(14, 0, "\U0001F600"))
+
+
+class Truth(unittest.TestCase):
+    """An answer is true where the text is accepted, decoded or done, and only there."""
+
+    def test_bodies(self) -> None:
+        for kind, version, body, *_ in REFUSALS:
+            self.assertIs(bool(CHECKS[kind](version, body)), False)
+        for check in CHECKS.values():
+            self.assertIs(bool(check(4, b"")), True)
+            self.assertIs(bool(check(7, b"")), False)
+
+    def test_literals(self) -> None:
+        for text, true in [("'%d'", True), ("''", True), ("'%y'", False), ("[[%d]]", False), (r"'\65'", False), (b"'\xFF'", False)]:
+            self.assertIs(bool(luck.check_literal(Kind.FORMAT, Version.LUA_54, None, 0, text)), true)
+
+    def test_decoding(self) -> None:
+        for text, true in [("''", True), ("'a'", True), ("'", False), (r"'\q'", False)]:
+            self.assertIs(bool(luck.decode_string(4, text)), true)
+            self.assertIs(bool(luck.decode_string_into(4, text, bytearray(4))), true)
+        self.assertIs(bool(luck.decode_string_into(4, "'a'", bytearray())), False)
+
+    def test_trials(self) -> None:
+        for pattern, budget, true in [("a", 9, True), ("b", 9, True), ("a", 1, False), (")", 9, False)]:
+            self.assertIs(bool(luck.gsub_trial(4, pattern, "x", "a", budget, 9)), true)
+            self.assertIs(bool(luck.gsub_trial_into(4, pattern, "x", "a", budget, bytearray(9))), true)
+
+
+class Messages(unittest.TestCase):
+    """Why a text is refused, in the words of the Rust crate."""
+
+    refusal, decode, trial = ((ROOT / "host" / "rust" / "src" / name).read_text() for name in ("refusal.rs", "decode.rs", "trial.rs"))
+
+    def test_refusals(self) -> None:
+        for answer, message in [
+            (luck.check_format(1, "%"), "truncated specifier at offset 0"),
+            (luck.check_format(1, "%é"), "unknown specifier `%é` at offset 1"),
+            (luck.check_format(1, "%------d"), "too many flags at `-` at offset 6"),
+            (luck.check_format(4, "%#d"), "`%d` can't take `#` at offset 1"),
+            (luck.check_pattern(4, "(%d+"), "unmatched capture at offset 4"),
+            (luck.check_packsize(4, "s"), "variable-length option `s` at offset 0"),
+            (luck.check_replacement(4, 1, "%2"), "capture index is higher than the pattern's capture count"),
+            (luck.check_date(4, "%"), "ends with a lone `%`"),
+            (luck.check_format(1, b"a\xFF"), "not UTF-8 at offset 1"),
+            (luck.check_format(7, ""), "unknown version"),
+            (luck.check_format(4, "%d"), ""),
+            (luck.check_literal("F", 4, None, 0, "'%y'"), "unknown specifier `%y` at offset 1"),
+            (luck.check_literal("Z", 4, None, 0, "'%y'"), "unknown kind"),
+            (luck.check_literal("F", 4, None, 0, "'%d'"), ""),
+            (luck.check_literal("F", 4, None, 0, "%d"), r"not checked: not in two equal quotes, or with an escape `\0` to `\9`, `\x` or `\u`"),
+            (luck.decode_string(4, "'"), "no literal, or an escape that this version does not have"),
+            (luck.decode_string(4, b"'\xFF'"), "not UTF-8 at offset 1"),
+            (luck.decode_string(0, "'"), "unknown version"),
+            (luck.decode_string(4, "''"), ""),
+            (luck.decode_string_into(4, "'a'", bytearray()), "the value is longer than the output"),
+        ]:
+            self.assertEqual(answer.message, message)
+
+    def test_other_numbers(self) -> None:
+        """A number that this module does not know, of a later library, has the Rust crate's words for it."""
+        self.assertEqual(Answer(99, 0, 0, 5, 0).message, "refusal 99 at offset 5")
+        self.assertEqual(Trial(99, 0, b"", 0, 0).message, "refusal 99, kind 0")
+        self.assertEqual(Trial(29, 11, b"", 0, 0).message, "refusal 29, kind 11")
+
+    def test_every_refusal(self) -> None:
+        for kind, version, body, *_ in REFUSALS:
+            self.assertNotEqual(CHECKS[kind](version, body).message, "")
+
+    def test_trials(self) -> None:
+        for trial, message in [
+            (luck.gsub_trial(4, "a", "x", "a"), ""),
+            (luck.gsub_trial(7, "a", "x", "a"), "unknown version"),
+            (luck.gsub_trial(4, "a", "x", "a", room=0), "the output is full"),
+            (luck.gsub_trial(4, "a", "x", "a", budget=0), "the budget of steps is spent"),
+            (luck.gsub_trial(4, 200 * "a?", "x", 200 * "a"), 'too deep: real Lua raises "pattern too complex"'),
+            (luck.gsub_trial(4, "%", "x", "a"), "pattern ends with '%'"),
+            (luck.gsub_trial(4, "a", "%2", "a"), "invalid capture index in the replacement"),
+            (luck.gsub_trial_into(4, "[", "x", "a", 9, bytearray(9)), "missing ']'"),
+        ]:
+            self.assertEqual(trial.message, message)
+
+    def test_rust(self) -> None:
+        """The words are those of the Rust crate's `Display`."""
+        there = set(re.findall(r'(?:write!\(f, |f\.write_str\()"((?:[^"\\]|\\.)*)"', self.refusal))
+        here = {words for number, words in module._REFUSALS.items() if number <= Number.NOT_UTF8}
+        self.assertEqual(there - here, {"refusal {number} at offset {offset}"})
+        self.assertEqual(here - there, set())
+        for number in (24, 26):
+            self.assertIn(f'f.write_str("{module._REFUSALS[number]}")', self.decode)
+        for words in [*(words for number, words in module._ENDINGS.items() if number != 25), *module._RAISES]:
+            self.assertIn('"' + words.replace('"', '\\"') + '"', self.trial)
 
 
 class Literals(unittest.TestCase):
@@ -375,6 +480,32 @@ class Trials(unittest.TestCase):
                 self.assertEqual((found.number, found.kind, found.output), (29, kind, b""))
         self.assertEqual(luck.gsub_trial(1, b"", b"%", b"", ENOUGH, 20), Trial(0, 0, b"\0", 1, 2))
 
+    def test_defaults(self) -> None:
+        """Budget and room are those of the command `luck`."""
+        found = luck.gsub_trial(4, "b", "x", 10_000_001 * b"a")
+        self.assertEqual((found.number, found.steps, len(found.output)), (27, 10_000_000, 10_000_000))
+        found = luck.gsub_trial(4, "a", 1000 * "x", 20_000 * "a")
+        self.assertEqual((found.number, len(found.output)), (26, 16 * 1024 * 1024))
+
+    def test_stack(self) -> None:
+        """The deepest trials that are known (host/c/stack.c), in a thread with the stack that luck.py asks for."""
+        captures = 32 * "("
+        rows = [
+            (captures + "c" + 31 * ")" + 68 * "a*b*" + ")", "c" + 68 * "ab"),
+            (captures + "c" + 31 * ")" + 136 * "a-" + ")", "c" + 136 * "a"),
+            (".-" + captures + "." + 32 * ")" + 136 * ".-", 137 * "a"),
+        ]
+        found = []
+        before = threading.stack_size(512 * 1024)
+        try:
+            for pattern, subject in rows:
+                thread = threading.Thread(target=lambda: found.append(luck.gsub_trial(4, pattern, "x", subject).number))
+                thread.start()
+                thread.join()
+        finally:
+            threading.stack_size(before)
+        self.assertEqual(found, 3 * [Number.TOO_DEEP])
+
     def test_threads(self) -> None:
         """The same texts in eight threads at once."""
         subject, found = 1000 * b"ab", []
@@ -414,11 +545,15 @@ class WrongArguments(unittest.TestCase):
     def test_kinds(self) -> None:
         for kind in (b"", b"FF"):
             self.assertRaises(ValueError, luck.check_literal, kind, 4, None, 0, b"''")
-        for wrong in ("F", 70, None):
+        self.assertRaises(ValueError, luck.check_literal, "é", 4, None, 0, b"''")
+        for wrong in (70, None):
             self.assertRaises(TypeError, luck.check_literal, wrong, 4, None, 0, b"''")
+        for kind in Kind:
+            for same in (kind, kind.value, kind.value.decode()):
+                self.assertTrue(luck.check_literal(same, 4, None, 0, b"''"))
 
     def test_types(self) -> None:
-        for wrong in ("text", None, bytearray(b"text"), 4):
+        for wrong in (None, bytearray(b"text"), 4):
             for check in CHECKS.values():
                 self.assertRaises(TypeError, check, 4, wrong)
             self.assertRaises(TypeError, luck.check_literal, b"F", 4, None, 0, wrong)
@@ -431,15 +566,42 @@ class WrongArguments(unittest.TestCase):
         for wrong in (4.0, "4", None):
             self.assertRaises(TypeError, luck.check_format, wrong, b"")
 
+    def test_str(self) -> None:
+        """A str is taken as its UTF-8, and offsets count bytes."""
+        self.assertEqual(luck.check_format(4, "é%y"), luck.check_format(4, "é%y".encode()))
+        self.assertEqual(luck.check_format(4, "é%y").offset, 3)
+        self.assertEqual(luck.check_literal("F", 4, None, 0, "'é%y'").start, 4)
+        self.assertEqual(luck.check_replacement(4, 1, "é%2").offset, 3)
+        self.assertEqual(luck.decode_string(4, "'é'").value, "é".encode())
+        self.assertEqual(luck.gsub_trial(4, "é", "ü", "né").output, "nü".encode())
+        self.assertRaises(UnicodeEncodeError, luck.check_format, 4, "\uD800")
+
 
 class Header(unittest.TestCase):
     """luck.py and include/luck.h say the same."""
 
     header = (ROOT / "include" / "luck.h").read_text()
 
+    def names_after(self, comment: str) -> Dict[str, str]:
+        """The names, without LUCK_, and values of the enum that follows this comment."""
+        body = self.header.split(comment, 1)[1].split("};", 1)[0]
+        return dict(re.findall(r"^ +LUCK_(\w+) = ([^\s,]+)", body, re.MULTILINE))
+
     def test_numbers(self) -> None:
-        there = re.findall(r"^ +LUCK_(\w+) = (\d+),?$", self.header, re.MULTILINE)
-        self.assertEqual({name: int(number) for name, number in there}, {number.name: number.value for number in Number})
+        self.assertEqual(self.names_after("/* `number`"), {number.name: str(number.value) for number in Number})
+
+    def test_versions(self) -> None:
+        self.assertEqual(self.names_after("/* `version`"), {version.name: str(version.value) for version in Version})
+
+    def test_kinds(self) -> None:
+        self.assertEqual(self.names_after("/* `kind`"), {f"KIND_{kind.name}": repr(kind.value.decode()) for kind in Kind})
+
+    def test_own_version(self) -> None:
+        self.assertIn(f'#define LUCK_VERSION "{module.__version__}"\n', self.header)
+
+    def test_all(self) -> None:
+        public = {name for name, value in vars(module).items() if getattr(value, "__module__", None) == module.__name__ and name[0] != "_"}
+        self.assertEqual(set(module.__all__), public | {"DEFAULT_BUDGET", "DEFAULT_ROOM"})
 
     def test_fields(self) -> None:
         types = {"uint32_t": ctypes.c_uint32, "size_t": ctypes.c_size_t, "bool": ctypes.c_bool}

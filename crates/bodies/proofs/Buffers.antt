@@ -15,7 +15,7 @@ use Rattle.luck_lines.specs.declared.stream.Fed.{Fed}
 use Rattle.luck_lines.proofs.Buffers.{part-left}
 use Rattle.luck_lines.proofs.Promises.{leaves}
 use Rattle.bodies.specs.declared.Held.{Held}
-use Rattle.bodies.specs.Held.{Unended, heldIn, GoesOn}
+use Rattle.bodies.specs.Held.{Unended, heldIn, HeldGoesOn}
 
 empty : (l : List ℕ) → length l ≤ 0 → l ≡ []
 empty [] h = refl
@@ -41,7 +41,7 @@ may-read input at end room long fed e w h g =
     subst (λ (x : List ℕ). Unended x (length input)) rest (left .1, omega (arith, left .0, length-drop (t .used) (part input at end)))
 
 -- an answer that ends the run
-pub stopped : (bytes buffer : List ℕ) (long : Bool) (held : Held) → held .more ≡ false → GoesOn bytes long held buffer
+pub stopped : (bytes buffer : List ℕ) (long : Bool) (held : Held) → held .more ≡ false → HeldGoesOn bytes long held buffer
 stopped bytes buffer long held e m = absurd (true≢false (sym m ∙ e))
 
 pub read-on : (first buffer read held : List ℕ) (kept n : ℕ) → kept ≡ length held → buffer ≡ inFront held first → kept ≤ length buffer
@@ -60,7 +60,7 @@ module _ (input : List ℕ) (at end room : ℕ) (long : Bool) (fed : Fed) (e : f
       × (take (length (drop (feed (part input at end) room long .used) (part input at end))) (part input (at + fed .used) end) ≡ drop (feed (part input at end) room long .used) (part input at end))
   rows-on = (ap (λ (x : Fed). x .long) e, ap (take (length (drop (feed (part input at end) room long .used) (part input at end)))) left-part ∙ take-length (drop (feed (part input at end) room long .used) (part input at end)))
 
-  pub read-after : (held : Held) (buffer : List ℕ) → GoesOn (part input (at + fed .used) end) (fed .long) held buffer
-      → GoesOn (drop (feed (part input at end) room long .used) (part input at end)) (feed (part input at end) room long .long) held buffer
+  pub read-after : (held : Held) (buffer : List ℕ) → HeldGoesOn (part input (at + fed .used) end) (fed .long) held buffer
+      → HeldGoesOn (drop (feed (part input at end) room long .used) (part input at end)) (feed (part input at end) room long .long) held buffer
   read-after held buffer g m =
       (g m .0 ∙ ap (λ (x : Fed). x .long) e, subst (λ (x : List ℕ). take (length x) (heldIn held buffer) ≡ x) left-part (g m .1))

@@ -10,8 +10,8 @@ use Rattle.luck_lines.specs.Stream.{lineLength}
 use Rattle.bodies.specs.declared.Held.{Held}
 
 -- in a buffer of this length
-abbrev pub Within : Held → ℕ → Type 0
-Within held length = (held .at ≤ held .end) × (held .end ≤ length)
+abbrev pub HeldWithin : Held → ℕ → Type 0
+HeldWithin held length = (held .at ≤ held .end) × (held .end ≤ length)
 
 -- no newline is among the bytes, and a buffer of this length has room for more after them
 abbrev pub Unended : List ℕ → ℕ → Type 0
@@ -21,5 +21,5 @@ abbrev pub heldIn : Held → List ℕ → List ℕ
 heldIn held buffer = part buffer (held .at) (held .end)
 
 -- where there is more to do: these bytes are held, and perhaps others after them, and whether their line is too long already is as it was
-abbrev pub GoesOn : List ℕ → Bool → Held → List ℕ → Type 0
-GoesOn bytes long held buffer = held .more ≡ true → (held .long ≡ long) × (take (length bytes) (heldIn held buffer) ≡ bytes)
+abbrev pub HeldGoesOn : List ℕ → Bool → Held → List ℕ → Type 0
+HeldGoesOn bytes long held buffer = held .more ≡ true → (held .long ≡ long) × (take (length bytes) (heldIn held buffer) ≡ bytes)

@@ -7,7 +7,7 @@ ghost use lib.ListN.{length, drop};
 ghost use Rattle.luck_text.specs.Bytes.{part};
 ghost use Rattle.luck_line.specs.Line.{longest};
 ghost use Rattle.luck_lines.specs.Stream.{rowLength, lineLength, feed};
-ghost use Rattle.bodies.specs.Held.{Within, Unended, heldIn, GoesOn};
+ghost use Rattle.bodies.specs.Held.{HeldWithin, Unended, heldIn, HeldGoesOn};
 use libc::STDIN_FILENO;
 use libc::STDOUT_FILENO;
 use luck_lines::buffer;
@@ -23,7 +23,7 @@ struct Held {
 
 // An error was said, or the input has ended.
 fn stop() -> Held
-    ensures { λ r. ⌜ Within r 0 ⌝ }
+    ensures { λ r. ⌜ HeldWithin r 0 ⌝ }
     ensures { λ r. ⌜ r .more ≡ false ⌝ }
 {
     Held {
@@ -55,8 +55,8 @@ fn finish(left: &[u8], output: &mut [u8], long: bool)
 fn read_more(input: &mut [u8], output: &mut [u8], at: usize, end: usize, long: bool) -> Held
     requires { ⌜ Unended (part (now input) at end) (length (now input)) ⌝ }
     requires { ⌜ rowLength ≤ length (now output) ⌝ }
-    ensures { λ r. ⌜ Within r (length (now (input .exit))) ⌝ }
-    ensures { λ r. ⌜ GoesOn (part (now (input .entry)) at end) long r (now (input .exit)) ⌝ }
+    ensures { λ r. ⌜ HeldWithin r (length (now (input .exit))) ⌝ }
+    ensures { λ r. ⌜ HeldGoesOn (part (now (input .entry)) at end) long r (now (input .exit)) ⌝ }
 {
     let kept = buffer::keep(input, at, end);
     let got = libc::read(STDIN_FILENO, &mut input[kept..]);
@@ -79,12 +79,12 @@ fn read_more(input: &mut [u8], output: &mut [u8], at: usize, end: usize, long: b
 
 // Takes what the output has room for, and reads more where nothing can be taken.
 fn list_some(input: &mut [u8], output: &mut [u8], held: Held) -> Held
-    requires { ⌜ Within held (length (now input)) ⌝ }
+    requires { ⌜ HeldWithin held (length (now input)) ⌝ }
     requires { ⌜ longest < length (now input) ⌝ }
     requires { ⌜ rowLength ≤ length (now output) ⌝ }
-    ensures { λ r. ⌜ Within r (length (now (input .exit))) ⌝ }
+    ensures { λ r. ⌜ HeldWithin r (length (now (input .exit))) ⌝ }
     ensures { λ r. ⌜
-        GoesOn (drop (feed (heldIn held (now (input .entry))) (length (now (output .entry))) (held .long) .used) (heldIn held (now (input .entry))))
+        HeldGoesOn (drop (feed (heldIn held (now (input .entry))) (length (now (output .entry))) (held .long) .used) (heldIn held (now (input .entry))))
         (feed (heldIn held (now (input .entry))) (length (now (output .entry))) (held .long) .long) r (now (input .exit))
         ⌝ }
 {
@@ -126,7 +126,16 @@ fn list(input: &mut [u8], output: &mut [u8])
     }
 }
 
+// A word after the program's name is a slip, mostly a file's name without its `<`: a listing of standard input would be that
+// of another input, and at a terminal the program would wait for one.
 fn main() {
+    if 1 < os::arg_count() {
+        io::write_all(
+            libc::STDERR_FILENO,
+            b"bodies: takes no arguments, and has read nothing; it lists standard input: bodies < FILE\n",
+        );
+        return;
+    }
     let mut input = io::large_buffer();
     let mut output = io::large_buffer();
     list(&mut input, &mut output);

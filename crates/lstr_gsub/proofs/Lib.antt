@@ -1,6 +1,7 @@
 pub mod Runs
 pub mod Endings
 pub mod Room
+pub mod Versions
 pub mod Writings
 pub mod Quiet
 pub mod Promises

@@ -9,16 +9,18 @@ use mathlib.Core.List.{List, [], _∷_}
 use mathlib.Core.Option.{some}
 use lib.ListN.{length}
 use Rattle.luck_text.specs.Bytes.{if_then_else_, among}
+use Rattle.luck_text.proofs.Bytes.{front-length}
 use Rattle.luck_token.specs.Version.{isVersion, rulesOf}
 use Rattle.luck_answer.specs.Answer.{accepted}
 use Rattle.luck_pattern.specs.Pattern.{checkPatternAs}
 use Rattle.luck_replacement.specs.Replacement.{isStrict, checkReplacement}
 use Rattle.lstr_class.specs.Class.{classOf}
-use Rattle.lstr_gsub.specs.Gsub.{outputAfter, strGsub, gsub}
+use Rattle.lstr_gsub.specs.Gsub.{answer, outputAfter, strGsub, gsub}
 use Rattle.lstr_gsub.proofs.Writings.{walk-accepted, strict-accepted, writers-alike}
 use Rattle.lstr_gsub.proofs.Quiet.{quiet}
 use Rattle.lstr_gsub.proofs.Endings.{endings}
 use Rattle.lstr_gsub.proofs.Room.{trial-within}
+use Rattle.lstr_gsub.proofs.Versions.{with-25}
 
 -- ---- A pattern accepted, with or without the test of ranges, under some version v with its count n, and a replacement accepted for that count under a version w other than 5.1
 
@@ -89,3 +91,11 @@ module _ (version : ℕ) (pat rep sub : List ℕ) (budget room : ℕ) where
   -- all of it where a byte was due and the output was full
   pub filled-exactly : gsub version pat rep sub budget room .number ≡ 26 → length (gsub version pat rep sub budget room .written) ≡ room
   filled-exactly = trial-within budget room version pat rep sub .ending
+
+  -- 25 comes with nothing written, no replacement and no step,
+  pub nothing-with-25 : gsub version pat rep sub budget room .number ≡ 25 → gsub version pat rep sub budget room ≡ answer 25 0 [] 0 0
+  nothing-with-25 = with-25 version pat rep sub budget room
+
+  -- and in any case the output keeps its length
+  pub length-kept : (output : List ℕ) → length output ≡ room → length (outputAfter output (gsub version pat rep sub budget room)) ≡ length output
+  length-kept output e = front-length (gsub version pat rep sub budget room .written) output (omega (arith, written-within))

@@ -154,7 +154,7 @@ module _ (K : ℕ → List ℕ → Type 0) (E : ℕ → ℕ → ℕ → List ℕ
       rounds-from-keep is ok zero s last out n u h = record { kept = h; ending = done u out h }
       rounds-from-keep is ok (suc fuel) s last out n u h = round-keeps _ (λ a b c d e. rounds-from-keep is ok fuel a b c d e) _ s last out n (ok s u out h)
 
-      run-keeps : (pat : List ℕ) → K 0 [] → AttemptsKeep (items pat 0) → (eqb (byteAt pat 0) 94 ≡ true → AttemptsKeep (items pat 1))
+      pub run-keeps : (pat : List ℕ) → K 0 [] → AttemptsKeep (items pat 0) → (eqb (byteAt pat 0) 94 ≡ true → AttemptsKeep (items pat 1))
           → Kept K E (strGsub inClass sub budget room write pat)
       unfolding strGsub rounds
       run-keeps pat h free held =

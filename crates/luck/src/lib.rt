@@ -3,7 +3,7 @@
 ghost use mathlib.Core.Path.{_≡_};
 ghost use mathlib.Core.Bool.{true, false};
 ghost use lib.ListN.{length};
-ghost use Rattle.luck_token.specs.Decode.{decodeString, answerOf, outputOf};
+ghost use Rattle.luck_token.specs.Decode.{decodeString, decodingOf, outputOf};
 ghost use Rattle.luck_answer.specs.Answer.{checkAnswer};
 ghost use Rattle.luck_format.specs.Date.{checkDate};
 ghost use Rattle.luck_format.specs.Format.{checkFormat};
@@ -112,7 +112,7 @@ pub extern "C" fn luck_check_literal(
 // What a literal stands for, written to the front of the output; a refusal leaves the output as it was.
 #[no_mangle]
 pub extern "C" fn luck_decode_string(version: u32, text: &[u8], output: &mut [u8]) -> Decoded
-    ensures answer { λ r. ⌜ decodedAnswer r ≡ answerOf (decodeString version (now (text .entry)) (length (now (output .entry)))) ⌝ }
+    ensures answer { λ r. ⌜ decodedAnswer r ≡ decodingOf (decodeString version (now (text .entry)) (length (now (output .entry)))) ⌝ }
     ensures output { λ r. ⌜ now (output .exit) ≡ outputOf (decodeString version (now (text .entry)) (length (now (output .entry)))) (now (output .entry)) ⌝ }
 {
     let decoded = string::decode_string(version, text, output);

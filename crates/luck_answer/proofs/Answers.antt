@@ -10,11 +10,10 @@ use lib.Dec.{eqb}
 use lib.ListN.{length}
 use borrow.Author.Tests.{eqb-true, eq-eqb, ne-eqb}
 use Rattle.luck_text.specs.Bytes.{among}
-use Rattle.luck_token.specs.Version.{isVersion}
-use Rattle.luck_utf8.specs.Utf8.{sequence, sequenceAt, noneIllFormed, illFormed}
 use Rattle.luck_text.specs.Walk.{Turn, stop, goes, walk, walkFrom}
 use Rattle.luck_text.proofs.Cases.{by-test, and-left, and-right}
-use Rattle.luck_answer.specs.Answer.{Answer, afterVersion, afterUtf8, checkText}
+use Rattle.luck_answer.specs.Answer.{Answer, checkText}
+use Rattle.luck_answer.proofs.Texts.{in-any-case}
 
 -- ---- A walk
 
@@ -51,10 +50,11 @@ module _ {S A : Type 0} (item : ℕ → S → Turn S A) (ends : ℕ → S → A)
 
 -- ---- An answer's fields
 
--- accepted it has no offset and no character, refused no count; the first character comes only with 2, 3, 6, 10, 14 and 18, the second only with 6
+-- accepted it has no offset and no character, refused no count; 25, 30 and 31 have no offset; the first character comes only with 2, 3, 6, 10, 14 and 18, the second only with 6
 pub record Whole (a : Answer) : Type 0 where
   pub accepted-bare : a .number ≡ 0 → (a .offset ≡ 0) × (a .first ≡ 0) × (a .second ≡ 0)
   pub refused-uncounted : (a .number ≡ 0 → ⊥) → a .count ≡ 0
+  pub unplaced : among (a .number) (25 ∷ 30 ∷ 31 ∷ []) ≡ true → a .offset ≡ 0
   pub first-character : among (a .number) (2 ∷ 3 ∷ 6 ∷ 10 ∷ 14 ∷ 18 ∷ []) ≡ false → a .first ≡ 0
   pub second-character : (a .number ≡ 6 → ⊥) → a .second ≡ 0
 
@@ -62,17 +62,21 @@ pub record Whole (a : Answer) : Type 0 where
 abbrev hasCharacter : ℕ → Bool
 hasCharacter n = eqb n 2 || (eqb n 3 || (eqb n 6 || (eqb n 10 || (eqb n 14 || (eqb n 18 || false)))))
 
+abbrev isUnplaced : ℕ → Bool
+isUnplaced n = eqb n 25 || (eqb n 30 || (eqb n 31 || false))
+
 abbrev pub isWhole : Answer → Bool
 isWhole a =
     (not (eqb (a .number) 0) || (eqb (a .offset) 0 && (eqb (a .first) 0 && eqb (a .second) 0)))
     && ((eqb (a .number) 0 || eqb (a .count) 0)
-    && ((hasCharacter (a .number) || eqb (a .first) 0) && (eqb (a .number) 6 || eqb (a .second) 0)))
+    && ((not (isUnplaced (a .number)) || eqb (a .offset) 0)
+    && ((hasCharacter (a .number) || eqb (a .first) 0) && (eqb (a .number) 6 || eqb (a .second) 0))))
 
 second-of : (a b : Bool) → (a || b) ≡ true → a ≡ false → b ≡ true
 second-of true b e f = absurd (true≢false f)
 second-of false b e f = e
 
-whole : (a : Answer) → isWhole a ≡ true → Whole a
+pub whole : (a : Answer) → isWhole a ≡ true → Whole a
 unfolding among
 whole a e =
     let bare = eqb (a .offset) 0 && (eqb (a .first) 0 && eqb (a .second) 0) in
@@ -80,18 +84,21 @@ whole a e =
     let uncounted = eqb (a .number) 0 || eqb (a .count) 0 in
     let one = hasCharacter (a .number) || eqb (a .first) 0 in
     let two = eqb (a .number) 6 || eqb (a .second) 0 in
-    let more = and-right alone (uncounted && (one && two)) e in
-    let characters = and-right uncounted (one && two) more in
+    let placed = not (isUnplaced (a .number)) || eqb (a .offset) 0 in
+    let more = and-right alone (uncounted && (placed && (one && two))) e in
+    let rest = and-right uncounted (placed && (one && two)) more in
+    let characters = and-right placed (one && two) rest in
     record {
       accepted-bare =
-          λ z. let b = second-of (not (eqb (a .number) 0)) bare (and-left alone (uncounted && (one && two)) e) (ap not (eq-eqb (a .number) 0 z)) in
+          λ z. let b = second-of (not (eqb (a .number) 0)) bare (and-left alone (uncounted && (placed && (one && two))) e) (ap not (eq-eqb (a .number) 0 z)) in
           let c = and-right (eqb (a .offset) 0) (eqb (a .first) 0 && eqb (a .second) 0) b in (
             eqb-true (a .offset) 0 (and-left (eqb (a .offset) 0) (eqb (a .first) 0 && eqb (a .second) 0) b),
             eqb-true (a .first) 0 (and-left (eqb (a .first) 0) (eqb (a .second) 0) c),
             eqb-true (a .second) 0 (and-right (eqb (a .first) 0) (eqb (a .second) 0) c),
           );
       refused-uncounted =
-          λ n. eqb-true (a .count) 0 (second-of (eqb (a .number) 0) (eqb (a .count) 0) (and-left uncounted (one && two) more) (ne-eqb (a .number) 0 n));
+          λ n. eqb-true (a .count) 0 (second-of (eqb (a .number) 0) (eqb (a .count) 0) (and-left uncounted (placed && (one && two)) more) (ne-eqb (a .number) 0 n));
+      unplaced = λ u. eqb-true (a .offset) 0 (second-of (not (isUnplaced (a .number))) (eqb (a .offset) 0) (and-left placed (one && two) rest) (ap not u));
       first-character = λ f. eqb-true (a .first) 0 (second-of (hasCharacter (a .number)) (eqb (a .first) 0) (and-left one two characters) f);
       second-character =
           λ n. eqb-true (a .second) 0 (second-of (eqb (a .number) 6) (eqb (a .second) 0) (and-right one two characters) (ne-eqb (a .number) 6 n));
@@ -110,31 +117,8 @@ module _ (numbers : List ℕ) (a : Answer) (h : (isWhole a && among (a .number) 
   pub fits-numbered : among (a .number) numbers ≡ true
   fits-numbered = and-right (isWhole a) (among (a .number) numbers) h
 
-abbrev pub PlaceIn : ℕ → Option ℕ → Type 0
-PlaceIn len none = Unit {0}
-PlaceIn len (some p) = p < len
-
-module _ (text : List ℕ) where
-  sequence-in : (p : ℕ) (u : Unit {0}) → p < length text → Stops (PlaceIn (length text)) (sequenceAt text p u)
-  unfolding sequenceAt
-  sequence-in p u h = by-test (Stops (PlaceIn (length text))) (eqb (sequence text p) 0) _ _ (λ _. h) (λ _. tt)
-
-  no-sequence-in : (p : ℕ) (u : Unit {0}) → PlaceIn (length text) (noneIllFormed p u)
-  unfolding noneIllFormed
-  no-sequence-in p u = tt
-
-  pub place-in : PlaceIn (length text) (illFormed text)
-  unfolding illFormed
-  place-in = walk-every (sequenceAt text) noneIllFormed (length text) (PlaceIn (length text)) sequence-in no-sequence-in 0 tt
-
-  module _ (numbers : List ℕ) (has-23 : among 23 numbers ≡ true) (has-25 : among 25 numbers ≡ true) where
-    after-fits : (place : Option ℕ) (walked : Answer) → PlaceIn (length text) place → Fits (length text) numbers walked → Fits (length text) numbers (afterUtf8 place walked)
-    unfolding afterUtf8
-    after-fits none walked h i = i
-    after-fits (some p) walked h i = (omega arith, has-23)
-
-    -- a check's, if its walk's does
-    pub check-fits : (version : ℕ) (walked : Answer) → Fits (length text) numbers walked → Fits (length text) numbers (checkText version text walked)
-    unfolding checkText afterVersion
-    check-fits version walked h =
-        by-test (Fits (length text) numbers) (isVersion version) _ _ (λ _. after-fits (illFormed text) walked place-in h) (λ _. (omega arith, has-25))
+-- a check's does, if its walk's does
+pub check-fits : (text numbers : List ℕ) → among 23 numbers ≡ true → among 25 numbers ≡ true → (version : ℕ) (walked : Answer)
+    → Fits (length text) numbers walked → Fits (length text) numbers (checkText version text walked)
+check-fits text numbers has-23 has-25 version walked h =
+    in-any-case version text walked (Fits (length text) numbers) (omega arith, has-25) (λ place i. (omega arith, has-23)) h

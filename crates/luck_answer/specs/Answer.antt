@@ -2,10 +2,8 @@
 -- Assumes nothing.
 use Prim.Native.Nat.{ℕ}
 use mathlib.Core.List.{List}
-use mathlib.Core.Option.{Option, none, some}
-use Rattle.luck_text.specs.Bytes.{if_then_else_}
-use Rattle.luck_token.specs.Version.{isVersion}
-use Rattle.luck_utf8.specs.Utf8.{illFormed}
+use mathlib.Core.Option.{Option}
+use Rattle.luck_token.specs.Text as before
 use Rattle.luck_answer.specs.declared.answer.Answer.{Answer as AnswerStruct}
 use Rattle.luck_answer.specs.declared.format_pattern.PatternError.{PatternError}
 use Rattle.luck_answer.specs.declared.format_pattern.PatternError.the-variants as error
@@ -41,18 +39,19 @@ refusedWith number offset character = refusedBoth number offset character 0
 abbrev pub refused : ℕ → ℕ → Answer
 refused number offset = refusedWith number offset 0
 
--- 25 where the version is none of the six
-unfoldable pub afterVersion : ℕ → Answer → Answer
-afterVersion version answer = if isVersion version then answer else refused 25 0
-
--- 23 at the first ill-formed sequence, if there is one
-unfoldable pub afterUtf8 : Option ℕ → Answer → Answer
-afterUtf8 none walked = walked
-afterUtf8 (some place) walked = refused 23 place
-
 -- 25, then 23, then the walk, whose first fault is the answer
 unfoldable pub checkText : ℕ → List ℕ → Answer → Answer
-checkText version text walked = afterVersion version (afterUtf8 (illFormed text) walked)
+unfolding before.afterText before.afterUtf8
+checkText = before.afterText refused
+
+-- its two tests
+unfoldable abbrev pub afterVersion : ℕ → Answer → Answer
+unfolding before.afterVersion
+afterVersion = before.afterVersion refused
+
+unfoldable abbrev pub afterUtf8 : Option ℕ → Answer → Answer
+unfolding before.afterUtf8
+afterUtf8 = before.afterUtf8 refused
 
 -- the code's faults and answers in those numbers
 abbrev pub refusal : PatternError → Answer

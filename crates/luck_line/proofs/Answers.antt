@@ -1,4 +1,4 @@
--- The number, the offset and the count of a line's answer.
+-- The number, the offset and the count of a line's answer, and that its fields are those of its number.
 -- Assumes nothing.
 use Prim.Native.Nat.{ℕ, _-_, _≤_}
 use native.Mathlib.Omega.{arith}
@@ -12,10 +12,11 @@ use borrow.Author.Tests.{ltb-false}
 use Rattle.luck_text.specs.Bytes.{if_then_else_, byteAt, among}
 use Rattle.luck_text.proofs.Cases.{by-test}
 use Rattle.luck_answer.specs.Answer.{Answer, refused}
+use Rattle.luck_answer.proofs.Answers.{Whole, whole}
 use Rattle.luck_replacement.specs.Replacement.{allowsDigit}
 use Rattle.luck_linter.specs.Checks.{Check, pattern, format, date, replacement, pack, answer, numbers}
 use Rattle.luck_text.proofs.Among.{Every, every-among}
-use Rattle.luck_linter.proofs.Refusals.{refusals, counts}
+use Rattle.luck_linter.proofs.Refusals.{refusals, counts, wholes}
 use Rattle.luck_line.specs.Line.{longest, headCheck, bodyAnswer, lineAnswer, lineNumbers}
 
 abbrev Fits : ℕ → Answer → Type 0
@@ -38,6 +39,11 @@ body-fits (some check) version body =
     let r = refusals check version body in
     (r .0, every-among (λ n. among n lineNumbers ≡ true) (numbers check) (all check) (answer check version body .number) (r .1), counts check version body)
 
+body-whole : (check : Option Check) (version : ℕ) (body : List ℕ) → Whole (bodyAnswer check version body)
+unfolding bodyAnswer
+body-whole none version body = whole (refused 30 0) refl
+body-whole (some check) version body = wholes check version body
+
 too-long-fits : (len : ℕ) → Fits len (refused 31 0)
 unfolding among
 too-long-fits len = (omega arith, refl, omega arith)
@@ -58,3 +64,10 @@ module _ (line : List ℕ) where
 
   pub row-fits : Fits 4000 (lineAnswer line)
   row-fits = fits 4000 (λ e. omega (arith, ltb-false longest (length line) e))
+
+  -- accepted it has no offset, refused no count
+  pub line-whole : Whole (lineAnswer line)
+  unfolding lineAnswer
+  line-whole =
+      by-test Whole (ltb longest (length line)) _ _ (λ _. whole (refused 31 0) refl)
+      (λ _. body-whole (headCheck line) (byteAt line 1 - 48) (drop 5 line))

@@ -13,7 +13,7 @@ use borrow.Author.Tests.{le-leb, lt-leb, eq-eqb, ne-eqb, lt-ltb, le-ltb}
 use Rattle.luck_text.specs.Bytes.{if_then_else_, byteAt, isDigit}
 use Rattle.luck_answer.specs.Answer.{Answer, refused}
 use Rattle.luck_linter.specs.Checks.{Check, checkOf}
-use Rattle.luck_line.specs.Line.{twoDigits, capturesIn, checkWith, headCheck, bodyAnswer, lineAnswer}
+use Rattle.luck_line.specs.Line.{twoDigits, captureColumns, checkWith, headCheck, bodyAnswer, lineAnswer}
 
 pub part-whole : (l : List ℕ) (a : ℕ) → take (length l - a) (drop a l) ≡ drop a l
 part-whole l a = take-all (length l - a) (drop a l) (le-of-eq (length-drop a l))
@@ -48,21 +48,21 @@ module _ (tens units : ℕ) where
   unfolding isDigit
   blank-no-digit e = rw e
 
-  pub blank : tens ≡ 32 → units ≡ 32 → some none ≡ capturesIn tens units
-  unfolding capturesIn if_then_else_
+  pub blank : tens ≡ 32 → units ≡ 32 → some none ≡ captureColumns tens units
+  unfolding captureColumns if_then_else_
   blank e f = rw (eq-eqb tens 32 e, eq-eqb units 32 f)
 
   module _ (e : tens ≡ 32) (f : units ≡ 32 → ⊥) where
-    pub one-digit : isDigit units ≡ true → some (some (units - 48)) ≡ capturesIn tens units
-    unfolding capturesIn if_then_else_
+    pub one-digit : isDigit units ≡ true → some (some (units - 48)) ≡ captureColumns tens units
+    unfolding captureColumns if_then_else_
     one-digit d = rw (eq-eqb tens 32 e, ne-eqb units 32 f, d)
 
-    pub no-digit : isDigit units ≡ false → none ≡ capturesIn tens units
-    unfolding capturesIn if_then_else_
+    pub no-digit : isDigit units ≡ false → none ≡ captureColumns tens units
+    unfolding captureColumns if_then_else_
     no-digit d = rw (eq-eqb tens 32 e, ne-eqb units 32 f, d) (tens-no-digit (blank-no-digit e))
 
-  pub two : (tens ≡ 32 → ⊥) → twoDigits tens units ≡ capturesIn tens units
-  unfolding capturesIn if_then_else_
+  pub two : (tens ≡ 32 → ⊥) → twoDigits tens units ≡ captureColumns tens units
+  unfolding captureColumns if_then_else_
   two e = rw (ne-eqb tens 32 e)
 
 -- ---- The kind
@@ -113,12 +113,12 @@ module _ (line : List ℕ) where
     pub too-short : length line < 5 → refused 30 0 ≡ lineAnswer line
     too-short s = cut (isDigit (byteAt line 1)) refl s
 
-    head : isDigit (byteAt line 1) ≡ true → byteAt line 4 ≡ 32 → checkWith (byteAt line 0) (capturesIn (byteAt line 2) (byteAt line 3)) ≡ headCheck line
+    head : isDigit (byteAt line 1) ≡ true → byteAt line 4 ≡ 32 → checkWith (byteAt line 0) (captureColumns (byteAt line 2) (byteAt line 3)) ≡ headCheck line
     unfolding headCheck if_then_else_
     head e f = rw (e, eq-eqb (byteAt line 4) 32 f)
 
     pub whole-head : isDigit (byteAt line 1) ≡ true → byteAt line 4 ≡ 32 → (named : Option Check) (version : ℕ) (a : Answer)
-        → named ≡ checkWith (byteAt line 0) (capturesIn (byteAt line 2) (byteAt line 3)) → version ≡ byteAt line 1 - 48
+        → named ≡ checkWith (byteAt line 0) (captureColumns (byteAt line 2) (byteAt line 3)) → version ≡ byteAt line 1 - 48
         → a ≡ bodyAnswer named version (take (length line - 5) (drop 5 line)) → a ≡ lineAnswer line
     whole-head e f named version a n v w =
         by-head a (w ∙ ap₂ (λ x y. bodyAnswer named x y) v (part-whole line 5) ∙ ap (λ x. bodyAnswer x (byteAt line 1 - 48) (drop 5 line)) (n ∙ head e f))

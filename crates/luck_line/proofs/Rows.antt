@@ -3,8 +3,8 @@
 use Prim.Native.Nat.{ℕ}
 use mathlib.Core.Path.{_≡_, refl}
 use lib.ListN.{length}
-use Rattle.luck_line.specs.Row.{justified, fourColumns, sevenColumns, row}
+use Rattle.luck_line.specs.Row.{justified, fourColumns, sevenColumns, listingRow}
 
-pub row-length : (number offset count : ℕ) → length (row number offset count) ≡ 19
-unfolding row fourColumns sevenColumns justified
+pub row-length : (number offset count : ℕ) → length (listingRow number offset count) ≡ 19
+unfolding listingRow fourColumns sevenColumns justified
 row-length number offset count = refl

@@ -20,20 +20,20 @@ abbrev pub isBlank : ℕ → Bool
 isBlank b = eqb b (code " ")
 
 -- the value of a byte that is a digit
-abbrev pub digit : ℕ → ℕ
-digit b = b - code "0"
+abbrev pub decimalDigit : ℕ → ℕ
+decimalDigit b = b - code "0"
 
 -- a count of two digits, up to the most captures that a pattern may have; a leading zero does not fit
 unfoldable pub twoDigits : ℕ → ℕ → Option (Option ℕ)
 twoDigits tens units =
-    let count = digit tens * 10 + digit units in
+    let count = decimalDigit tens * 10 + decimalDigit units in
     if isDigit tens && isDigit units && leb 10 count && leb count maxCaptures then some (some count) else none
 
 -- the captures of a replacement in their two columns, right-justified, blank where their count is not known; `none` where they do not fit
-unfoldable pub capturesIn : ℕ → ℕ → Option (Option ℕ)
-capturesIn tens units =
+unfoldable pub captureColumns : ℕ → ℕ → Option (Option ℕ)
+captureColumns tens units =
     if isBlank tens && isBlank units then some none
-    else if isBlank tens && isDigit units then some (some (digit units))
+    else if isBlank tens && isDigit units then some (some (decimalDigit units))
     else twoDigits tens units
 
 -- by the kind and the columns, which are blank but for G
@@ -45,7 +45,7 @@ checkWith kind (some (some count)) = if eqb kind (code "G") then checkOf kind (s
 -- by the head; a line of fewer than five bytes has no space at its fifth place, which reads as 0
 unfoldable pub headCheck : List ℕ → Option Check
 headCheck line =
-    let check = checkWith (byteAt line 0) (capturesIn (byteAt line 2) (byteAt line 3)) in
+    let check = checkWith (byteAt line 0) (captureColumns (byteAt line 2) (byteAt line 3)) in
     if isDigit (byteAt line 1) && isBlank (byteAt line 4) then check else none
 
 -- 30 where the head does not fit; else the check of the body, which gives 25 for a digit that is no version
@@ -56,7 +56,7 @@ bodyAnswer (some check) version body = answer check version body
 -- 31, 30, 25, then the body
 unfoldable pub lineAnswer : List ℕ → Answer
 lineAnswer line =
-    let body = bodyAnswer (headCheck line) (digit (byteAt line 1)) (drop 5 line) in
+    let body = bodyAnswer (headCheck line) (decimalDigit (byteAt line 1)) (drop 5 line) in
     if ltb longest (length line) then refused 31 0 else body
 
 -- the numbers of these answers: 31, 30, and those of the checks; packsize has all of a pack format's, and a replacement without captures all of the others'

@@ -27,8 +27,8 @@ fourColumns n = justified (1000 ∷ 100 ∷ 10 ∷ []) n
 unfoldable pub sevenColumns : ℕ → List ℕ
 sevenColumns n = justified (1000000 ∷ 100000 ∷ 10000 ∷ 1000 ∷ 100 ∷ 10 ∷ []) n
 
-unfoldable pub row : ℕ → ℕ → ℕ → List ℕ
-row number offset count = fourColumns number ++ (sevenColumns offset ++ (sevenColumns count ++ (newline ∷ [])))
+unfoldable pub listingRow : ℕ → ℕ → ℕ → List ℕ
+listingRow number offset count = fourColumns number ++ (sevenColumns offset ++ (sevenColumns count ++ (newline ∷ [])))
 
 abbrev pub answerRow : Answer → List ℕ
-answerRow a = row (a .number) (a .offset) (a .count)
+answerRow a = listingRow (a .number) (a .offset) (a .count)

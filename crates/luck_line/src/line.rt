@@ -2,7 +2,7 @@
 ghost use mathlib.Core.Path.{_≡_};
 ghost use Rattle.luck_answer.specs.Answer.{checkAnswer};
 ghost use Rattle.luck_linter.specs.Checks.{checkNamed};
-ghost use Rattle.luck_line.specs.Line.{digit as digitOf, twoDigits, capturesIn, checkWith, bodyAnswer, lineAnswer};
+ghost use Rattle.luck_line.specs.Line.{decimalDigit as digitOf, twoDigits, captureColumns, checkWith, bodyAnswer, lineAnswer};
 ghost use Rattle.luck_line.specs.Inner.{columnsOf};
 use luck_answer::answer;
 use luck_answer::answer::Answer;
@@ -53,7 +53,7 @@ fn two_digits(tens: u8, units: u8) -> Columns
 }
 
 fn read_columns(tens: u8, units: u8) -> Columns
-    ensures { λ r. ⌜ columnsOf r ≡ capturesIn tens units ⌝ }
+    ensures { λ r. ⌜ columnsOf r ≡ captureColumns tens units ⌝ }
 {
     if tens == b' ' {
         if units == b' ' {
@@ -69,7 +69,7 @@ fn read_columns(tens: u8, units: u8) -> Columns
 
 // The check that a head names by its kind and its columns, which are blank but for G.
 fn check_with(kind: u8, tens: u8, units: u8) -> Named
-    ensures { λ r. ⌜ checkNamed r ≡ checkWith kind (capturesIn tens units) ⌝ }
+    ensures { λ r. ⌜ checkNamed r ≡ checkWith kind (captureColumns tens units) ⌝ }
 {
     let found = read_columns(tens, units);
     match found {

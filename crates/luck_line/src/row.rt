@@ -2,7 +2,7 @@
 ghost use mathlib.Core.Path.{_≡_};
 ghost use Prim.Native.Nat.{_+_, _%_, _<_};
 ghost use Rattle.luck_answer.specs.Answer.{checkAnswer};
-ghost use Rattle.luck_line.specs.Row.{column, row, answerRow};
+ghost use Rattle.luck_line.specs.Row.{column, listingRow, answerRow};
 use luck_answer::answer::Answer;
 
 // The bytes of a row, its newline included.
@@ -27,7 +27,7 @@ fn last_column(n: u64) -> u8
 
 // Number, offset and count in 4, 7 and 7 columns.
 fn row_of(number: u64, offset: u64, count: u64) -> [u8; ROW]
-    ensures { λ r. ⌜ r ≡ row number offset count ⌝ }
+    ensures { λ r. ⌜ r ≡ listingRow number offset count ⌝ }
 {
     [
         column(1000, number),

@@ -13,7 +13,7 @@ use borrow.Author.Tests.{ltb-true, ltb-false, eqb-true, eqb-false}
 use Rattle.luck_text.specs.Bytes.{part}
 use Rattle.luck_text.proofs.Cases.{by-test, order}
 use Rattle.luck_line.specs.Line.{longest}
-use Rattle.luck_lines.specs.Stream.{lineLength, rowOf, Taken, taken, State, state, unended, feed, rowsAfter}
+use Rattle.luck_lines.specs.Stream.{lineLength, rowOf, Taken, taken, FeedState, feedState, unended, feed, rowsAfter}
 use Rattle.luck_lines.proofs.Listings.{after-line, after-long}
 use Rattle.luck_lines.proofs.Streams.{on, starts, at-end, no-newline, no-room, after, line-taken, line-inside, input-ends, rowOf-length}
 
@@ -36,36 +36,36 @@ same a b = go (eqb a b) refl
     go false e = inr (eqb-false a b e)
 
 -- What each turn hands back from the state after it to the state before it, a call has of the state that it begins in.
-module _ (input : List ℕ) (room : ℕ) (R : ℕ → State → Taken → Type 0)
-    (ended : (p : ℕ) (s : State) → p ≤ length input → p + lineLength (drop p input) ≡ length input → R p s (unended input p s))
-    (full : (p : ℕ) (written : List ℕ) (long : Bool) → room - length written < 19 → R p (state written long) (taken p written long))
+module _ (input : List ℕ) (room : ℕ) (R : ℕ → FeedState → Taken → Type 0)
+    (ended : (p : ℕ) (s : FeedState) → p ≤ length input → p + lineLength (drop p input) ≡ length input → R p s (unended input p s))
+    (full : (p : ℕ) (written : List ℕ) (long : Bool) → room - length written < 19 → R p (feedState written long) (taken p written long))
     (line : (p : ℕ) (written : List ℕ) (long : Bool) (h : p < length input) (n : p + lineLength (drop p input) ≡ length input → ⊥) (t : Taken)
-    → 19 ≤ room - length written → R (p + (lineLength (drop p input) + 1)) (after input room p written long h n) t → R p (state written long) t) where
-  module _ (p : ℕ) (further : (q : ℕ) (s : State) → p < q → q ≤ length input → R q s (on input room q s)) where
+    → 19 ≤ room - length written → R (p + (lineLength (drop p input) + 1)) (after input room p written long h n) t → R p (feedState written long) t) where
+  module _ (p : ℕ) (further : (q : ℕ) (s : FeedState) → p < q → q ≤ length input → R q s (on input room q s)) where
     by-room : (written : List ℕ) (long : Bool) → p < length input → (p + lineLength (drop p input) ≡ length input → ⊥)
-        → (room - length written < 19) ⊎ (19 ≤ room - length written) → R p (state written long) (on input room p (state written long))
-    by-room written long l n (inl r) = subst (R p (state written long)) (sym (no-room input room p written long l n r)) (full p written long r)
+        → (room - length written < 19) ⊎ (19 ≤ room - length written) → R p (feedState written long) (on input room p (feedState written long))
+    by-room written long l n (inl r) = subst (R p (feedState written long)) (sym (no-room input room p written long l n r)) (full p written long r)
     by-room written long l n (inr r) =
-        subst (R p (state written long)) (sym (line-taken input room p written long l n r))
+        subst (R p (feedState written long)) (sym (line-taken input room p written long l n r))
         (line p written long l n _ r
         (further (p + (lineLength (drop p input) + 1)) (after input room p written long l n) (omega arith) (omega (arith, line-inside input p (omega arith), n))))
 
-    by-newline : (s : State) → p < length input → (p + lineLength (drop p input) ≡ length input) ⊎ (p + lineLength (drop p input) ≡ length input → ⊥)
+    by-newline : (s : FeedState) → p < length input → (p + lineLength (drop p input) ≡ length input) ⊎ (p + lineLength (drop p input) ≡ length input → ⊥)
         → R p s (on input room p s)
     by-newline s l (inl e) = subst (R p s) (sym (no-newline input room p s l e)) (ended p s (omega arith) e)
     by-newline s l (inr n) = by-room (s .written) (s .long) l n (order (room - length (s .written)) 19)
 
-    by-place : (s : State) → (p < length input) ⊎ (length input ≤ p) → p ≤ length input → R p s (on input room p s)
+    by-place : (s : FeedState) → (p < length input) ⊎ (length input ≤ p) → p ≤ length input → R p s (on input room p s)
     by-place s (inl l) h = by-newline s l (same (p + lineLength (drop p input)) (length input))
     by-place s (inr l) h = subst (R p s) (sym (at-end input room p s l)) (ended p s h (omega (arith, input-ends input p l)))
 
   -- by the bytes that are left
-  by-left : (left p : ℕ) (s : State) → length input ≤ p + left → p ≤ length input → R p s (on input room p s)
+  by-left : (left p : ℕ) (s : FeedState) → length input ≤ p + left → p ≤ length input → R p s (on input room p s)
   by-left zero p s f h = by-place p (λ q t l g. absurd (omega arith)) s (order p (length input)) h
   by-left (suc left) p s f h = by-place p (λ q t l g. by-left left q t (omega arith) g) s (order p (length input)) h
 
-  pub every-call : (long : Bool) → R 0 (state [] long) (feed input room long)
-  every-call long = subst (R 0 (state [] long)) (starts input room long) (by-left (length input) 0 (state [] long) (omega arith) (omega arith))
+  pub every-call : (long : Bool) → R 0 (feedState [] long) (feed input room long)
+  every-call long = subst (R 0 (feedState [] long)) (starts input room long) (by-left (length input) 0 (feedState [] long) (omega arith) (omega arith))
 
 -- ---- The rows that are due
 
@@ -75,20 +75,20 @@ module _ (input rest : List ℕ) (room : ℕ) where
   due written long p = written ++ rowsAfter long (drop p input ++ rest)
 
   -- a state, and the answer that it leads to
-  abbrev Leads : ℕ → State → Taken → Type 0
+  abbrev Leads : ℕ → FeedState → Taken → Type 0
   Leads p s t = due (s .written) (s .long) p ≡ due (t .written) (t .long) (t .used)
 
-  ends-long : (p : ℕ) (s : State) → p ≤ length input → p + lineLength (drop p input) ≡ length input → (s .long || ltb longest (length input - p)) ≡ true
+  ends-long : (p : ℕ) (s : FeedState) → p ≤ length input → p + lineLength (drop p input) ≡ length input → (s .long || ltb longest (length input - p)) ≡ true
       → Leads p s (taken (length input) (s .written) true)
   ends-long p s h e t =
       ap (λ (x : List ℕ). s .written ++ x)
       (after-long (s .long) (drop p input) rest (omega (arith, e, length-drop p input)) (λ f. omega (arith, ltb-true longest (length input - p) (or-true _ _ t f), length-drop p input))
       ∙ ap (λ (x : List ℕ). rowsAfter true (x ++ rest)) (sym (drop-length input)))
 
-  ends-short : (p : ℕ) (s : State) → (s .long || ltb longest (length input - p)) ≡ false → Leads p s (taken p (s .written) false)
+  ends-short : (p : ℕ) (s : FeedState) → (s .long || ltb longest (length input - p)) ≡ false → Leads p s (taken p (s .written) false)
   ends-short p s t = ap (λ (x : Bool). due (s .written) x p) (or-false _ _ t .0)
 
-  ends-there : (p : ℕ) (s : State) → p ≤ length input → p + lineLength (drop p input) ≡ length input → Leads p s (unended input p s)
+  ends-there : (p : ℕ) (s : FeedState) → p ≤ length input → p + lineLength (drop p input) ≡ length input → Leads p s (unended input p s)
   unfolding unended
   ends-there p s h e = by-test (Leads p s) (s .long || ltb longest (length input - p)) _ _ (ends-long p s h e) (ends-short p s)
 
@@ -118,12 +118,12 @@ module _ (input : List ℕ) (room : ℕ) where
   at-the-end = omega (arith, input-ends input (length input) (omega arith), length-drop (length input) input)
 
   -- rows are only added; and where there was room for one and none was added, what is left is short and has no newline
-  abbrev Leaves : ℕ → State → Taken → Type 0
+  abbrev Leaves : ℕ → FeedState → Taken → Type 0
   Leaves p s t =
       (length (s .written) ≤ length (t .written))
       × (19 ≤ room - length (s .written) → length (t .written) ≡ length (s .written) → (length input - t .used ≤ 4005) × NoNewline (t .used))
 
-  short-left : (p : ℕ) (s : State) → p ≤ length input → p + lineLength (drop p input) ≡ length input → Leaves p s (unended input p s)
+  short-left : (p : ℕ) (s : FeedState) → p ≤ length input → p + lineLength (drop p input) ≡ length input → Leaves p s (unended input p s)
   unfolding unended
   short-left p s h e =
       by-test (Leaves p s) (s .long || ltb longest (length input - p)) _ _
@@ -144,10 +144,10 @@ module _ (input : List ℕ) (room : ℕ) where
       long .1 (omega arith) (ap length e)
 
   -- with room for a row for every byte, every line is taken
-  abbrev Clear : ℕ → State → Taken → Type 0
+  abbrev Clear : ℕ → FeedState → Taken → Type 0
   Clear p s t = 19 * (length input - p) + length (s .written) ≤ room → NoNewline (t .used)
 
-  clear-there : (p : ℕ) (s : State) → p ≤ length input → p + lineLength (drop p input) ≡ length input → Clear p s (unended input p s)
+  clear-there : (p : ℕ) (s : FeedState) → p ≤ length input → p + lineLength (drop p input) ≡ length input → Clear p s (unended input p s)
   unfolding unended
   clear-there p s h e =
       by-test (Clear p s) (s .long || ltb longest (length input - p)) _ _ (λ t r. at-the-end) (λ t r. omega (arith, e, length-drop p input))

@@ -21,7 +21,7 @@ use Rattle.luck_text.proofs.Neither.{neither-first}
 use Rattle.luck_answer.specs.Answer.{refused}
 use Rattle.luck_line.specs.Line.{longest, lineAnswer}
 use Rattle.luck_line.specs.Row.{answerRow}
-use Rattle.luck_lines.specs.Stream.{lineLength, rowOf, Taken, taken, State, state, unended, lineTurn, feedTurn, feed, finish, fedOf}
+use Rattle.luck_lines.specs.Stream.{lineLength, rowOf, Taken, taken, FeedState, feedState, unended, lineTurn, feedTurn, feed, finish, fedOf}
 use Rattle.luck_lines.specs.Inner.{unendedAt}
 use Rattle.luck_lines.specs.declared.stream.Fed.{Fed}
 use Rattle.luck_line.proofs.Heads.{part-whole}
@@ -86,49 +86,49 @@ fed-if false x y = refl
 
 module _ (input : List ℕ) (room : ℕ) where
   -- what the whole call gives, from place p on
-  abbrev pub on : ℕ → State → Taken
+  abbrev pub on : ℕ → FeedState → Taken
   on p s = walkFrom (feedTurn input room) (unended input) (length input) p s
 
-  pub starts : (long : Bool) → on 0 (state [] long) ≡ feed input room long
+  pub starts : (long : Bool) → on 0 (feedState [] long) ≡ feed input room long
   unfolding feed
   starts long = refl
 
-  pub at-end : (p : ℕ) (s : State) → length input ≤ p → on p s ≡ unended input p s
+  pub at-end : (p : ℕ) (s : FeedState) → length input ≤ p → on p s ≡ unended input p s
   at-end p s h = walk-end (feedTurn input room) (unended input) (length input) p s h
 
-  turn-none : (p : ℕ) (s : State) → p + lineLength (drop p input) ≡ length input → feedTurn input room p s ≡ stop (unended input p s)
+  turn-none : (p : ℕ) (s : FeedState) → p + lineLength (drop p input) ≡ length input → feedTurn input room p s ≡ stop (unended input p s)
   unfolding feedTurn if_then_else_
   turn-none p s e = rw (eq-eqb (p + lineLength (drop p input)) (length input) e)
 
-  pub no-newline : (p : ℕ) (s : State) → p < length input → p + lineLength (drop p input) ≡ length input → on p s ≡ unended input p s
+  pub no-newline : (p : ℕ) (s : FeedState) → p < length input → p + lineLength (drop p input) ≡ length input → on p s ≡ unended input p s
   no-newline p s h e = walk-stop (feedTurn input room) (unended input) (length input) p s (unended input p s) h (turn-none p s e)
 
   module _ (p : ℕ) (written : List ℕ) (long : Bool) (h : p < length input) (n : p + lineLength (drop p input) ≡ length input → ⊥) where
-    turn-full : room - length written < 19 → feedTurn input room p (state written long) ≡ stop (taken p written long)
+    turn-full : room - length written < 19 → feedTurn input room p (feedState written long) ≡ stop (taken p written long)
     unfolding feedTurn lineTurn if_then_else_
     turn-full r = rw (ne-eqb (p + lineLength (drop p input)) (length input) n, lt-ltb (room - length written) 19 r)
 
-    pub no-room : room - length written < 19 → on p (state written long) ≡ taken p written long
-    no-room r = walk-stop (feedTurn input room) (unended input) (length input) p (state written long) _ h (turn-full r)
+    pub no-room : room - length written < 19 → on p (feedState written long) ≡ taken p written long
+    no-room r = walk-stop (feedTurn input room) (unended input) (length input) p (feedState written long) _ h (turn-full r)
 
     -- the state after a line that is taken
-    abbrev pub after : State
-    after = state (written ++ rowOf long (part input p (p + lineLength (drop p input)))) false
+    abbrev pub after : FeedState
+    after = feedState (written ++ rowOf long (part input p (p + lineLength (drop p input)))) false
 
-    turn-line : 19 ≤ room - length written → feedTurn input room p (state written long) ≡ goes (lineLength (drop p input) + 1) after
+    turn-line : 19 ≤ room - length written → feedTurn input room p (feedState written long) ≡ goes (lineLength (drop p input) + 1) after
     unfolding feedTurn lineTurn if_then_else_
     turn-line r = rw (ne-eqb (p + lineLength (drop p input)) (length input) n, le-ltb (room - length written) 19 r)
 
-    pub line-taken : 19 ≤ room - length written → on p (state written long) ≡ on (p + (lineLength (drop p input) + 1)) after
+    pub line-taken : 19 ≤ room - length written → on p (feedState written long) ≡ on (p + (lineLength (drop p input) + 1)) after
     line-taken r =
         let i = line-inside input p (omega arith) in
-        walk-goes (feedTurn input room) (unended input) (length input) p (state written long) (lineLength (drop p input) + 1) after (omega arith) (omega (arith, i, n)) (turn-line r)
+        walk-goes (feedTurn input room) (unended input) (length input) p (feedState written long) (lineLength (drop p input) + 1) after (omega arith) (omega (arith, i, n)) (turn-line r)
 
-  pub unended-written : (p : ℕ) (s : State) → unended input p s .written ≡ s .written
+  pub unended-written : (p : ℕ) (s : FeedState) → unended input p s .written ≡ s .written
   unfolding unended
   unended-written p s = by-test (λ (t : Taken). t .written ≡ s .written) (s .long || ltb longest (length input - p)) _ _ (λ e. refl) (λ e. refl)
 
-  pub unended-fed : (p w : ℕ) (s : State) → w ≡ length (s .written) → unendedAt (length input) p w (s .long) ≡ fedOf (unended input p s)
+  pub unended-fed : (p w : ℕ) (s : FeedState) → w ≡ length (s .written) → unendedAt (length input) p w (s .long) ≡ fedOf (unended input p s)
   unfolding unended
   unended-fed p w s e = ap (λ (x : ℕ). unendedAt (length input) p x (s .long)) e ∙ fed-if (s .long || ltb longest (length input - p)) _ _
 
@@ -164,7 +164,7 @@ as-written out first written w h e f =
 
 module _ (input first out : List ℕ) (p w : ℕ) (start long : Bool)
     (inside : p ≤ length input) (fits : w ≤ length out) (same : length out ≡ length first) (kept : drop w out ≡ drop w first)
-    (whole : on input (length first) p (state (take w out) long) ≡ feed input (length first) start) where
+    (whole : on input (length first) p (feedState (take w out) long) ≡ feed input (length first) start) where
   -- what is promised of an answer
   abbrev pub Answered : Fed → Type 0
   Answered r =
@@ -180,15 +180,15 @@ module _ (input first out : List ℕ) (p w : ℕ) (start long : Bool)
   wrote-inside : unendedAt (length input) p w long .wrote ≤ length first
   wrote-inside = by-test (λ (x : Fed). x .wrote ≤ length first) (long || ltb longest (length input - p)) _ _ (λ e. omega arith) (λ e. omega arith)
 
-  pub nothing-ends : (r : Fed) → r ≡ unendedAt (length input) p w long → on input (length first) p (state (take w out) long) ≡ unended input p (state (take w out) long) → Answered r
+  pub nothing-ends : (r : Fed) → r ≡ unendedAt (length input) p w long → on input (length first) p (feedState (take w out) long) ≡ unended input p (feedState (take w out) long) → Answered r
   nothing-ends r e f =
-      answered r (unended input p (state (take w out) long)) (sym f ∙ whole)
-      (e ∙ unended-fed input (length first) p w (state (take w out) long) (sym (length-take-le w out fits)))
-      (unended-written input (length first) p (state (take w out) long))
+      answered r (unended input p (feedState (take w out) long)) (sym f ∙ whole)
+      (e ∙ unended-fed input (length first) p w (feedState (take w out) long) (sym (length-take-le w out fits)))
+      (unended-written input (length first) p (feedState (take w out) long))
       (subst (λ (x : Fed). x .used ≤ length input) (sym e) used-inside)
       (subst (λ (x : Fed). x .wrote ≤ length first) (sym e) wrote-inside)
 
-  pub is-full : on input (length first) p (state (take w out) long) ≡ taken p (take w out) long → Answered (record { used = p; wrote = w; long = long })
+  pub is-full : on input (length first) p (feedState (take w out) long) ≡ taken p (take w out) long → Answered (record { used = p; wrote = w; long = long })
   is-full f =
       answered _ (taken p (take w out) long) (sym f ∙ whole)
       (ap (λ (n : ℕ). record { used = p; wrote = n; long = long }) (sym (length-take-le w out fits)))
@@ -210,10 +210,10 @@ module _ (input first out : List ℕ) (p w : ℕ) (start long : Bool)
     pub line-kept : drop (w + 19) (putMid w (length out - w) out row) ≡ drop (w + 19) first
     line-kept = rest-kept out row w 19 fits row-fits first kept (ap (drop 19) put ∙ drop-at (rowOf long (part input p end)) _ 19 row-19)
 
-    pub line-on : on input (length first) (end + 1) (state (take (w + 19) (putMid w (length out - w) out row)) false) ≡ feed input (length first) start
+    pub line-on : on input (length first) (end + 1) (feedState (take (w + 19) (putMid w (length out - w) out row)) false) ≡ feed input (length first) start
     line-on =
         let q : end + 1 ≡ p + (lineLength (drop p input) + 1) = omega (arith, e) in
-        ap₂ (λ (x : ℕ) (y : List ℕ). on input (length first) x (state y false)) q (line-put ∙ ap (λ (x : ℕ). take w out ++ rowOf long (part input p x)) e)
+        ap₂ (λ (x : ℕ) (y : List ℕ). on input (length first) x (feedState y false)) q (line-put ∙ ap (λ (x : ℕ). take w out ++ rowOf long (part input p x)) e)
         ∙ sym (line-taken input (length first) p (take w out) long h (λ x. n (e ∙ x)) (omega (arith, length-take-le w out fits)))
         ∙ whole
 

@@ -9,13 +9,13 @@ use lib.ListN.{replicate}
 use Rattle.luck_text.specs.Bytes.{ascii, if_then_else_, among}
 use Rattle.luck_answer.specs.Answer.{refused}
 use Rattle.luck_linter.specs.Computed.{computed as checksComputed}
-use Rattle.luck_line.specs.Line.{lineNumbers, twoDigits, capturesIn, checkWith, headCheck, bodyAnswer, lineAnswer}
-use Rattle.luck_line.specs.Row.{newline, column, justified, fourColumns, sevenColumns, row}
+use Rattle.luck_line.specs.Line.{lineNumbers, twoDigits, captureColumns, checkWith, headCheck, bodyAnswer, lineAnswer}
+use Rattle.luck_line.specs.Row.{newline, column, justified, fourColumns, sevenColumns, listingRow}
 use Rattle.luck_lines.specs.Lines.{lastLine, linesFrom, lines, rows, listing}
 
 -- what is computed
 unfoldable pub computed : Unit {0}
-unfolding checksComputed twoDigits capturesIn checkWith headCheck bodyAnswer lineAnswer column justified fourColumns sevenColumns row lastLine linesFrom lines rows listing
+unfolding checksComputed twoDigits captureColumns checkWith headCheck bodyAnswer lineAnswer column justified fourColumns sevenColumns listingRow lastLine linesFrom lines rows listing
 computed = tt
 
 abbrev line : List ℕ → List ℕ → List ℕ

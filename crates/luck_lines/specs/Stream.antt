@@ -37,33 +37,33 @@ pub record Taken : Type 0 where
 abbrev pub taken : ℕ → List ℕ → Bool → Taken
 taken used written long = record { used = used; written = written; long = long }
 
-pub record State : Type 0 where
+pub record FeedState : Type 0 where
   pub written : List ℕ
   pub long : Bool
 
-abbrev pub state : List ℕ → Bool → State
-state written long = record { written = written; long = long }
+abbrev pub feedState : List ℕ → Bool → FeedState
+feedState written long = record { written = written; long = long }
 
 -- no newline is left after place p: what there is stays for the next call, unless the line is too long already
-unfoldable pub unended : List ℕ → ℕ → State → Taken
+unfoldable pub unended : List ℕ → ℕ → FeedState → Taken
 unended input p s =
     if s .long || ltb longest (length input - p) then taken (length input) (s .written) true else taken p (s .written) false
 
 module _ (input : List ℕ) (room : ℕ) where
   -- a line of n bytes, which ends in the input: it is taken if there is room for its row
-  unfoldable pub lineTurn : ℕ → State → ℕ → Turn State Taken
+  unfoldable pub lineTurn : ℕ → FeedState → ℕ → Turn FeedState Taken
   lineTurn p s n =
       if ltb (room - length (s .written)) rowLength then stop (taken p (s .written) (s .long))
-      else goes (n + 1) (state (s .written ++ rowOf (s .long) (part input p (p + n))) false)
+      else goes (n + 1) (feedState (s .written ++ rowOf (s .long) (part input p (p + n))) false)
 
-  unfoldable pub feedTurn : ℕ → State → Turn State Taken
+  unfoldable pub feedTurn : ℕ → FeedState → Turn FeedState Taken
   feedTurn p s =
       let n = lineLength (drop p input) in
       if eqb (p + n) (length input) then stop (unended input p s) else lineTurn p s n
 
   -- whole lines from the front, while there is room
   unfoldable pub feed : Bool → Taken
-  feed long = walkFrom feedTurn (unended input) (length input) 0 (state [] long)
+  feed long = walkFrom feedTurn (unended input) (length input) 0 (feedState [] long)
 
 -- the end of the input: what is left, with no newline in it, is a last line that lacks its newline; its row is written if there is anything and room for it
 unfoldable pub finish : Bool → List ℕ → ℕ → List ℕ

@@ -1,15 +1,14 @@
 -- A check is what comes before every check and then its walk; its answer's number is one of its list, its offset and its count are at most the text's length.
 -- Assumes nothing.
 use Prim.Native.Nat.{ℕ}
-use mathlib.Core.Path.{_≡_, refl, sym, ap, subst, _∙_}
+use mathlib.Core.Path.{_≡_, refl, sym, subst}
 use mathlib.Core.Bool.{true, false}
 use mathlib.Core.List.{List}
 use lib.ListN.{length}
 use Rattle.luck_text.specs.Bytes.{among}
 use Rattle.luck_token.specs.Version.{rulesOf}
 use Rattle.luck_token.specs.declared.version.Rules.{Rules}
-use Rattle.luck_answer.specs.Answer.{Answer, textAnswer, checkText}
-use Rattle.luck_answer.specs.declared.format_pattern.Text.{Text}
+use Rattle.luck_answer.specs.Answer.{checkText}
 use Rattle.luck_pattern.specs.Pattern.{checkPatternAs, checkPattern}
 use Rattle.luck_replacement.specs.Replacement.{isStrict, checkReplacement}
 use Rattle.luck_format.specs.Format.{checkFormat}
@@ -30,14 +29,6 @@ whole-check pattern version text = refl
 whole-check date version text = refl
 whole-check (replacement captures) version text = refl
 whole-check (pack packsize) version text = refl
-
--- by what was read of the text
-pub by-text : (check : Check) (version : ℕ) (text : List ℕ) (read variant : Text) (a : Answer)
-    → ((walked : Answer) → textAnswer read walked ≡ checkText version text walked) → read ≡ variant
-    → a ≡ textAnswer variant (walkOf check (rulesOf version) text) → a ≡ answer check version text
-by-text check version text read variant a reads is e =
-    let walked = walkOf check (rulesOf version) text in
-    e ∙ ap (λ t. textAnswer t walked) (sym is) ∙ reads walked ∙ sym (whole-check check version text)
 
 pub walk-bounded : (check : Check) (rules : Rules) (body : List ℕ) → Walked (length body) (numbers check) (walkOf check rules body)
 unfolding walkOf

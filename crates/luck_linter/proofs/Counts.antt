@@ -6,16 +6,14 @@ use native.Mathlib.Omega.{arith}
 use mathlib.Core.Path.{_≡_, refl, sym}
 use mathlib.Core.Bool.{Bool, true, false, not, _&&_, _||_}
 use mathlib.Core.List.{List, [], _∷_}
-use mathlib.Core.Option.{Option, none, some}
 use lib.ListN.{length}
 use lib.Dec.{eqb}
 use borrow.Author.Tests.{ne-eqb}
 use Rattle.luck_text.specs.Bytes.{among}
 use Rattle.luck_text.specs.Walk.{Turn, stop, goes, walk, walkFrom}
-use Rattle.luck_text.proofs.Cases.{by-test, and-left, and-right, both-true}
-use Rattle.luck_token.specs.Version.{isVersion}
-use Rattle.luck_utf8.specs.Utf8.{illFormed}
-use Rattle.luck_answer.specs.Answer.{Answer, afterVersion, afterUtf8, checkText}
+use Rattle.luck_text.proofs.Cases.{and-left, and-right, both-true}
+use Rattle.luck_answer.specs.Answer.{Answer, checkText}
+use Rattle.luck_answer.proofs.Texts.{in-any-case}
 use Rattle.luck_answer.proofs.Answers.{isWhole, check-fits}
 
 -- ---- A walk
@@ -84,22 +82,10 @@ module _ (len : ℕ) (numbers : List ℕ) (a : Answer) (h : Walked len numbers a
   unfolding among
   walked-own n = own-numbers (eqb (a .number) 0) (eqb (a .number) 23) (eqb (a .number) 25) (eqb (a .number) 30) (ne-eqb (a .number) 0 n) own
 
-module _ (text : List ℕ) (numbers : List ℕ) (has-23 : among 23 numbers ≡ true) (has-25 : among 25 numbers ≡ true) where
-  abbrev CountIn : Answer → Type 0
-  CountIn answer = answer .count ≤ length text
-
-  after-counts : (place : Option ℕ) (walked : Answer) → CountIn walked → CountIn (afterUtf8 place walked)
-  unfolding afterUtf8
-  after-counts none walked h = h
-  after-counts (some p) walked h = omega arith
-
-  text-counts : (version : ℕ) (walked : Answer) → CountIn walked → CountIn (checkText version text walked)
-  unfolding checkText afterVersion
-  text-counts version walked h = by-test CountIn (isVersion version) _ _ (λ _. after-counts (illFormed text) walked h) (λ _. omega arith)
-
-  -- a check's answer, if its walk's is
-  pub check-bounded : (version : ℕ) (walked : Answer) → Walked (length text) numbers walked → Bounded (length text) numbers (checkText version text walked)
-  check-bounded version walked w =
-      let h = walked-bounded (length text) numbers walked w in
-      let fits = check-fits text numbers has-23 has-25 version walked (h .0, h .1) in
-      (fits .0, fits .1, text-counts version walked (h .2))
+-- a check's answer is bounded, if its walk's is
+pub check-bounded : (text numbers : List ℕ) → among 23 numbers ≡ true → among 25 numbers ≡ true → (version : ℕ) (walked : Answer)
+    → Walked (length text) numbers walked → Bounded (length text) numbers (checkText version text walked)
+check-bounded text numbers has-23 has-25 version walked w =
+    let h = walked-bounded (length text) numbers walked w in
+    let fits = check-fits text numbers has-23 has-25 version walked (h .0, h .1) in
+    (fits .0, fits .1, in-any-case version text walked (λ (a : Answer). a .count ≤ length text) (omega arith) (λ place i. omega arith) (h .2))

@@ -17,7 +17,7 @@ use Rattle.luck_linter.specs.Checks.{pack, numbers}
 use Rattle.luck_linter.proofs.Counts.{Counts, walk-counts, Walked}
 use Rattle.luck_pack.specs.Pack.{
   PackOption,
-  Read,
+  OptionRead,
   option,
   fault,
   getnumlimit,
@@ -37,8 +37,8 @@ use Rattle.luck_pack.specs.Pack.{
   Kpaddalign,
   Knop,
   kindOf,
-  State,
-  state,
+  PackState,
+  packState,
   aligned,
   variable,
   alignBy,
@@ -52,7 +52,7 @@ use Rattle.luck_pack.specs.Pack.{
   packWalk,
 }
 
-abbrev valuesOf : State → ℕ
+abbrev valuesOf : PackState → ℕ
 valuesOf s = s .values
 
 -- the numbers of a pack format are among those of packsize, too
@@ -65,7 +65,7 @@ module _ (packsize : Bool) (text : List ℕ) where
   abbrev Placed : Answer → Type 0
   Placed a = Walked (length text) (numbers (pack packsize)) a
 
-  abbrev Reads : Read → Type 0
+  abbrev Reads : OptionRead → Type 0
   Reads (option o width) = Unit {0}
   Reads (fault a) = Placed a
 
@@ -89,18 +89,18 @@ module _ (packsize : Bool) (text : List ℕ) where
       by-test Reads _ _ _ (λ _. (h, also packsize 15 refl, omega arith))
       (λ e. by-test Reads _ _ _ (λ _. tt) (λ _. numbered-placed p (leb-false (length text) p e)))
 
-  module _ (p : ℕ) (h : p < length text) (s : State) where
-    abbrev Steps : Turn State Answer → Type 0
+  module _ (p : ℕ) (h : p < length text) (s : PackState) where
+    abbrev Steps : Turn PackState Answer → Type 0
     Steps t = Counts valuesOf Placed (valuesOf s) t
 
     here : p ≤ length text
     here = omega arith
 
-    aligned-placed : (width size : ℕ) (after : State) → valuesOf after ≤ valuesOf s + 1 → Steps (aligned p width size s after)
+    aligned-placed : (width size : ℕ) (after : PackState) → valuesOf after ≤ valuesOf s + 1 → Steps (aligned p width size s after)
     unfolding aligned among
     aligned-placed width size after c = by-test Steps _ _ _ (λ _. (here, also packsize 17 refl, omega arith)) (λ _. c)
 
-    variable-placed : (t : Turn State Answer) → Steps t → Steps (variable packsize text p t)
+    variable-placed : (t : Turn PackState Answer) → Steps t → Steps (variable packsize text p t)
     unfolding variable among
     variable-placed t r = by-test Steps _ _ _ (λ e. (here, rw e, omega arith)) (λ _. r)
 
@@ -109,7 +109,7 @@ module _ (packsize : Bool) (text : List ℕ) where
     align-placed width (some size) = aligned-placed (1 + width) size s (omega arith)
     align-placed width none = (omega arith, also packsize 14 refl, omega arith)
 
-    next-placed : (next : Read) → Reads next → Steps (alignToNext luckSize text p s next)
+    next-placed : (next : OptionRead) → Reads next → Steps (alignToNext luckSize text p s next)
     unfolding alignToNext
     next-placed (option o width) r = align-placed width (alignmentOf luckSize (kindOf (o .letter)) o)
     next-placed (fault a) r = r
@@ -128,7 +128,7 @@ module _ (packsize : Bool) (text : List ℕ) where
     kind-placed width o Kpaddalign = next-placed (getoption text (p + 1)) (option-placed (p + 1) (omega arith))
     kind-placed width o Knop = omega arith
 
-    step-placed : (read : Read) → Reads read → Steps (optionTurn luckSize packsize text p s read)
+    step-placed : (read : OptionRead) → Reads read → Steps (optionTurn luckSize packsize text p s read)
     unfolding optionTurn
     step-placed (option o width) r = kind-placed width o (kindOf (o .letter))
     step-placed (fault a) r = r
@@ -137,10 +137,10 @@ module _ (packsize : Bool) (text : List ℕ) where
     unfolding packTurn
     item-placed = step-placed (getoption text p) (option-placed p here)
 
-  end-placed : (p : ℕ) (s : State) → valuesOf s ≤ length text → Placed (packEnd p s)
+  end-placed : (p : ℕ) (s : PackState) → valuesOf s ≤ length text → Placed (packEnd p s)
   unfolding packEnd among
   end-placed p s h = (omega arith, also packsize 0 refl, h)
 
   pub pack-bounded : Walked (length text) (numbers (pack packsize)) (packWalk packsize text)
   unfolding packWalk
-  pack-bounded = walk-counts (packTurn luckSize packsize text) packEnd (length text) valuesOf Placed (λ p s h. item-placed p h s) end-placed (state 0 1) refl
+  pack-bounded = walk-counts (packTurn luckSize packsize text) packEnd (length text) valuesOf Placed (λ p s h. item-placed p h s) end-placed (packState 0 1) refl

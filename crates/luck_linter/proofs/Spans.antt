@@ -11,11 +11,11 @@ use lib.Dec.{eqb}
 use borrow.Author.Tests.{eqb-false}
 use Rattle.luck_text.specs.Bytes.{among}
 use Rattle.luck_text.proofs.Cases.{by-test}
-use Rattle.luck_token.specs.Version.{isVersion, rulesOf}
+use Rattle.luck_token.specs.Version.{rulesOf}
 use Rattle.luck_token.specs.declared.version.Rules.{Rules}
 use Rattle.luck_token.specs.declared.span.Span.{Span}
-use Rattle.luck_utf8.specs.Utf8.{illFormed}
-use Rattle.luck_answer.specs.Answer.{Answer, accepted, refused, afterUtf8, afterVersion, checkText}
+use Rattle.luck_answer.specs.Answer.{Answer, accepted, refused, checkText}
+use Rattle.luck_answer.proofs.Texts.{in-any-case}
 use Rattle.luck_linter.specs.Checks.{Check, checkOf, walkOf, numbers}
 use Rattle.luck_linter.specs.StringLiteral.{LiteralAnswer, skippedAnswer, unspanned, spannedAnswer, spanAt, withSpan, bodyOf, checkBody, checkShort, checkNamedLiteral, checkLiteral}
 use Rattle.luck_linter.proofs.Counts.{walked-own}
@@ -70,15 +70,10 @@ module _ (check : Check) (start : ℕ) where
   short-marked rules text = by-test Marked _ _ _ (λ _. body-marked rules (bodyOf text)) (λ _. skipped-marked)
 
 -- what comes before every check
-after-spanless : (place : Option ℕ) → among (afterUtf8 place (accepted 0) .number) spanless ≡ true
-unfolding afterUtf8 among
-after-spanless none = refl
-after-spanless (some p) = refl
-
 tested-spanless : (version : ℕ) (text : List ℕ) → among (checkText version text (accepted 0) .number) spanless ≡ true
-unfolding checkText afterVersion among
+unfolding among
 tested-spanless version text =
-    by-test (λ (a : Answer). among (a .number) spanless ≡ true) (isVersion version) _ _ (λ _. after-spanless (illFormed text)) (λ _. refl)
+    in-any-case version text (accepted 0) (λ (a : Answer). among (a .number) spanless ≡ true) refl (λ place h. refl) refl
 
 named-marked : (named : Option Check) (start version : ℕ) (text : List ℕ) → Marked (checkNamedLiteral named version start text)
 unfolding checkNamedLiteral among

@@ -21,7 +21,7 @@ use Rattle.luck_text.proofs.Walk.{walk-end, walk-stop, walk-goes}
 use Rattle.luck_answer.specs.Answer.{Answer, refused}
 use Rattle.luck_pack.specs.Pack.{
   PackOption,
-  Read,
+  OptionRead,
   option,
   fault,
   getnumlimit,
@@ -29,8 +29,8 @@ use Rattle.luck_pack.specs.Pack.{
   limitedLetters,
   numberedOption,
   getoption,
-  Placed,
-  placed,
+  PlacedOption,
+  placedOption,
   optionsUpTo,
   optionsFrom,
   options,
@@ -49,8 +49,8 @@ use Rattle.luck_pack.specs.Pack.{
   kindOf,
   luckSize,
   maxalign,
-  State,
-  state,
+  PackState,
+  packState,
   oneMore,
   aligned,
   variable,
@@ -95,7 +95,7 @@ isPaddalign Kpaddalign = true
 isPaddalign Knop = false
 
 -- those of a list, whose first option is the one that an `X` reads, or not
-unfoldable pub values : Bool → List Placed → ℕ
+unfoldable pub values : Bool → List PlacedOption → ℕ
 values behind [] = 0
 values true (first ∷ more) = values false more
 values false (first ∷ more) = let kind = kindOf (first .read .letter) in valuesOf kind + values (isPaddalign kind) more
@@ -114,7 +114,7 @@ fixed-letter = refl
 module _ (text : List ℕ) where
   module _ (p : ℕ) where
     -- an option lies in the text, and `X` is one byte; a fault is a refusal
-    abbrev Inside : Read → Type 0
+    abbrev Inside : OptionRead → Type 0
     Inside (option o width) = (0 < width) × (p + width ≤ length text) × (isPaddalign (kindOf (o .letter)) ≡ true → width ≡ 1)
     Inside (fault answer) = answer .number ≡ 0 → ⊥
 
@@ -157,7 +157,7 @@ module _ (text : List ℕ) where
 
   -- ---- The list
 
-  up-to-next : (n p : ℕ) (o : PackOption) (width : ℕ) → getoption text p ≡ option o width → optionsUpTo (suc n) text p ≡ placed p o ∷ optionsUpTo n text (p + width)
+  up-to-next : (n p : ℕ) (o : PackOption) (width : ℕ) → getoption text p ≡ option o width → optionsUpTo (suc n) text p ≡ placedOption p o ∷ optionsUpTo n text (p + width)
   unfolding optionsUpTo
   up-to-next n p o width e = rw (e, optionsUpTo)
 
@@ -176,19 +176,19 @@ module _ (text : List ℕ) where
       up-to-fault (suc n) p (refused 15 p) e ∙ sym (up-to-fault zero p (refused 15 p) e)
   up-to-same (suc n) (suc m) p h g = go (λ width l. up-to-same n m (p + width) (omega arith) (omega arith)) (getoption text p) refl
     where
-      go : ((width : ℕ) → 0 < width → optionsUpTo n text (p + width) ≡ optionsUpTo m text (p + width)) → (r : Read) → getoption text p ≡ r
+      go : ((width : ℕ) → 0 < width → optionsUpTo n text (p + width) ≡ optionsUpTo m text (p + width)) → (r : OptionRead) → getoption text p ≡ r
           → optionsUpTo (suc n) text p ≡ optionsUpTo (suc m) text p
       go rest (option o width) e =
-          up-to-next n p o width e ∙ ap (λ (more : List Placed). placed p o ∷ more) (rest width (option-inside p o width e .0)) ∙ sym (up-to-next m p o width e)
+          up-to-next n p o width e ∙ ap (λ (more : List PlacedOption). placedOption p o ∷ more) (rest width (option-inside p o width e .0)) ∙ sym (up-to-next m p o width e)
       go rest (fault answer) e = up-to-fault (suc n) p answer e ∙ sym (up-to-fault (suc m) p answer e)
 
-  pub options-next : (p : ℕ) (o : PackOption) (width : ℕ) → getoption text p ≡ option o width → optionsFrom text p ≡ placed p o ∷ optionsFrom text (p + width)
+  pub options-next : (p : ℕ) (o : PackOption) (width : ℕ) → getoption text p ≡ option o width → optionsFrom text p ≡ placedOption p o ∷ optionsFrom text (p + width)
   unfolding optionsFrom
   options-next p o width e =
       let i = option-inside p o width e in
       let n : length text - p ≡ suc (length text - suc p) = omega (arith, i .0, i .1) in
       ap (λ (k : ℕ). optionsUpTo k text p) n ∙ up-to-next (length text - suc p) p o width e
-      ∙ ap (λ (more : List Placed). placed p o ∷ more) (up-to-same (length text - suc p) (length text - (p + width)) (p + width) (omega (arith, i .0)) (omega arith))
+      ∙ ap (λ (more : List PlacedOption). placedOption p o ∷ more) (up-to-same (length text - suc p) (length text - (p + width)) (p + width) (omega (arith, i .0)) (omega arith))
 
   pub options-fault : (p : ℕ) (answer : Answer) → getoption text p ≡ fault answer → optionsFrom text p ≡ []
   unfolding optionsFrom
@@ -210,16 +210,16 @@ module _ (text : List ℕ) where
 
   module _ (packsize : Bool) where
     -- a turn that goes on keeps the sum of the values so far and those of the list; one that stops refuses
-    module _ (p : ℕ) (s : State) where
-      abbrev Keeps : Turn State Answer → Type 0
+    module _ (p : ℕ) (s : PackState) where
+      abbrev Keeps : Turn PackState Answer → Type 0
       Keeps (stop answer) = answer .number ≡ 0 → ⊥
       Keeps (goes width after) = (0 < width) × (p + width ≤ length text) × (s .values + count false p ≡ after .values + count false (p + width))
 
-      aligned-keeps : (width size : ℕ) (after : State) → Keeps (goes width after) → Keeps (aligned p width size s after)
+      aligned-keeps : (width size : ℕ) (after : PackState) → Keeps (goes width after) → Keeps (aligned p width size s after)
       unfolding aligned
       aligned-keeps width size after k = by-test Keeps _ _ _ (λ _ z. omega (arith, z)) (λ _. k)
 
-      variable-keeps : (step : Turn State Answer) → Keeps step → Keeps (variable packsize text p step)
+      variable-keeps : (step : Turn PackState Answer) → Keeps step → Keeps (variable packsize text p step)
       unfolding variable
       variable-keeps step k = by-test Keeps _ _ _ (λ _ z. omega (arith, z)) (λ _. k)
 
@@ -230,7 +230,7 @@ module _ (text : List ℕ) where
 
       module _ (o : PackOption) (width : ℕ) (e : getoption text p ≡ option o width) where
         -- `X` at p, before what stands at p + 1
-        next-keeps : kindOf (o .letter) ≡ Kpaddalign → (next : Read) → getoption text (p + 1) ≡ next → Keeps (alignToNext luckSize text p s next)
+        next-keeps : kindOf (o .letter) ≡ Kpaddalign → (next : OptionRead) → getoption text (p + 1) ≡ next → Keeps (alignToNext luckSize text p s next)
         unfolding alignToNext valuesOf isPaddalign
         next-keeps k (option after w) f =
             let one : width ≡ 1 = option-inside p o width e .2 (ap isPaddalign k) in
@@ -245,7 +245,7 @@ module _ (text : List ℕ) where
         with-value : count false p ≡ 1 + count false (p + width) → Keeps (goes width (oneMore s))
         with-value c = let i = option-inside p o width e in (i .0, i .1, omega (arith, c))
 
-        without : count false p ≡ 0 + count false (p + width) → (largest : ℕ) → Keeps (goes width (state (s .values) largest))
+        without : count false p ≡ 0 + count false (p + width) → (largest : ℕ) → Keeps (goes width (packState (s .values) largest))
         without c largest = let i = option-inside p o width e in (i .0, i .1, omega (arith, c))
 
         kind-keeps : (kind : KOption) → kindOf (o .letter) ≡ kind → Keeps (kindTurn luckSize packsize text p s width o kind)
@@ -263,7 +263,7 @@ module _ (text : List ℕ) where
         kind-keeps Kpaddalign k = next-keeps k (getoption text (p + 1)) refl
         kind-keeps Knop k = without (count-next p o width e Knop k) (maxalign o (s .alignment))
 
-      read-keeps : (r : Read) → getoption text p ≡ r → Keeps (optionTurn luckSize packsize text p s r)
+      read-keeps : (r : OptionRead) → getoption text p ≡ r → Keeps (optionTurn luckSize packsize text p s r)
       unfolding optionTurn
       read-keeps (option o width) e = kind-keeps o width e (kindOf (o .letter)) refl
       read-keeps (fault answer) e = fault-refuses p answer e
@@ -272,24 +272,24 @@ module _ (text : List ℕ) where
       unfolding packTurn
       turn-keeps = read-keeps (getoption text p) refl
 
-    abbrev on : ℕ → State → Answer
+    abbrev on : ℕ → PackState → Answer
     on p s = walkFrom (packTurn luckSize packsize text) packEnd (length text) p s
 
     abbrev Counts : ℕ → Answer → Type 0
     Counts n answer = answer .number ≡ 0 → answer .count ≡ n
 
-    at-end : (p : ℕ) (s : State) → length text ≤ p → Counts (s .values + count false p) (on p s)
+    at-end : (p : ℕ) (s : PackState) → length text ≤ p → Counts (s .values + count false p) (on p s)
     unfolding packEnd values
     at-end p s h =
         let none-left : count false p ≡ 0 = ap (values false) (options-fault p (refused 15 p) (no-option p h)) in
         subst (Counts (s .values + count false p)) (sym (walk-end (packTurn luckSize packsize text) packEnd (length text) p s h)) (λ _. omega (arith, none-left))
 
-    counts : (n p : ℕ) (s : State) → length text - p ≤ n → Counts (s .values + count false p) (on p s)
+    counts : (n p : ℕ) (s : PackState) → length text - p ≤ n → Counts (s .values + count false p) (on p s)
     counts zero p s h = at-end p s (omega arith)
     counts (suc n) p s h = ⊎-elim (λ l. go (λ w after g. counts n (p + w) after (omega arith)) l (packTurn luckSize packsize text p s) refl) (λ g. at-end p s g) (order p (length text))
       where
-        go : ((w : ℕ) (after : State) → 0 < w → Counts (after .values + count false (p + w)) (on (p + w) after)) → p < length text
-            → (t : Turn State Answer) → packTurn luckSize packsize text p s ≡ t → Counts (s .values + count false p) (on p s)
+        go : ((w : ℕ) (after : PackState) → 0 < w → Counts (after .values + count false (p + w)) (on (p + w) after)) → p < length text
+            → (t : Turn PackState Answer) → packTurn luckSize packsize text p s ≡ t → Counts (s .values + count false p) (on p s)
         go rest l (stop answer) e =
             subst (Counts (s .values + count false p)) (sym (walk-stop (packTurn luckSize packsize text) packEnd (length text) p s answer l e))
             (λ z. absurd (subst (Keeps p s) e (turn-keeps p s) z))
@@ -301,4 +301,4 @@ module _ (text : List ℕ) where
     -- the count of an accepted format is that of the values in its list
     pub counts-values : packWalk packsize text .number ≡ 0 → packWalk packsize text .count ≡ values false (options text)
     unfolding packWalk options
-    counts-values accepts = counts (length text) 0 (state 0 1) (omega arith) accepts ∙ zero-add (count false 0)
+    counts-values accepts = counts (length text) 0 (packState 0 1) (omega arith) accepts ∙ zero-add (count false 0)

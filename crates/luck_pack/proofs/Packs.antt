@@ -24,7 +24,7 @@ use Rattle.luck_answer.specs.Answer.{Answer, accepted, refused, refusedWith, re
 use Rattle.luck_pack.specs.Pack.{
   PackOption as Given,
   packOption,
-  Read,
+  OptionRead,
   option,
   fault,
   getnumlimit,
@@ -50,8 +50,8 @@ use Rattle.luck_pack.specs.Pack.{
   luckSizeof,
   luckSize,
   maxalign,
-  State,
-  state,
+  PackState,
+  packState,
   isPowerOfTwo,
   isMisaligned,
   aligned,
@@ -293,12 +293,12 @@ module _ (n largest : ℕ) where
   by-largest l h t e = let m : min n largest ≡ largest = omega arith in rw (lt-ltb 1 n l, m, e)
 
 module _ (p width n largest : ℕ) (has : Bool) (values : ℕ) where
-  pub misaligned : isMisaligned n largest ≡ true → stop (refused 17 p) ≡ aligned p width n (state values largest) (withValue has values largest)
+  pub misaligned : isMisaligned n largest ≡ true → stop (refused 17 p) ≡ aligned p width n (packState values largest) (withValue has values largest)
   unfolding aligned
   misaligned e = sym (if-true _ _ _ e)
 
   pub well-aligned : isMisaligned n largest ≡ false
-      → goes width (withValue has values largest) ≡ aligned p width n (state values largest) (withValue has values largest)
+      → goes width (withValue has values largest) ≡ aligned p width n (packState values largest) (withValue has values largest)
   unfolding aligned
   well-aligned e = sym (if-false _ _ _ e)
 
@@ -323,7 +323,7 @@ kept-alignment Kpadding o = refl
 kept-alignment Kpaddalign o = refl
 kept-alignment Knop o = by-test (λ x. keptAlignment x ≡ none) _ _ _ (λ _. refl) (λ _. refl)
 
-module _ (packsize : Bool) (text : List ℕ) (p : ℕ) (s : State) where
+module _ (packsize : Bool) (text : List ℕ) (p : ℕ) (s : PackState) where
   kept-nop : (o : Given) (width : ℕ) → keptTurn packsize text p s (keeps (keptAs Knop o) width) ≡ kindTurn luckSize packsize text p s width o Knop
   unfolding keptTurn keptAs kindTurn maxalign if_then_else_
   kept-nop o width = go (eqb (o .letter) (code "!")) refl
@@ -346,25 +346,25 @@ module _ (packsize : Bool) (text : List ℕ) (p : ℕ) (s : State) where
   kept-kind Kpaddalign o width = refl
   kept-kind Knop o width = kept-nop o width
 
-  pub kept-turn : (r : Read) → keptTurn packsize text p s (keptRead r) ≡ optionTurn luckSize packsize text p s r
+  pub kept-turn : (r : OptionRead) → keptTurn packsize text p s (keptRead r) ≡ optionTurn luckSize packsize text p s r
   unfolding keptRead kept keptTurn optionTurn
   kept-turn (option o width) = kept-kind (kindOf (o .letter)) o width
   kept-turn (fault answer) = refl
 
 -- ---- `X`
 
-module _ (text : List ℕ) (p : ℕ) (s : State) where
+module _ (text : List ℕ) (p : ℕ) (s : PackState) where
   -- `X` before what the code keeps of an option
-  unfoldable keptNext : Kept → Turn State Answer
+  unfoldable keptNext : Kept → Turn PackState Answer
   keptNext (keeps o width) = alignBy text p s width (keptAlignment o)
   keptNext (faults answer) = stop answer
 
-  kept-next : (r : Read) → keptNext (keptRead r) ≡ alignToNext luckSize text p s r
+  kept-next : (r : OptionRead) → keptNext (keptRead r) ≡ alignToNext luckSize text p s r
   unfolding keptNext keptRead kept alignToNext
   kept-next (option o width) = ap (alignBy text p s width) (kept-alignment (kindOf (o .letter)) o)
   kept-next (fault answer) = refl
 
-  module _ (step : Turn State Answer) where
+  module _ (step : Turn PackState Answer) where
     module _ (o : PackOption) (width : ℕ) (e : keeps o width ≡ keptRead (getoption text (p + 1))) where
       pub align-to : (n : ℕ) → some n ≡ keptAlignment o → step ≡ aligned p (1 + width) n s s → step ≡ alignToNext luckSize text p s (getoption text (p + 1))
       unfolding keptNext alignBy
@@ -382,11 +382,11 @@ module _ (text : List ℕ) (p : ℕ) (s : State) where
 
 module _ (packsize : Bool) (text : List ℕ) (p : ℕ) where
   pub refuses : (r : PackTurn) → r ≡ packturn.Fault (error.VariableLengthPackOption p (charAt text p .code)) → packsize ≡ true
-      → (values : ℕ) (step : Turn State Answer) → packTurnOf values r ≡ variable packsize text p step
+      → (values : ℕ) (step : Turn PackState Answer) → packTurnOf values r ≡ variable packsize text p step
   unfolding variable
   refuses r e t values step = ap (packTurnOf values) e ∙ sym (if-true _ _ _ t)
 
-  pub allows : packsize ≡ false → (step : Turn State Answer) → step ≡ variable packsize text p step
+  pub allows : packsize ≡ false → (step : Turn PackState Answer) → step ≡ variable packsize text p step
   unfolding variable
   allows t step = sym (if-false _ _ _ t)
 
@@ -396,15 +396,15 @@ stays r refusing p len e = subst (λ (x : PackTurn). PackGoesIn x p len) (sym e)
 -- ---- The walk
 
 module _ (packsize : Bool) (text : List ℕ) where
-  abbrev pub on : ℕ → State → Answer
+  abbrev pub on : ℕ → PackState → Answer
   on p s = walkFrom (packTurn luckSize packsize text) packEnd (length text) p s
 
-  pub start : on 0 (state 0 1) ≡ packWalk packsize text
+  pub start : on 0 (packState 0 1) ≡ packWalk packsize text
   unfolding packWalk
   start = refl
 
   -- the walk goes on behind so many bytes
-  pub record GoesOn (p width : ℕ) (s : State) (whole : Answer) : Type 0 where
+  pub record GoesOn (p width : ℕ) (s : PackState) (whole : Answer) : Type 0 where
     pub forward : 0 < width
     pub inside : p + width ≤ length text
     pub walked : on (p + width) s ≡ whole
@@ -414,24 +414,24 @@ module _ (packsize : Bool) (text : List ℕ) where
   After p values whole (packturn.Goes width has next) = GoesOn p width (withValue has values next) whole
   After p values whole (packturn.Fault e) = refusal e ≡ whole
 
-  module _ (p values largest : ℕ) (whole : Answer) (h : on p (state values largest) ≡ whole) where
-    pub after : p < length text → (r : PackTurn) → packTurnOf values r ≡ packTurn luckSize packsize text p (state values largest) → PackGoesIn r p (length text)
+  module _ (p values largest : ℕ) (whole : Answer) (h : on p (packState values largest) ≡ whole) where
+    pub after : p < length text → (r : PackTurn) → packTurnOf values r ≡ packTurn luckSize packsize text p (packState values largest) → PackGoesIn r p (length text)
         → After p values whole r
     after l (packturn.Goes width has next) is i = record {
       forward = i .0;
       inside = i .1;
       walked =
-          sym (walk-goes (packTurn luckSize packsize text) packEnd (length text) p (state values largest) width (withValue has values next) (i .0) (i .1) (sym is))
+          sym (walk-goes (packTurn luckSize packsize text) packEnd (length text) p (packState values largest) width (withValue has values next) (i .0) (i .1) (sym is))
           ∙ h;
     }
-    after l (packturn.Fault e) is i = sym (walk-stop (packTurn luckSize packsize text) packEnd (length text) p (state values largest) (refusal e) l (sym is)) ∙ h
+    after l (packturn.Fault e) is i = sym (walk-stop (packTurn luckSize packsize text) packEnd (length text) p (packState values largest) (refusal e) l (sym is)) ∙ h
 
     pub done : length text ≤ p → accepted values ≡ whole
     unfolding packEnd
-    done l = sym (walk-end (packTurn luckSize packsize text) packEnd (length text) p (state values largest) l) ∙ h
+    done l = sym (walk-end (packTurn luckSize packsize text) packEnd (length text) p (packState values largest) l) ∙ h
 
 -- the values after an option with or without one
 pub counted : (has : Bool) (values next after : ℕ) → ((has ≡ true) × (after ≡ values + 1)) ⊎ ((has ≡ false) × (after ≡ values))
-    → withValue has values next ≡ state after next
+    → withValue has values next ≡ packState after next
 counted has values next after (inl w) = rw (w .0, w .1)
 counted has values next after (inr w) = rw (w .0, w .1)

@@ -46,7 +46,7 @@ pub data Kept : Type 0 where
   keeps : PackOption → ℕ → Kept
   faults : Answer → Kept
 
-unfoldable pub keptRead : pack.Read → Kept
+unfoldable pub keptRead : pack.OptionRead → Kept
 keptRead (pack.option o width) = keeps (kept o) width
 keptRead (pack.fault answer) = faults answer
 
@@ -61,14 +61,14 @@ keptAlignment option.AlignToNext = none
 keptAlignment (option.SetMaxAlignment n) = none
 keptAlignment option.Control = none
 
-unfoldable pub keptTurn : Bool → List ℕ → ℕ → pack.State → Kept → Turn pack.State Answer
+unfoldable pub keptTurn : Bool → List ℕ → ℕ → pack.PackState → Kept → Turn pack.PackState Answer
 keptTurn packsize text p s (keeps (option.Sized n) width) = pack.aligned p width n s (pack.oneMore s)
 keptTurn packsize text p s (keeps (option.Counted n) width) = pack.variable packsize text p (pack.aligned p width n s (pack.oneMore s))
 keptTurn packsize text p s (keeps option.ZeroTerminated width) = pack.variable packsize text p (goes width (pack.oneMore s))
 keptTurn packsize text p s (keeps option.FixedString width) = goes width (pack.oneMore s)
 keptTurn packsize text p s (keeps option.Padding width) = goes width s
 keptTurn packsize text p s (keeps option.AlignToNext width) = pack.alignToNext pack.luckSize text p s (pack.getoption text (p + 1))
-keptTurn packsize text p s (keeps (option.SetMaxAlignment n) width) = goes width (pack.state (s .values) n)
+keptTurn packsize text p s (keeps (option.SetMaxAlignment n) width) = goes width (pack.packState (s .values) n)
 keptTurn packsize text p s (keeps option.Control width) = goes width s
 keptTurn packsize text p s (faults answer) = stop answer
 
@@ -106,11 +106,11 @@ alignmentRead (alignment.To n) = some n
 alignmentRead alignment.Refused = none
 
 -- the state after an option with or without a value
-abbrev pub withValue : Bool → ℕ → ℕ → pack.State
-withValue true values largest = pack.state (values + 1) largest
-withValue false values largest = pack.state values largest
+abbrev pub withValue : Bool → ℕ → ℕ → pack.PackState
+withValue true values largest = pack.packState (values + 1) largest
+withValue false values largest = pack.packState values largest
 
-abbrev pub packTurnOf : ℕ → PackTurn → Turn pack.State Answer
+abbrev pub packTurnOf : ℕ → PackTurn → Turn pack.PackState Answer
 packTurnOf values (packturn.Goes width has largest) = goes width (withValue has values largest)
 packTurnOf values (packturn.Fault e) = stop (refusal e)
 

@@ -26,12 +26,12 @@ abbrev pub packOption : ℕ → Option ℕ → PackOption
 packOption letter number = record { letter = letter; number = number }
 
 -- an option and its width in bytes, or a fault
-pub data Read : Type 0 where
-  option : PackOption → ℕ → Read
-  fault : Answer → Read
+pub data OptionRead : Type 0 where
+  option : PackOption → ℕ → OptionRead
+  fault : Answer → OptionRead
 
 -- getnumlimit: a number from 1 to 16, or none; its digits stand at p, behind the letter, which the width counts
-unfoldable pub getnumlimit : ℕ → List ℕ → ℕ → Read
+unfoldable pub getnumlimit : ℕ → List ℕ → ℕ → OptionRead
 getnumlimit letter text p =
     let digits = run isDigit (drop p text) in
     let number = numeral 10 (part text p (p + digits)) in
@@ -39,7 +39,7 @@ getnumlimit letter text p =
     else if between 1 16 number then option (packOption letter (some number)) (1 + digits) else fault (refused 16 p)
 
 -- `c` needs a number, whose digits stand at p
-unfoldable pub fixedString : List ℕ → ℕ → Read
+unfoldable pub fixedString : List ℕ → ℕ → OptionRead
 fixedString text p =
     let digits = run isDigit (drop p text) in
     let number = numeral 10 (part text p (p + digits)) in
@@ -53,14 +53,14 @@ abbrev pub limitedLetters : List ℕ
 limitedLetters = ascii "iIs!"
 
 -- an option with a number; any other byte is refused, a digit behind an option that takes none too
-unfoldable pub numberedOption : List ℕ → ℕ → Read
+unfoldable pub numberedOption : List ℕ → ℕ → OptionRead
 numberedOption text p =
     let b = byteAt text p in
     if among b limitedLetters then getnumlimit b text (p + 1)
     else if eqb b (code "c") then fixedString text (p + 1) else fault (refusedWith 14 p (charAt text p .code))
 
 -- the option at place p
-unfoldable pub getoption : List ℕ → ℕ → Read
+unfoldable pub getoption : List ℕ → ℕ → OptionRead
 getoption text p =
     let b = byteAt text p in
     if leb (length text) p then fault (refused 15 p)
@@ -109,15 +109,15 @@ maxalign o before = if eqb (o .letter) (code "!") then numberOr 8 (o .number) el
 
 -- ---- The walk, with the number of values and the maximum alignment so far
 
-pub record State : Type 0 where
+pub record PackState : Type 0 where
   pub values : ℕ
   pub alignment : ℕ
 
-abbrev pub state : ℕ → ℕ → State
-state values alignment = record { values = values; alignment = alignment }
+abbrev pub packState : ℕ → ℕ → PackState
+packState values alignment = record { values = values; alignment = alignment }
 
-abbrev pub oneMore : State → State
-oneMore s = state (s .values + 1) (s .alignment)
+abbrev pub oneMore : PackState → PackState
+oneMore s = packState (s .values + 1) (s .alignment)
 
 -- the powers of two among the sizes
 unfoldable pub isPowerOfTwo : ℕ → Bool
@@ -128,15 +128,15 @@ unfoldable pub isMisaligned : ℕ → ℕ → Bool
 isMisaligned size alignment = ltb 1 size && not (isPowerOfTwo (min size alignment))
 
 -- the option at p, of this width and size
-unfoldable pub aligned : ℕ → ℕ → ℕ → State → State → Turn State Answer
+unfoldable pub aligned : ℕ → ℕ → ℕ → PackState → PackState → Turn PackState Answer
 aligned p width size before after = if isMisaligned size (before .alignment) then stop (refused 17 p) else goes width after
 
 -- packsize takes no option of variable length; luck tests this before the alignment, str_packsize after it
-unfoldable pub variable : Bool → List ℕ → ℕ → Turn State Answer → Turn State Answer
+unfoldable pub variable : Bool → List ℕ → ℕ → Turn PackState Answer → Turn PackState Answer
 variable packsize text p step = if packsize then stop (refusedWith 18 p (charAt text p .code)) else step
 
 -- `X` at p, before an option of this width, which is passed over; none where `X` can't stand before it
-unfoldable pub alignBy : List ℕ → ℕ → State → ℕ → Option ℕ → Turn State Answer
+unfoldable pub alignBy : List ℕ → ℕ → PackState → ℕ → Option ℕ → Turn PackState Answer
 alignBy text p s width (some size) = aligned p (1 + width) size s s
 alignBy text p s width none = stop (refusedWith 14 (p + 1) (charAt text (p + 1) .code))
 
@@ -156,12 +156,12 @@ module _ (sizeOf : PackOption → ℕ) where
   alignmentOf Kpaddalign o = none
   alignmentOf Knop o = none
 
-  unfoldable pub alignToNext : List ℕ → ℕ → State → Read → Turn State Answer
+  unfoldable pub alignToNext : List ℕ → ℕ → PackState → OptionRead → Turn PackState Answer
   alignToNext text p s (option next width) = alignBy text p s width (alignmentOf (kindOf (next .letter)) next)
   alignToNext text p s (fault answer) = stop answer
 
   -- what an option of this kind and width does
-  unfoldable pub kindTurn : Bool → List ℕ → ℕ → State → ℕ → PackOption → KOption → Turn State Answer
+  unfoldable pub kindTurn : Bool → List ℕ → ℕ → PackState → ℕ → PackOption → KOption → Turn PackState Answer
   kindTurn packsize text p s width o Kint = aligned p width (sizeOf o) s (oneMore s)
   kindTurn packsize text p s width o Kuint = aligned p width (sizeOf o) s (oneMore s)
   kindTurn packsize text p s width o Kfloat = aligned p width (sizeOf o) s (oneMore s)
@@ -172,21 +172,21 @@ module _ (sizeOf : PackOption → ℕ) where
   kindTurn packsize text p s width o Kzstr = variable packsize text p (goes width (oneMore s))
   kindTurn packsize text p s width o Kpadding = goes width s
   kindTurn packsize text p s width o Kpaddalign = alignToNext text p s (getoption text (p + 1))
-  kindTurn packsize text p s width o Knop = goes width (state (s .values) (maxalign o (s .alignment)))
+  kindTurn packsize text p s width o Knop = goes width (packState (s .values) (maxalign o (s .alignment)))
 
-  unfoldable pub optionTurn : Bool → List ℕ → ℕ → State → Read → Turn State Answer
+  unfoldable pub optionTurn : Bool → List ℕ → ℕ → PackState → OptionRead → Turn PackState Answer
   optionTurn packsize text p s (option o width) = kindTurn packsize text p s width o (kindOf (o .letter))
   optionTurn packsize text p s (fault answer) = stop answer
 
-  unfoldable pub packTurn : Bool → List ℕ → ℕ → State → Turn State Answer
+  unfoldable pub packTurn : Bool → List ℕ → ℕ → PackState → Turn PackState Answer
   packTurn packsize text p s = optionTurn packsize text p s (getoption text p)
 
-unfoldable pub packEnd : ℕ → State → Answer
+unfoldable pub packEnd : ℕ → PackState → Answer
 packEnd p s = accepted (s .values)
 
 -- initheader: the maximum alignment is 1
 unfoldable pub packWalk : Bool → List ℕ → Answer
-packWalk packsize text = walkFrom (packTurn luckSize packsize text) packEnd (length text) 0 (state 0 1)
+packWalk packsize text = walkFrom (packTurn luckSize packsize text) packEnd (length text) 0 (packState 0 1)
 
 unfoldable pub checkPack : ℕ → Bool → List ℕ → Answer
 checkPack version packsize text = checkText version text (packWalk packsize text)
@@ -194,22 +194,22 @@ checkPack version packsize text = checkText version text (packWalk packsize text
 -- ---- The options as a list. No contract rests on it: `counts-values` of proofs/PackOptions.antt says the count by it
 
 -- an option and its place
-pub record Placed : Type 0 where
+pub record PlacedOption : Type 0 where
   pub place : ℕ
   pub read : PackOption
 
-abbrev pub placed : ℕ → PackOption → Placed
-placed place read = record { place = place; read = read }
+abbrev pub placedOption : ℕ → PackOption → PlacedOption
+placedOption place read = record { place = place; read = read }
 
 -- the options from p on, at most this many; the first fault ends the list, as the end of the text does
-unfoldable pub optionsUpTo : ℕ → List ℕ → ℕ → List Placed
+unfoldable pub optionsUpTo : ℕ → List ℕ → ℕ → List PlacedOption
 optionsUpTo zero text p = []
-optionsUpTo (suc n) text p = elim (getoption text p) [ option o width ↦ placed p o ∷ optionsUpTo n text (p + width) | fault answer ↦ [] ]
+optionsUpTo (suc n) text p = elim (getoption text p) [ option o width ↦ placedOption p o ∷ optionsUpTo n text (p + width) | fault answer ↦ [] ]
 
 -- all of them, from p on; the option that an `X` reads stands behind it. The count of an accepted format is that of the options
 -- in this list that have a value and are not read by an `X` (`counts-values` of proofs/PackOptions.antt)
-unfoldable pub optionsFrom : List ℕ → ℕ → List Placed
+unfoldable pub optionsFrom : List ℕ → ℕ → List PlacedOption
 optionsFrom text p = optionsUpTo (length text - p) text p
 
-unfoldable pub options : List ℕ → List Placed
+unfoldable pub options : List ℕ → List PlacedOption
 options text = optionsFrom text 0

@@ -4,7 +4,7 @@ ghost use Prim.Native.Nat.{ℕ, _+_, _-_, _<_, _≤_};
 ghost use Rattle.luck_utf8.specs.Utf8.{charAt};
 ghost use lib.ListN.{length};
 ghost use Rattle.luck_answer.specs.Answer.{walkedOf, answerOf};
-ghost use Rattle.luck_pack.specs.Pack.{getnumlimit, fixedString, numberedOption, getoption, luckSize, state, isPowerOfTwo, isMisaligned, aligned as alignedOf, alignToNext, packTurn, packWalk, checkPack};
+ghost use Rattle.luck_pack.specs.Pack.{getnumlimit, fixedString, numberedOption, getoption, luckSize, packState, isPowerOfTwo, isMisaligned, aligned as alignedOf, alignToNext, packTurn, packWalk, checkPack};
 ghost use Rattle.luck_pack.specs.Inner.{keptRead, keptPlain, keeps, keptAlignment, keptTurn, Makes, sizeRead, SizeIn, plainRead, optionRead, OptionIn, alignmentRead, withValue, packTurnOf, GoesBy, PackGoesIn};
 use luck_answer::format_pattern;
 use luck_answer::format_pattern::Checked;
@@ -217,7 +217,7 @@ pub enum Turn {
 
 // The option at `at`, of this width and size.
 fn aligned(at: usize, width: usize, size: u32, alignment: u32, has_value: bool) -> Turn
-    ensures { λ r. ⌜ ((values : ℕ) → packTurnOf values r ≡ alignedOf at width size (state values alignment) (withValue «has_value» values alignment)) × (GoesBy r width) ⌝ }
+    ensures { λ r. ⌜ ((values : ℕ) → packTurnOf values r ≡ alignedOf at width size (packState values alignment) (withValue «has_value» values alignment)) × (GoesBy r width) ⌝ }
 {
     if is_misaligned(size, alignment) {
         return Turn::Fault(PatternError::BadPackAlignment { offset: at });
@@ -253,7 +253,7 @@ fn alignment_of(option: PackOption) -> Alignment
 // `X` at `at`, and the option that it aligns to, as getdetails takes it from getoption.
 fn align_to_next(text: &[u8], at: usize, alignment: u32) -> Turn
     requires { ⌜ at < length (now text) ⌝ }
-    ensures { λ r. ⌜ ((values : ℕ) → packTurnOf values r ≡ alignToNext luckSize (now (text .entry)) at (state values alignment) (getoption (now (text .entry)) (at + 1))) × PackGoesIn r at (length (now (text .entry))) ⌝ }
+    ensures { λ r. ⌜ ((values : ℕ) → packTurnOf values r ≡ alignToNext luckSize (now (text .entry)) at (packState values alignment) (getoption (now (text .entry)) (at + 1))) × PackGoesIn r at (length (now (text .entry))) ⌝ }
 {
     let next = scan_pack_option(text, at + 1);
     match next {
@@ -295,7 +295,7 @@ fn option_turn(
     is_packsize: bool,
 ) -> Turn
     requires { ⌜ (at < length (now text)) × (0 < width) × (at + width ≤ length (now text)) ⌝ }
-    ensures { λ r. ⌜ ((values : ℕ) → packTurnOf values r ≡ keptTurn «is_packsize» (now (text .entry)) at (state values alignment) (keeps option width)) × PackGoesIn r at (length (now (text .entry))) ⌝ }
+    ensures { λ r. ⌜ ((values : ℕ) → packTurnOf values r ≡ keptTurn «is_packsize» (now (text .entry)) at (packState values alignment) (keeps option width)) × PackGoesIn r at (length (now (text .entry))) ⌝ }
 {
     match option {
         PackOption::Sized(size) => aligned(at, width, size, alignment, true),
@@ -342,7 +342,7 @@ fn option_turn(
 // The option at `at` and what it does.
 fn scan_option(text: &[u8], at: usize, alignment: u32, is_packsize: bool) -> Turn
     requires { ⌜ at < length (now text) ⌝ }
-    ensures { λ r. ⌜ ((values : ℕ) → packTurnOf values r ≡ packTurn luckSize «is_packsize» (now (text .entry)) at (state values alignment)) × PackGoesIn r at (length (now (text .entry))) ⌝ }
+    ensures { λ r. ⌜ ((values : ℕ) → packTurnOf values r ≡ packTurn luckSize «is_packsize» (now (text .entry)) at (packState values alignment)) × PackGoesIn r at (length (now (text .entry))) ⌝ }
 {
     let read = scan_pack_option(text, at);
     match read {

@@ -13,7 +13,7 @@ use lib.Dec.{eqb, leb, ltb}
 use borrow.Author.Tests.{ltb-true, ltb-false, eqb-true, eqb-false, leb-true, le-leb, lt-leb, lt-ltb, le-ltb, eq-eqb, ne-eqb}
 use Rattle.luck_text.specs.Bytes.{if_then_else_, byteAt}
 use Rattle.luck_text.proofs.Cases.{by-test, if-true, if-false, and-left, and-right, first-false, second-false}
-use Rattle.luck_pattern.specs.Elements.{Element, escape, range, plain, elementAt, widthOf, Placed, _at_, placedFrom, placedElements, elementsIn, elementsOf, isReversed, reversedIn, firstReversed}
+use Rattle.luck_pattern.specs.Elements.{Element, escape, range, plain, elementAt, widthOf, PlacedElement, _at_, placedFrom, placedElements, elementsIn, elementsOf, isReversed, reversedIn, firstReversed}
 
 -- ---- The bound taken away
 
@@ -45,7 +45,7 @@ module _ (pat : List ℕ) (e : ℕ) where
       let w = wide (elementAt pat e q) in
       any-bound (e - q) (suc (e - q)) q (omega arith) (omega arith)
       ∙ if-false (leb e q) [] _ (lt-leb e q h)
-      ∙ ap {B = List Placed} (λ more. _at_ (elementAt pat e q) q ∷ more) (any-bound (e - q) (e - (q + widthOf (elementAt pat e q))) (q + widthOf (elementAt pat e q)) (omega arith) (omega arith))
+      ∙ ap {B = List PlacedElement} (λ more. _at_ (elementAt pat e q) q ∷ more) (any-bound (e - q) (e - (q + widthOf (elementAt pat e q))) (q + widthOf (elementAt pat e q)) (omega arith) (omega arith))
 
   pub placed-end : (q : ℕ) → e ≤ q → placedElements pat e q ≡ []
   unfolding placedElements
@@ -98,7 +98,7 @@ module _ (pat : List ℕ) (e : ℕ) where
 abbrev pub Upwards : List Element → Type 0
 Upwards xs = (left right : ℕ) → List·Memᴰ (range left right) xs → left ≤ right
 
-upwards-none : (xs : List Placed) → Upwards (elementsIn xs) → reversedIn xs ≡ none
+upwards-none : (xs : List PlacedElement) → Upwards (elementsIn xs) → reversedIn xs ≡ none
 unfolding elementsIn reversedIn isReversed
 upwards-none [] up = refl
 upwards-none (x ∷ xs) up =
@@ -110,7 +110,7 @@ upwards-none (x ∷ xs) up =
     below (plain b) t up = true≢false (sym t)
     below (range left right) t up = let h = up left right (List·Memᴰ·head refl) in omega (arith, ltb-true right left t)
 
-none-upwards : (xs : List Placed) → reversedIn xs ≡ none → Upwards (elementsIn xs)
+none-upwards : (xs : List PlacedElement) → reversedIn xs ≡ none → Upwards (elementsIn xs)
 unfolding elementsIn reversedIn isReversed
 none-upwards [] e left right m = absurd (List·Memᴰ·not-nil m)
 none-upwards (x ∷ xs) e left right m =
@@ -155,7 +155,7 @@ module _ (pat : List ℕ) (e : ℕ) where
   unfolding placedFrom reversedIn
   some-from zero q k = λ f. let z : _≡_ {A = ℕ} 0 1 = cc in absurd (omega arith)
   some-from (suc n) q k =
-      by-test (λ (xs : List Placed). reversedIn xs ≡ some k → ReversedAt pat e q k) (leb e q) _ _
+      by-test (λ (xs : List PlacedElement). reversedIn xs ≡ some k → ReversedAt pat e q k) (leb e q) _ _
       (λ t f. let z : _≡_ {A = ℕ} 0 1 = cc in absurd (omega arith))
       (λ t. by-test (λ (o : Option ℕ). o ≡ some k → ReversedAt pat e q k) (isReversed (elementAt pat e q)) _ _
       (λ u f. let same : q ≡ k = cc in subst (ReversedAt pat e q) same (element-reversed q u))

@@ -14,15 +14,15 @@ use lib.ListN.{length, getD, set}
 use lib.Pow.{pow-pos, shl-exact}
 use borrow.Author.Tests.{ne-eqb}
 use Rattle.luck_pattern.specs.Captures.{openBy, latestOpen, closeAt, closeLatest, allClosed}
-use Rattle.luck_pattern.specs.Inner.{flagsOf}
+use Rattle.luck_pattern.specs.Inner.{flagsOfWord}
 
-pub flags-length : (n w : ℕ) → length (flagsOf n w) ≡ n
-unfolding flagsOf
+pub flags-length : (n w : ℕ) → length (flagsOfWord n w) ≡ n
+unfolding flagsOfWord
 flags-length zero w = refl
 flags-length (suc n) w = ap suc (flags-length n (w / 2))
 
-pub flags-open : (n w : ℕ) → w < 2 ^ n → flagsOf (suc n) (w + 2 ^ n) ≡ flagsOf n w ++ (false ∷ [])
-unfolding flagsOf
+pub flags-open : (n w : ℕ) → w < 2 ^ n → flagsOfWord (suc n) (w + 2 ^ n) ≡ flagsOfWord n w ++ (false ∷ [])
+unfolding flagsOfWord
 flags-open zero w h = let e : w ≡ 0 = omega arith in rw e
 flags-open (suc n) w h =
     let p : 2 ^ suc n ≡ 2 ^ n * 2 = pow-suc 2 n in
@@ -31,18 +31,18 @@ flags-open (suc n) w h =
     let b : w / 2 < 2 ^ n = omega arith in
     rw (lo, hi, flags-open n (w / 2) b)
 
-none-open : (n : ℕ) → latestOpen (flagsOf n 0) ≡ none
-unfolding flagsOf latestOpen
+none-open : (n : ℕ) → latestOpen (flagsOfWord n 0) ≡ none
+unfolding flagsOfWord latestOpen
 none-open zero = refl
 none-open (suc n) = rw (none-open n)
 
-pub flags-none : (n w : ℕ) → w ≡ 0 → closeLatest (flagsOf n w) ≡ none
+pub flags-none : (n w : ℕ) → w ≡ 0 → closeLatest (flagsOfWord n w) ≡ none
 unfolding closeLatest
-flags-none n w e = rw e (ap (closeAt (flagsOf n 0)) (none-open n))
+flags-none n w e = rw e (ap (closeAt (flagsOfWord n 0)) (none-open n))
 
 -- the highest bit of the word is the latest open capture, and without it that one is closed
-latest-at : (n w j : ℕ) → w < 2 ^ n → 2 ^ j ≤ w → w < 2 ^ suc j → latestOpen (flagsOf n w) ≡ some j
-unfolding flagsOf latestOpen
+latest-at : (n w j : ℕ) → w < 2 ^ n → 2 ^ j ≤ w → w < 2 ^ suc j → latestOpen (flagsOfWord n w) ≡ some j
+unfolding flagsOfWord latestOpen
 latest-at zero w j h l u = let p : 0 < 2 ^ j = pow-pos j in absurd (omega arith)
 latest-at (suc n) w zero h l u = let e : w ≡ 1 = omega arith in rw e (ap (openBy false) (none-open n))
 latest-at (suc n) w (suc j) h l u =
@@ -51,8 +51,8 @@ latest-at (suc n) w (suc j) h l u =
     let r : 2 ^ suc (suc j) ≡ 2 ^ suc j * 2 = pow-suc 2 (suc j) in
     rw (latest-at n (w / 2) j (omega arith) (omega arith) (omega arith))
 
-closed-at : (n w j : ℕ) → w < 2 ^ n → 2 ^ j ≤ w → w < 2 ^ suc j → set (flagsOf n w) j true ≡ flagsOf n (w - 2 ^ j)
-unfolding flagsOf
+closed-at : (n w j : ℕ) → w < 2 ^ n → 2 ^ j ≤ w → w < 2 ^ suc j → set (flagsOfWord n w) j true ≡ flagsOfWord n (w - 2 ^ j)
+unfolding flagsOfWord
 closed-at zero w j h l u = let p : 0 < 2 ^ j = pow-pos j in absurd (omega arith)
 closed-at (suc n) w zero h l u = let e : w ≡ 1 = omega arith in rw e refl
 closed-at (suc n) w (suc j) h l u =
@@ -63,12 +63,12 @@ closed-at (suc n) w (suc j) h l u =
     let hi : (w - 2 ^ suc j) / 2 ≡ w / 2 - 2 ^ j = omega arith in
     rw (lo, hi, closed-at n (w / 2) j (omega arith) (omega arith) (omega arith))
 
-pub flags-close : (n w j : ℕ) → w < 2 ^ n → 2 ^ j ≤ w → w < 2 ^ suc j → closeLatest (flagsOf n w) ≡ some (flagsOf n (w - 2 ^ j))
+pub flags-close : (n w j : ℕ) → w < 2 ^ n → 2 ^ j ≤ w → w < 2 ^ suc j → closeLatest (flagsOfWord n w) ≡ some (flagsOfWord n (w - 2 ^ j))
 unfolding closeLatest
-flags-close n w j h l u = ap (closeAt (flagsOf n w)) (latest-at n w j h l u) ∙ ap some (closed-at n w j h l u)
+flags-close n w j h l u = ap (closeAt (flagsOfWord n w)) (latest-at n w j h l u) ∙ ap some (closed-at n w j h l u)
 
-pub flags-at : (n w d : ℕ) → d < n → getD (flagsOf n w) d false ≡ eqb (w / 2 ^ d % 2) 0
-unfolding flagsOf
+pub flags-at : (n w d : ℕ) → d < n → getD (flagsOfWord n w) d false ≡ eqb (w / 2 ^ d % 2) 0
+unfolding flagsOfWord
 flags-at zero w d h = absurd (not-suc-le-zero h)
 flags-at (suc n) w zero h = ap (λ (x : ℕ). eqb (x % 2) 0) (sym (div-one w))
 flags-at (suc n) w (suc d) h =
@@ -80,8 +80,8 @@ all-closed zero zero w p q = let e : w ≡ 0 = omega arith in rw e
 all-closed zero (suc b) w p q = eqb·suc-zero b ∙ sym (ne-eqb w 0 (λ e. omega arith))
 all-closed (suc a) b w p q = rw (eqb·suc-zero a) (sym (ne-eqb w 0 (λ e. omega arith)))
 
-pub flags-all : (n w : ℕ) → w < 2 ^ n → allClosed (flagsOf n w) ≡ eqb w 0
-unfolding flagsOf allClosed
+pub flags-all : (n w : ℕ) → w < 2 ^ n → allClosed (flagsOfWord n w) ≡ eqb w 0
+unfolding flagsOfWord allClosed
 flags-all zero w h = let e : w ≡ 0 = omega arith in rw e
 flags-all (suc n) w h =
     let p : 2 ^ suc n ≡ 2 ^ n * 2 = pow-suc 2 n in

@@ -19,7 +19,7 @@ use Rattle.luck_pattern.specs.Elements.{firstReversed}
 use Rattle.luck_pattern.specs.Captures.{closeLatest, isClosed, allClosed}
 use Rattle.luck_pattern.specs.Reading.{Head, at-open, at-close, at-percent, at-set, at-other, headOf, Escape, esc-digit, esc-balance, esc-frontier, esc-other, esc-end, escapeOf, escapeAt, memberAt, SetEnd, closes-at, cut-at, unclosed, memberBy, memberTurn, membersEnd, firstMember, setEnd}
 use Rattle.luck_pattern.specs.Pattern.{isEmptySet, Read, past, fault, closedAs, reversedOf, setAs, setRead, escapeAs, escapeRead, onward, afterClose, headTurn, patternTurn, patternEnd, patternWalk}
-use Rattle.luck_pattern.specs.Inner.{readOf, Within}
+use Rattle.luck_pattern.specs.Inner.{readOf, ScanWithin}
 use Rattle.luck_answer.specs.declared.format_pattern.PatternError.{PatternError}
 use Rattle.luck_pattern.specs.declared.pattern.Scan.{Scan}
 use Rattle.luck_pattern.specs.declared.pattern.Scan.the-variants.{Past, Fault}
@@ -210,7 +210,7 @@ module _ (ranges : Bool) (text : List ℕ) (p : ℕ) (captures : List Bool) wher
     escape-above d f g = by-byte esc-other (of-other (byteAt text (p + 1)) (above 48 57 (byteAt text (p + 1)) d) f g)
 
 -- a place after a later start is after an earlier one
-pub within-from : (r : Scan) (p q len : ℕ) → p ≤ q → Within r q len → Within r p len
+pub within-from : (r : Scan) (p q len : ℕ) → p ≤ q → ScanWithin r q len → ScanWithin r p len
 within-from (Past k) p q len h w = (omega arith, w .1)
 within-from (Fault e) p q len h w = tt
 
@@ -285,10 +285,10 @@ module _ (ranges : Bool) (text : List ℕ) (p : ℕ) (captures : List Bool) wher
 
     -- what a scan found takes the walk on to the place after it, or ends it
     module _ (r : Scan) (read : Read) (told : readOf r ≡ read) (here : patternTurn ranges text p captures ≡ onward p captures read) where
-      pub turn-past : (q : ℕ) → r ≡ Past q → Within r p (length text) → items ranges text q captures ≡ patternWalk ranges text
+      pub turn-past : (q : ℕ) → r ≡ Past q → ScanWithin r p (length text) → items ranges text q captures ≡ patternWalk ranges text
       unfolding onward
       turn-past q e w =
-          let b : (p < q) × (q ≤ length text) = subst (λ (x : Scan). Within x p (length text)) e w in
+          let b : (p < q) × (q ≤ length text) = subst (λ (x : Scan). ScanWithin x p (length text)) e w in
           let k : p + (q - p) ≡ q = omega arith in
           let g : patternTurn ranges text p captures ≡ goes (q - p) captures = here ∙ ap (onward p captures) (sym told ∙ ap readOf e) in
           ap (λ (x : ℕ). items ranges text x captures) (sym k)

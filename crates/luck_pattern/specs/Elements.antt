@@ -30,27 +30,27 @@ widthOf (range left right) = 3
 widthOf (plain b) = 1
 
 -- an element and the place of its first byte
-pub record Placed : Type 0 where
+pub record PlacedElement : Type 0 where
   pub place : ℕ
   pub element : Element
 
-abbrev pub _at_ : Element → ℕ → Placed
+abbrev pub _at_ : Element → ℕ → PlacedElement
 _at_ x q = record { place = q; element = x }
 
 -- the elements from place q up to the closing `]` at place e; n is at least the bytes between (`placed-at` takes it
 -- away)
-unfoldable pub placedFrom : List ℕ → ℕ → ℕ → ℕ → List Placed
+unfoldable pub placedFrom : List ℕ → ℕ → ℕ → ℕ → List PlacedElement
 placedFrom pat e zero q = []
 placedFrom pat e (suc n) q =
     let x = elementAt pat e q in
     let all = _at_ x q ∷ placedFrom pat e n (q + widthOf x) in
     if leb e q then [] else all
 
-unfoldable pub placedElements : List ℕ → ℕ → ℕ → List Placed
+unfoldable pub placedElements : List ℕ → ℕ → ℕ → List PlacedElement
 placedElements pat e q = placedFrom pat e (e - q) q
 
 -- what the matching tests a byte for: the elements without their places
-unfoldable pub elementsIn : List Placed → List Element
+unfoldable pub elementsIn : List PlacedElement → List Element
 elementsIn [] = []
 elementsIn (x ∷ more) = x .element ∷ elementsIn more
 
@@ -65,7 +65,7 @@ isReversed (escape b) = false
 isReversed (plain b) = false
 
 -- the place of the first reversed range, which is that of its left byte
-unfoldable pub reversedIn : List Placed → Option ℕ
+unfoldable pub reversedIn : List PlacedElement → Option ℕ
 reversedIn [] = none
 reversedIn (x ∷ more) = let later = reversedIn more in if isReversed (x .element) then some (x .place) else later
 

@@ -13,22 +13,22 @@ use Rattle.luck_pattern.specs.declared.pattern.Closing.{Closing}
 use Rattle.luck_pattern.specs.declared.pattern.Closing.the-variants.{Open, Unmatched}
 
 -- the captures that a count and the code's word of open captures stand for: bit k is set while capture k, counted from 0, is open
-unfoldable pub flagsOf : ℕ → ℕ → List Bool
-flagsOf zero word = []
-flagsOf (suc count) word = eqb (word % 2) 0 ∷ flagsOf count (word / 2)
+unfoldable pub flagsOfWord : ℕ → ℕ → List Bool
+flagsOfWord zero word = []
+flagsOfWord (suc count) word = eqb (word % 2) 0 ∷ flagsOfWord count (word / 2)
 
 abbrev pub readOf : Scan → Read
 readOf (scan.Past q) = past q
 readOf (scan.Fault e) = fault (refusal e)
 
 -- the place after what was read lies behind its start and in the text
-abbrev pub Within : Scan → ℕ → ℕ → Type 0
-Within (scan.Past q) p len = (p < q) × (q ≤ len)
-Within (scan.Fault e) p len = Unit {0}
+abbrev pub ScanWithin : Scan → ℕ → ℕ → Type 0
+ScanWithin (scan.Past q) p len = (p < q) × (q ≤ len)
+ScanWithin (scan.Fault e) p len = Unit {0}
 
 -- what closing the latest capture gave, and that the word has no bit beyond the count
 abbrev pub closedOf : ℕ → Closing → Option (List Bool)
-closedOf count (Open word) = some (flagsOf count word)
+closedOf count (Open word) = some (flagsOfWord count word)
 closedOf count Unmatched = none
 
 abbrev pub Below : ℕ → Closing → Type 0

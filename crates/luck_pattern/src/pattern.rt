@@ -8,7 +8,7 @@ ghost use Rattle.luck_answer.specs.Answer.{walkedOf, answerOf};
 ghost use Rattle.luck_pattern.specs.Captures.{isClosed, allClosed, closeLatest};
 ghost use Rattle.luck_pattern.specs.Reading.{firstMember};
 ghost use Rattle.luck_pattern.specs.Pattern.{setRead, escapeRead, patternWalk, checkPattern};
-ghost use Rattle.luck_pattern.specs.Inner.{readOf, Within, flagsOf, closedOf, Below};
+ghost use Rattle.luck_pattern.specs.Inner.{readOf, ScanWithin, flagsOfWord, closedOf, Below};
 use luck_answer::format_pattern;
 use luck_answer::format_pattern::Checked;
 use luck_answer::format_pattern::PatternError;
@@ -38,7 +38,7 @@ fn first_member(text: &[u8], start: usize) -> usize
 // The set whose `[` stands at `start`. `classEnd` takes the first member before it looks for a `]`.
 fn scan_set(text: &[u8], start: usize) -> Scan
     requires { ⌜ start < length (now text) ⌝ }
-    ensures { λ r. ⌜ (readOf r ≡ setRead false (now (text .entry)) start) × Within r start (length (now (text .entry))) ⌝ }
+    ensures { λ r. ⌜ (readOf r ≡ setRead false (now (text .entry)) start) × ScanWithin r start (length (now (text .entry))) ⌝ }
 {
     let first = first_member(text, start);
     if text.len() - first == 1 {
@@ -74,7 +74,7 @@ fn scan_set(text: &[u8], start: usize) -> Scan
 // The word of open captures with one more, the latest.
 fn opened(count: u32, word: u32) -> u32
     requires { ⌜ (count < 32) × (word < 2 ^ count) ⌝ }
-    ensures { λ r. ⌜ (r < 2 ^ (count + 1)) × (flagsOf (count + 1) r ≡ flagsOf count word ++ (false ∷ [])) ⌝ }
+    ensures { λ r. ⌜ (r < 2 ^ (count + 1)) × (flagsOfWord (count + 1) r ≡ flagsOfWord count word ++ (false ∷ [])) ⌝ }
 {
     word + (1u32 << count)
 }
@@ -87,7 +87,7 @@ pub enum Closing {
 
 fn close_latest(count: u32, word: u32) -> Closing
     requires { ⌜ word < 2 ^ count ⌝ }
-    ensures { λ r. ⌜ (closedOf count r ≡ closeLatest (flagsOf count word)) × Below count r ⌝ }
+    ensures { λ r. ⌜ (closedOf count r ≡ closeLatest (flagsOfWord count word)) × Below count r ⌝ }
 {
     let zeros = u32::leading_zeros(word);
     if zeros == 32 {
@@ -99,7 +99,7 @@ fn close_latest(count: u32, word: u32) -> Closing
 // Whether capture `digit` was seen and is closed.
 fn is_closed(count: u32, word: u32, digit: u32) -> bool
     requires { ⌜ (digit < 10) × (count ≤ 32) ⌝ }
-    ensures { λ r. ⌜ r ≡ isClosed (flagsOf count word) digit ⌝ }
+    ensures { λ r. ⌜ r ≡ isClosed (flagsOfWord count word) digit ⌝ }
 {
     if digit == 0 {
         return false;
@@ -113,7 +113,7 @@ fn is_closed(count: u32, word: u32, digit: u32) -> bool
 // Whether no capture is open.
 fn none_open(count: u32, word: u32) -> bool
     requires { ⌜ word < 2 ^ count ⌝ }
-    ensures { λ r. ⌜ r ≡ allClosed (flagsOf count word) ⌝ }
+    ensures { λ r. ⌜ r ≡ allClosed (flagsOfWord count word) ⌝ }
 {
     u32::count_ones(word) == 0
 }
@@ -122,7 +122,7 @@ fn none_open(count: u32, word: u32) -> bool
 fn scan_escape(text: &[u8], start: usize, count: u32, word: u32) -> Scan
     requires { ⌜ (start < length (now text)) × (count ≤ 32) ⌝ }
     ensures { λ r. ⌜
-        (readOf r ≡ escapeRead false (now (text .entry)) start (flagsOf count word)) × Within r start (length (now (text .entry)))
+        (readOf r ≡ escapeRead false (now (text .entry)) start (flagsOfWord count word)) × ScanWithin r start (length (now (text .entry)))
         ⌝ }
 {
     if text.len() - start == 1 {

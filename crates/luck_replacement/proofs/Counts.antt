@@ -15,6 +15,7 @@ use Rattle.luck_text.proofs.Cases.{by-test, if-true, if-false, and-left, and-ri
 use Rattle.luck_token.specs.Version.{isVersion, rulesOf}
 use Rattle.luck_utf8.specs.Utf8.{illFormed}
 use Rattle.luck_answer.specs.Answer.{Answer, accepted, refused, afterVersion, afterUtf8, checkText}
+use Rattle.luck_answer.proofs.Texts.{text-ill-formed, text-unknown-version, in-any-case}
 use Rattle.luck_replacement.specs.Replacement.{isStrict, Piece, literal, digit, percent, other, lone, pieces, allowsDigit, piecesWalk, checkReplacement}
 use Rattle.luck_replacement.specs.Counts.{
   Counts,
@@ -372,23 +373,18 @@ module _ (version : ℕ) (text : List ℕ) where
   grows = larger-accepted check largest by-largest
 
   unversioned : (count : Option ℕ) → isVersion version ≡ false → checkReplacement version count text ≡ refused 25 0
-  unfolding checkReplacement checkText afterVersion
-  unversioned count e = if-false (isVersion version) _ _ e
+  unfolding checkReplacement
+  unversioned count e = sym (text-unknown-version version text _ e)
 
   ill-formed : (count : Option ℕ) (place : ℕ) → isVersion version ≡ true → illFormed text ≡ some place
       → checkReplacement version count text ≡ refused 23 place
-  unfolding checkReplacement checkText afterVersion afterUtf8
-  ill-formed count place v e = if-true (isVersion version) _ _ v ∙ ap (λ o. afterUtf8 o (piecesWalk strict count (pieces text) 0)) e
+  unfolding checkReplacement
+  ill-formed count place v e = sym (text-ill-formed version text _ v place (sym e))
 
   no-35 : (count : Option ℕ) → checkReplacement version count text .number < 35
-  unfolding checkReplacement checkText afterVersion afterUtf8 if_then_else_
-  no-35 count = go (isVersion version) (illFormed text)
-    where
-      go : (v : Bool) (o : Option ℕ)
-          → (if v then afterUtf8 o (piecesWalk strict count (pieces text) 0) else refused 25 0) .number < 35
-      go true none = omega (arith, walked strict count (pieces text) 0 .1)
-      go true (some place) = omega arith
-      go false o = omega arith
+  unfolding checkReplacement
+  no-35 count =
+      in-any-case version text _ (λ (a : Answer). a .number < 35) (omega arith) (λ place h. omega arith) (omega (arith, walked strict count (pieces text) 0 .1))
 
   module _ (low high : ℕ) (upwards : low ≤ high) where
     -- the check with its tests of the version and of the range is the answer for the range

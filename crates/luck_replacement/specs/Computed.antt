@@ -8,6 +8,6 @@ unfolding
     Rattle.luck_answer.specs.Computed.computed
     Replacement.escaped Replacement.pieces Replacement.allowsDigit Replacement.piecesWalk Replacement.checkReplacement
     Counts.isAccepted Counts.alone Counts.acceptedForAll Counts.smallestAccepted Counts.refusedOrDepends
-    Counts.forCounts Counts.forRange Counts.checkRanged Counts.answerOf Counts.isDependent Counts.accepts
+    Counts.forCounts Counts.forRange Counts.checkRanged Counts.rangedAnswer Counts.isDependent Counts.accepts
     Counts.largestDigit Counts.byEnds
 computed = tt

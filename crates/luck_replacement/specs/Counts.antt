@@ -61,10 +61,10 @@ checkRanged version (from-to low high) text =
     if not (isVersion version) then for-none (refused 25 0) else if ltb high low then for-none (refused 35 0) else each
 
 -- what the answer's record shows: where it is dependent, a flag, number 0 and the smallest count
-unfoldable pub answerOf : Ranged → Answer
-answerOf for-every = accepted 0
-answerOf (for-none answer) = answer
-answerOf (depends smallest) = accepted smallest
+unfoldable pub rangedAnswer : Ranged → Answer
+rangedAnswer for-every = accepted 0
+rangedAnswer (for-none answer) = answer
+rangedAnswer (depends smallest) = accepted smallest
 
 unfoldable pub isDependent : Ranged → Bool
 isDependent for-every = false

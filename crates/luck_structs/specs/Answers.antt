@@ -6,7 +6,7 @@ use mathlib.Core.Option.{Option, none, some}
 use Rattle.luck_token.specs.Decode as decode
 use Rattle.luck_structs.specs.declared.decoded.Decoded.{Decoded}
 
-abbrev pub decodedAnswer : Decoded → decode.Answer
+abbrev pub decodedAnswer : Decoded → decode.Decoding
 decodedAnswer d = record { number = d .number; offset = d .offset; written = d .written }
 
 -- a count of captures that is known, or none

@@ -1,6 +1,6 @@
 // The answer of decoding.
 ghost use mathlib.Core.Path.{_≡_};
-ghost use Rattle.luck_token.specs.Decode.{answer, numbered};
+ghost use Rattle.luck_token.specs.Decode.{decoding, numbered};
 ghost use Rattle.luck_structs.specs.Answers.{decodedAnswer};
 use luck_token::string;
 
@@ -30,7 +30,7 @@ pub fn of_decoded(decoded: string::Decoded) -> Decoded
 
 // A refused text has no value.
 fn refused(number: u32, offset: usize) -> Decoded
-    ensures { λ r. ⌜ decodedAnswer r ≡ answer number offset 0 ⌝ }
+    ensures { λ r. ⌜ decodedAnswer r ≡ decoding number offset 0 ⌝ }
 {
     Decoded {
         number,

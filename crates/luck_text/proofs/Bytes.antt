@@ -8,11 +8,11 @@ use mathlib.Core.Path.{_≡_, refl, sym, ap, subst, _∙_}
 use mathlib.Core.Logic.{_⊎_, inl, inr, ⊎-elim}
 use mathlib.Core.Bool.{Bool, true, false, _||_, not}
 use mathlib.Core.List.{List, [], _∷_}
-use lib.ListN.{length, drop, length-drop, drop-of-length-le}
+use lib.ListN.{length, drop, length-append, length-drop, drop-of-length-le}
 use lib.Seq.{drop-cons, take-nil, getD-take, getD-drop, length-take-le}
 use lib.Dec.{leb}
 use borrow.Author.Tests.{le-leb, lt-leb, leb-true, leb-false, eq-eqb, ne-eqb, not-true, not-false}
-use Rattle.luck_text.specs.Bytes.{if_then_else_, byteAt, part, between, among, isDigit, isXdigit, run, digitValue, numeralFrom}
+use Rattle.luck_text.specs.Bytes.{if_then_else_, byteAt, part, inFront, between, among, isDigit, isXdigit, run, digitValue, numeralFrom}
 use Rattle.luck_text.specs.Scan.{most, grown}
 use Rattle.luck_text.proofs.Cases.{by-test, order, and-right, second-false}
 
@@ -205,3 +205,9 @@ hex-value b e =
 
         cong : between 48 57 b ≡ false → between 65 70 b ≡ false → (between 48 57 b || between 97 102 b || between 65 70 b) ≡ (false || between 97 102 b || false)
         cong p q = rw (p, q)
+
+-- ---- The front of an output
+
+-- an output keeps its length, whatever is written in it
+pub front-length : (bytes output : List ℕ) → length bytes ≤ length output → length (inFront bytes output) ≡ length output
+front-length bytes output h = omega (arith, length-append bytes (drop (length bytes) output), length-drop (length bytes) output)

@@ -13,42 +13,43 @@ use borrow.Author.Tests.{eqb-true, eqb-false, leb-true}
 use Rattle.luck_text.specs.Bytes.{byteAt, part, among, isXdigit, run, numeral}
 use Rattle.luck_text.proofs.Cases.{by-test, and-left, and-right, present}
 use Rattle.luck_text.proofs.Keeps.{Turns, walk-keeps}
-use Rattle.luck_utf8.specs.Utf8.{utf8Bytes, sequence, sequenceAt, noneIllFormed, illFormed}
-use Rattle.luck_token.specs.Version.{isVersion, rulesOf}
+use Rattle.luck_utf8.specs.Utf8.{utf8Bytes}
+use Rattle.luck_token.specs.Version.{rulesOf}
 use Rattle.luck_token.specs.Whitespace.{lineBreak, stripLineBreak}
 use Rattle.luck_token.specs.Literal.{
   isShort,
   bracketWidth,
   longStringBody,
-  Piece,
+  LiteralPiece,
   piece,
   malformed,
   longPiece,
-  escapeOf,
+  escapeKind,
   lineBreakEscape,
   hexEscape,
   whitespaceEscape,
   decimalEscape,
   allowsCodePoint,
   unicodeEscape,
-  escapeAs,
-  escapeAt,
+  escapePiece,
+  escapePieceAt,
   shortPiece,
   pieceAt,
-  taken,
+  pieceTurn,
   wholeValue,
   valueOf,
   literalValue,
 }
-use Rattle.luck_token.specs.Decode.{Outcome, value, refused, withRoom, ofText, decodeString, answerOf, outputOf}
+use Rattle.luck_token.specs.Decode.{DecodeOutcome, value, refused, withRoom, decodeString, decodingOf, outputOf}
 use Rattle.luck_token.specs.declared.version.Rules.{Rules}
 use Rattle.luck_token.specs.declared.string.Escape.{Escape}
 use Rattle.luck_token.specs.declared.string.Escape.the-variants.{Simple, LineBreak, Hex, Whitespace, Decimal, Unicode, Itself, Undefined}
+use Rattle.luck_token.proofs.Texts.{in-any-case}
 
 -- ---- Pieces
 
 -- a piece at place p stands for no more bytes than it takes, and than are left
-abbrev Small : List ℕ → ℕ → Piece → Type 0
+abbrev Small : List ℕ → ℕ → LiteralPiece → Type 0
 Small body p (piece bytes width) = (length bytes ≤ width) × (p + length bytes ≤ length body)
 Small body p malformed = Unit {0}
 
@@ -97,8 +98,8 @@ module _ (body : List ℕ) (p : ℕ) (h : p < length body) where
       (omega (arith, four-bytes exact), omega (arith, four-bytes exact)))
       (λ _. tt)
 
-  escape-small : (rules : Rules) (escape : Escape) → Small body p (escapeAs rules escape body p)
-  unfolding escapeAs lineBreakEscape whitespaceEscape
+  escape-small : (rules : Rules) (escape : Escape) → Small body p (escapePiece rules escape body p)
+  unfolding escapePiece lineBreakEscape whitespaceEscape
   escape-small rules (Simple b) = one-byte b 2 (omega arith)
   escape-small rules LineBreak = one-byte 10 _ (omega arith)
   escape-small rules Hex = hex-small
@@ -109,10 +110,10 @@ module _ (body : List ℕ) (p : ℕ) (h : p < length body) where
   escape-small rules Undefined = tt
 
   short-small : (rules : Rules) → Small body p (shortPiece rules body p)
-  unfolding shortPiece escapeAt
+  unfolding shortPiece escapePieceAt
   short-small rules =
       by-test (Small body p) _ _ _
-      (λ _. by-test (Small body p) _ _ _ (λ _. escape-small rules (escapeOf rules (byteAt body (p + 1)))) (λ _. tt))
+      (λ _. by-test (Small body p) _ _ _ (λ _. escape-small rules (escapeKind rules (byteAt body (p + 1)))) (λ _. tt))
       (λ _. one-byte (byteAt body p) 1 (omega arith))
 
   piece-small : (long : Bool) (rules : Rules) → Small body p (pieceAt long rules body p)
@@ -132,16 +133,16 @@ module _ (long : Bool) (rules : Rules) (body : List ℕ) (most : ℕ) (in-most :
   abbrev Read : ℕ → List ℕ → Type 0
   Read left before = length before + left ≤ length body
 
-  taken-reads : (p : ℕ) (before : List ℕ) → p < length body → Read (length body - p) before → (q : Piece) → Small body p q
-      → Turns Read (Most most) (length body - p) (taken before q)
-  unfolding taken
+  taken-reads : (p : ℕ) (before : List ℕ) → p < length body → Read (length body - p) before → (q : LiteralPiece) → Small body p q
+      → Turns Read (Most most) (length body - p) (pieceTurn before q)
+  unfolding pieceTurn
   taken-reads p before h r malformed s = tt
   taken-reads p before h r (piece bytes width) s = omega (arith, length-append before bytes)
 
   value-small : Most most (valueOf long rules body)
   unfolding valueOf wholeValue
   value-small =
-      walk-keeps (λ p before. taken before (pieceAt long rules body p)) wholeValue (length body) Read (Most most)
+      walk-keeps (λ p before. pieceTurn before (pieceAt long rules body p)) wholeValue (length body) Read (Most most)
       (λ p before h r. taken-reads p before h r (pieceAt long rules body p) (piece-small body p h long rules))
       (λ p before r. omega arith) [] (omega arith)
 
@@ -162,31 +163,19 @@ literal-small rules raw =
 
 -- ---- Outcomes
 
--- the first ill-formed sequence lies in the text
-abbrev pub PlaceIn : ℕ → Option ℕ → Type 0
-PlaceIn len none = Unit {0}
-PlaceIn len (some p) = p < len
-
-pub place-in : (text : List ℕ) → PlaceIn (length text) (illFormed text)
-unfolding illFormed sequenceAt noneIllFormed
-place-in text =
-    walk-keeps (sequenceAt text) noneIllFormed (length text) (λ left u. Unit {0}) (PlaceIn (length text))
-    (λ p u h _. by-test (Turns (λ left u. Unit {0}) (PlaceIn (length text)) (length text - p)) (eqb (sequence text p) 0) _ _ (λ _. h) (λ _. tt))
-    (λ p u _. tt) tt tt
-
 -- of an outcome, with a text of this length and this room
-pub record Bounded (len room : ℕ) (o : Outcome) : Type 0 where
-  pub numbered : among (answerOf o .number) (0 ∷ 23 ∷ 24 ∷ 25 ∷ 26 ∷ []) ≡ true
-  pub offset : answerOf o .offset ≤ len
-  pub offset-of-others : (answerOf o .number ≡ 23 → ⊥) → answerOf o .offset ≡ 0
-  pub in-room : answerOf o .written ≤ room
-  pub in-text : answerOf o .written ≤ len
-  pub refused-empty : (answerOf o .number ≡ 0 → ⊥) → answerOf o .written ≡ 0
-  pub refused-untouched : (answerOf o .number ≡ 0 → ⊥) → (output : List ℕ) → outputOf o output ≡ output
+pub record Bounded (len room : ℕ) (o : DecodeOutcome) : Type 0 where
+  pub numbered : among (decodingOf o .number) (0 ∷ 23 ∷ 24 ∷ 25 ∷ 26 ∷ []) ≡ true
+  pub offset : decodingOf o .offset ≤ len
+  pub offset-of-others : (decodingOf o .number ≡ 23 → ⊥) → decodingOf o .offset ≡ 0
+  pub in-room : decodingOf o .written ≤ room
+  pub in-text : decodingOf o .written ≤ len
+  pub refused-empty : (decodingOf o .number ≡ 0 → ⊥) → decodingOf o .written ≡ 0
+  pub refused-untouched : (decodingOf o .number ≡ 0 → ⊥) → (output : List ℕ) → outputOf o output ≡ output
 
 module _ (text : List ℕ) (room : ℕ) where
   value-bounded : (bytes : List ℕ) → length bytes ≤ room → length bytes ≤ length text → Bounded (length text) room (value bytes)
-  unfolding answerOf among
+  unfolding decodingOf among
   value-bounded bytes h s =
       record {
         numbered = refl;
@@ -200,7 +189,7 @@ module _ (text : List ℕ) (room : ℕ) where
 
   refusal-bounded : (number offset : ℕ) → among number (0 ∷ 23 ∷ 24 ∷ 25 ∷ 26 ∷ []) ≡ true → offset ≤ length text → ((number ≡ 23 → ⊥) → offset ≡ 0)
       → Bounded (length text) room (refused number offset)
-  unfolding answerOf outputOf
+  unfolding decodingOf outputOf
   refusal-bounded number offset e h z =
       record {
         numbered = e;
@@ -219,13 +208,9 @@ module _ (text : List ℕ) (room : ℕ) where
       by-test (Bounded (length text) room) (leb (length bytes) room) _ _
       (λ e. value-bounded bytes (leb-true (length bytes) room e) s) (λ _. refusal-bounded 26 0 refl (omega arith) (λ _. refl))
 
-  text-bounded : (version : ℕ) (place : Option ℕ) → PlaceIn (length text) place → Bounded (length text) room (ofText version room text place)
-  unfolding ofText among
-  text-bounded version none h = room-bounded (literalValue (rulesOf version) text) (literal-small (rulesOf version) text)
-  text-bounded version (some p) h = refusal-bounded 23 p refl (omega arith) (λ n. absurd (n refl))
-
   pub decode-bounded : (version : ℕ) → Bounded (length text) room (decodeString version text room)
   unfolding decodeString among
   decode-bounded version =
-      by-test (Bounded (length text) room) (isVersion version) _ _
-      (λ _. text-bounded version (illFormed text) (place-in text)) (λ _. refusal-bounded 25 0 refl (omega arith) (λ _. refl))
+      in-any-case (Bounded (length text) room) refused text _ (refusal-bounded 25 0 refl (omega arith) (λ _. refl))
+      (λ place h. refusal-bounded 23 place refl (omega arith) (λ n. absurd (n refl)))
+      (room-bounded (literalValue (rulesOf version) text) (literal-small (rulesOf version) text)) version

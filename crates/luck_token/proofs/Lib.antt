@@ -1,3 +1,4 @@
+pub mod Texts
 pub mod Breaks
 pub mod Literals
 pub mod Values

@@ -19,19 +19,19 @@ use Rattle.luck_token.specs.Literal.{
   equals,
   bracketAt,
   bracketWidth,
-  escapeOf,
+  escapeKind,
   hexEscape,
   decimalEscape,
   allowsDigits,
   codePointLimit,
   allowsCodePoint,
   unicodeEscape,
-  escapeAs,
-  escapeAt,
+  escapePiece,
+  escapePieceAt,
   longPiece,
   shortPiece,
   pieceAt,
-  Piece,
+  LiteralPiece,
   piece,
   malformed,
 }
@@ -63,8 +63,8 @@ both-quotes raw e =
 -- ---- Escapes
 
 module _ (rules : Rules) (b : ℕ) where
-  pub decimal-escape : 48 ≤ b → b ≤ 57 → Decimal ≡ escapeOf rules b
-  unfolding escapeOf if_then_else_ isDigit
+  pub decimal-escape : 48 ≤ b → b ≤ 57 → Decimal ≡ escapeKind rules b
+  unfolding escapeKind if_then_else_ isDigit
   decimal-escape l h =
       rw (
         ne-eqb b 97 (λ e. absurd (omega arith)),
@@ -261,15 +261,15 @@ module _ (rules : Rules) (body : List ℕ) (p : ℕ) where
 
 -- the escape that the byte after a backslash begins
 module _ (rules : Rules) (body : List ℕ) (p : ℕ) where
-  pub escape-is : p + 1 < length body → (e : Escape) → e ≡ escapeOf rules (byteAt body (p + 1)) → escapeAs rules e body p ≡ escapeAt rules body p
-  unfolding escapeAt
-  escape-is h e q = ap (λ (k : Escape). escapeAs rules k body p) q ∙ sym (if-true _ _ _ (lt-ltb (p + 1) (length body) h))
+  pub escape-is : p + 1 < length body → (e : Escape) → e ≡ escapeKind rules (byteAt body (p + 1)) → escapePiece rules e body p ≡ escapePieceAt rules body p
+  unfolding escapePieceAt
+  escape-is h e q = ap (λ (k : Escape). escapePiece rules k body p) q ∙ sym (if-true _ _ _ (lt-ltb (p + 1) (length body) h))
 
-  pub escape-cut : length body ≤ p + 1 → malformed ≡ escapeAt rules body p
-  unfolding escapeAt
+  pub escape-cut : length body ≤ p + 1 → malformed ≡ escapePieceAt rules body p
+  unfolding escapePieceAt
   escape-cut h = sym (if-false _ _ _ (le-ltb (p + 1) (length body) h))
 
-  pub short-escape : byteAt body p ≡ 92 → escapeAt rules body p ≡ shortPiece rules body p
+  pub short-escape : byteAt body p ≡ 92 → escapePieceAt rules body p ≡ shortPiece rules body p
   unfolding shortPiece
   short-escape e = sym (if-true _ _ _ (eq-eqb (byteAt body p) 92 e))
 
@@ -294,7 +294,7 @@ plain-is true rules body p e =
 plain-is false rules body p e = short-byte rules body p (neither-first 92 92 (byteAt body p) e) ∙ piece-short rules body p false refl
 
 -- a piece that was found is the one that is wanted
-pub as-piece : {body : List ℕ} {p : ℕ} {found : Found} (v w : Piece) → v ≡ w → IsPiece v body p found → IsPiece w body p found
+pub as-piece : {body : List ℕ} {p : ℕ} {found : Found} (v w : LiteralPiece) → v ≡ w → IsPiece v body p found → IsPiece w body p found
 as-piece v w e t = record { is = t .is ∙ e; inside = t .inside }
 
 -- ---- Long brackets

@@ -19,7 +19,7 @@ use Rattle.luck_token.specs.Version.{isVersion, rulesOf}
 use Rattle.luck_utf8.specs.Utf8.{utf8Bytes, illFormed}
 use Rattle.luck_token.specs.Whitespace.{lineBreak, stripLineBreak}
 use Rattle.luck_token.specs.Literal.{
-  Piece,
+  LiteralPiece,
   piece,
   malformed,
   isShort,
@@ -29,13 +29,14 @@ use Rattle.luck_token.specs.Literal.{
   longStringBody,
   longPiece,
   pieceAt,
-  taken,
+  pieceTurn,
   wholeValue,
   valueOf,
   literalValue,
 }
-use Rattle.luck_token.specs.Decode.{refused, withRoom, ofText, decodeString, answerOf, numbered, outputOf}
-use Rattle.luck_token.specs.Inner.{IsPiece, Lies, sizeOf, plain, Within, Written}
+use Rattle.luck_token.specs.Decode.{refused, withRoom, decodeString, decodingOf, numbered, outputOf}
+use Rattle.luck_token.proofs.Texts.{text-fine, text-ill-formed, text-unknown-version}
+use Rattle.luck_token.specs.Inner.{IsPiece, LiesInText, sizeOf, plain, SizeWithin, Written}
 use Rattle.luck_output.specs.Output.{stores}
 use Rattle.luck_token.specs.declared.version.Rules.{Rules}
 use Rattle.luck_token.specs.declared.string.Piece.{Piece as Found}
@@ -61,7 +62,7 @@ four-bytes c =
 
 module _ (long : Bool) (rules : Rules) (body : List ℕ) where
   abbrev pub item : ℕ → List ℕ → Turn (List ℕ) (Option (List ℕ))
-  item p before = taken before (pieceAt long rules body p)
+  item p before = pieceTurn before (pieceAt long rules body p)
 
   abbrev pub on : ℕ → List ℕ → Option (List ℕ)
   on p before = walkFrom item wholeValue (length body) p before
@@ -72,12 +73,12 @@ module _ (long : Bool) (rules : Rules) (body : List ℕ) where
 
   module _ (p : ℕ) (before : List ℕ) (whole : Option (List ℕ)) (h : on p before ≡ whole) where
     pub turn : (bytes : List ℕ) (width : ℕ) → piece bytes width ≡ pieceAt long rules body p → 1 ≤ width → p + width ≤ length body → on (p + width) (before ++ bytes) ≡ whole
-    unfolding taken
-    turn bytes width e l i = sym (walk-goes item wholeValue (length body) p before width (before ++ bytes) l i (sym (ap (taken before) e))) ∙ h
+    unfolding pieceTurn
+    turn bytes width e l i = sym (walk-goes item wholeValue (length body) p before width (before ++ bytes) l i (sym (ap (pieceTurn before) e))) ∙ h
 
     pub bad : malformed ≡ pieceAt long rules body p → p < length body → none ≡ whole
-    unfolding taken
-    bad e l = sym (walk-stop item wholeValue (length body) p before none l (sym (ap (taken before) e))) ∙ h
+    unfolding pieceTurn
+    bad e l = sym (walk-stop item wholeValue (length body) p before none l (sym (ap (pieceTurn before) e))) ∙ h
 
     pub done : length body ≤ p → some before ≡ whole
     unfolding wholeValue
@@ -122,10 +123,10 @@ module _ (rules : Rules) (body : List ℕ) where
   abbrev There : List ℕ → Option (List ℕ) → Type 0
   There before o = o ≡ none → ⊥
 
-  no-stop : (p : ℕ) (before : List ℕ) (a : Option (List ℕ)) → taken before (pieceAt true rules body p) ≡ stop a → There before a
-  unfolding taken pieceAt longPiece
+  no-stop : (p : ℕ) (before : List ℕ) (a : Option (List ℕ)) → pieceTurn before (pieceAt true rules body p) ≡ stop a → There before a
+  unfolding pieceTurn pieceAt longPiece
   no-stop p before a =
-      by-test (λ (q : Piece). taken before q ≡ stop a → There before a) (eqb (lineBreak (rules .«lfcr_line_break») body p) 0) _ _
+      by-test (λ (q : LiteralPiece). pieceTurn before q ≡ stop a → There before a) (eqb (lineBreak (rules .«lfcr_line_break») body p) 0) _ _
       (λ _ e _. let z : _≡_ {A = ℕ} 0 1 = cc in omega arith) (λ _ e _. let z : _≡_ {A = ℕ} 0 1 = cc in omega arith)
 
   value-there : (p : ℕ) (before : List ℕ) → There before (wholeValue p before)
@@ -190,7 +191,7 @@ module _ (long : Bool) (rules : Rules) (body output₀ output : List ℕ) (at n 
     holds-more output n bytes (kept .0) output₀ new (kept .1) w (kept .5),
   )
 
-  pub kept-piece : (bytes new : List ℕ) (width m : ℕ) → m ≡ length bytes → piece bytes width ≡ pieceAt long rules body at → Lies 1 width at (length body) → m ≤ width
+  pub kept-piece : (bytes new : List ℕ) (width m : ℕ) → m ≡ length bytes → piece bytes width ≡ pieceAt long rules body at → LiesInText 1 width at (length body) → m ≤ width
       → new ≡ stores output n bytes → Kept long rules body output₀ new (at + width) (n + m)
   kept-piece bytes new width m q e l s w =
       subst (λ (k : ℕ). Kept long rules body output₀ new (at + width) (n + k)) (sym q)
@@ -204,13 +205,13 @@ module _ (long : Bool) (rules : Rules) (body output₀ output : List ℕ) (at n 
       (kept-bytes (part body at end) new end (omega arith) l i (plain-part long rules body (valueOf long rules body) at end (kept .0) (kept .4) l i f) w)
 
   pub kept-end : length body ≤ at
-      → (size.Length n ≡ sizeOf (valueOf long rules body)) × (Within (size.Length n) (length body) × Written (valueOf long rules body) output₀ output)
+      → (size.Length n ≡ sizeOf (valueOf long rules body)) × (SizeWithin (size.Length n) (length body) × Written (valueOf long rules body) output₀ output)
   kept-end l =
       let e = done long rules body at (kept .0) (valueOf long rules body) (kept .4) l in
       (ap size.Length (kept .1) ∙ ap sizeOf e, (omega (arith, kept .2, kept .3), subst (λ (o : Option (List ℕ)). Written o output₀ output) e (kept .5 .front)))
 
   pub kept-bad : malformed ≡ pieceAt long rules body at → at < length body
-      → (size.Malformed ≡ sizeOf (valueOf long rules body)) × (Within size.Malformed (length body) × Written (valueOf long rules body) output₀ output)
+      → (size.Malformed ≡ sizeOf (valueOf long rules body)) × (SizeWithin size.Malformed (length body) × Written (valueOf long rules body) output₀ output)
   kept-bad q l =
       let e = bad long rules body at (kept .0) (valueOf long rules body) (kept .4) q l in
       (ap sizeOf e, (tt, subst (λ (o : Option (List ℕ)). Written o output₀ output) e tt))
@@ -235,17 +236,17 @@ pub whole : (body : List ℕ) → Written (some body) body body
 whole body l = rw (drop-length body, append-nil body)
 
 -- a value that is no longer than its body has room where the body has
-pub in-room : (n : ℕ) (found : Size) → found ≡ size.Length n → {len room : ℕ} → Within found len → len ≤ room → n ≤ room
-in-room n found e {len} w l = let h : Within (size.Length n) len = subst (λ (x : Size). Within x len) e w in omega arith
+pub in-room : (n : ℕ) (found : Size) → found ≡ size.Length n → {len room : ℕ} → SizeWithin found len → len ≤ room → n ≤ room
+in-room n found e {len} w l = let h : SizeWithin (size.Length n) len = subst (λ (x : Size). SizeWithin x len) e w in omega arith
 
 module _ (o : Option (List ℕ)) (output : List ℕ) where
-  pub undecodable : o ≡ none → (numbered decoded.Undecodable ≡ answerOf (withRoom (length output) o)) × (output ≡ outputOf (withRoom (length output) o) output)
-  unfolding numbered answerOf withRoom outputOf
+  pub undecodable : o ≡ none → (numbered decoded.Undecodable ≡ decodingOf (withRoom (length output) o)) × (output ≡ outputOf (withRoom (length output) o) output)
+  unfolding numbered decodingOf withRoom outputOf
   undecodable e = (rw e, rw e)
 
   module _ (n : ℕ) (h : (v : List ℕ) × (o ≡ some v) × (n ≡ length v)) where
-    pub too-short : length output < n → (numbered decoded.OutputTooShort ≡ answerOf (withRoom (length output) o)) × (output ≡ outputOf (withRoom (length output) o) output)
-    unfolding numbered answerOf withRoom outputOf if_then_else_
+    pub too-short : length output < n → (numbered decoded.OutputTooShort ≡ decodingOf (withRoom (length output) o)) × (output ≡ outputOf (withRoom (length output) o) output)
+    unfolding numbered decodingOf withRoom outputOf if_then_else_
     too-short l =
         let t = lt-leb (length (h .0)) (length output) (omega (arith, h .2)) in
         (rw (h .1, t), rw (h .1, t))
@@ -263,8 +264,8 @@ module _ (o : Option (List ℕ)) (output : List ℕ) where
         let f : Written (some (h .0)) output new = subst (λ (x : Option (List ℕ)). Written x output new) (h .1) w in
         f (omega (arith, h .2)) ∙ written o (h .0) output (sym (h .1)) (omega (arith, h .2))
 
-    pub fits : n ≤ length output → numbered (decoded.Value n) ≡ answerOf (withRoom (length output) o)
-    unfolding numbered answerOf withRoom if_then_else_
+    pub fits : n ≤ length output → numbered (decoded.Value n) ≡ decodingOf (withRoom (length output) o)
+    unfolding numbered decodingOf withRoom if_then_else_
     fits l =
         let t = le-leb (length (h .0)) (length output) (omega (arith, h .2)) in
         rw (h .1, t, h .2)
@@ -300,12 +301,12 @@ module _ (rules : Rules) (raw : List ℕ) where
 module _ (version : ℕ) (raw : List ℕ) (room : ℕ) where
   pub unknown-version : isVersion version ≡ false → refused 25 0 ≡ decodeString version raw room
   unfolding decodeString
-  unknown-version e = sym (if-false _ _ _ e)
+  unknown-version = text-unknown-version refused version raw _
 
   pub not-utf8 : isVersion version ≡ true → (p : ℕ) → some p ≡ illFormed raw → refused 23 p ≡ decodeString version raw room
-  unfolding decodeString ofText
-  not-utf8 e p f = ap (ofText version room raw) f ∙ sym (if-true _ _ _ e)
+  unfolding decodeString
+  not-utf8 = text-ill-formed refused version raw _
 
   pub literal : isVersion version ≡ true → none ≡ illFormed raw → withRoom room (literalValue (rulesOf version) raw) ≡ decodeString version raw room
-  unfolding decodeString ofText
-  literal e f = ap (ofText version room raw) f ∙ sym (if-true _ _ _ e)
+  unfolding decodeString
+  literal = text-fine refused version raw _

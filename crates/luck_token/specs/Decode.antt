@@ -7,50 +7,46 @@ use mathlib.Core.Option.{Option, none, some}
 use lib.ListN.{length}
 use lib.Dec.{leb}
 use Rattle.luck_text.specs.Bytes.{if_then_else_, inFront}
-use Rattle.luck_token.specs.Version.{isVersion, rulesOf}
-use Rattle.luck_utf8.specs.Utf8.{illFormed}
+use Rattle.luck_token.specs.Version.{rulesOf}
+use Rattle.luck_token.specs.Text.{afterText}
 use Rattle.luck_token.specs.Literal.{literalValue}
 use Rattle.luck_token.specs.declared.string.Decoded.{Decoded}
 use Rattle.luck_token.specs.declared.string.Decoded.the-variants.{Value, UnknownVersion, NotUtf8, Undecodable, OutputTooShort}
 
 -- the value, or a refusal: its number and its offset
-pub data Outcome : Type 0 where
-  value : List ℕ → Outcome
-  refused : ℕ → ℕ → Outcome
+pub data DecodeOutcome : Type 0 where
+  value : List ℕ → DecodeOutcome
+  refused : ℕ → ℕ → DecodeOutcome
 
-unfoldable pub withRoom : ℕ → Option (List ℕ) → Outcome
+unfoldable pub withRoom : ℕ → Option (List ℕ) → DecodeOutcome
 withRoom room none = refused 24 0
 withRoom room (some bytes) = if leb (length bytes) room then value bytes else refused 26 0
 
-unfoldable pub ofText : ℕ → ℕ → List ℕ → Option ℕ → Outcome
-ofText version room raw (some p) = refused 23 p
-ofText version room raw none = withRoom room (literalValue (rulesOf version) raw)
-
-unfoldable pub decodeString : ℕ → List ℕ → ℕ → Outcome
-decodeString version raw room = let text = ofText version room raw (illFormed raw) in if isVersion version then text else refused 25 0
+unfoldable pub decodeString : ℕ → List ℕ → ℕ → DecodeOutcome
+decodeString version raw room = afterText refused version raw (withRoom room (literalValue (rulesOf version) raw))
 
 -- an answer in document 01's numbers (0: decoded)
-pub record Answer : Type 0 where
+pub record Decoding : Type 0 where
   pub number : ℕ
   pub offset : ℕ
   pub written : ℕ
 
-abbrev pub answer : ℕ → ℕ → ℕ → Answer
-answer number offset written = record { number = number; offset = offset; written = written }
+abbrev pub decoding : ℕ → ℕ → ℕ → Decoding
+decoding number offset written = record { number = number; offset = offset; written = written }
 
-unfoldable pub answerOf : Outcome → Answer
-answerOf (value bytes) = answer 0 0 (length bytes)
-answerOf (refused number offset) = answer number offset 0
+unfoldable pub decodingOf : DecodeOutcome → Decoding
+decodingOf (value bytes) = decoding 0 0 (length bytes)
+decodingOf (refused number offset) = decoding number offset 0
 
 -- the code's answer in those numbers
-unfoldable pub numbered : Decoded → Answer
-numbered (Value n) = answer 0 0 n
-numbered UnknownVersion = answer 25 0 0
-numbered (NotUtf8 p) = answer 23 p 0
-numbered Undecodable = answer 24 0 0
-numbered OutputTooShort = answer 26 0 0
+unfoldable pub numbered : Decoded → Decoding
+numbered (Value n) = decoding 0 0 n
+numbered UnknownVersion = decoding 25 0 0
+numbered (NotUtf8 p) = decoding 23 p 0
+numbered Undecodable = decoding 24 0 0
+numbered OutputTooShort = decoding 26 0 0
 
 -- the output at the end
-unfoldable pub outputOf : Outcome → List ℕ → List ℕ
+unfoldable pub outputOf : DecodeOutcome → List ℕ → List ℕ
 outputOf (value bytes) output = inFront bytes output
 outputOf (refused number offset) output = output

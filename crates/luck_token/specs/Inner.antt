@@ -10,31 +10,31 @@ use lib.ListN.{length, drop}
 use Rattle.luck_text.specs.Bytes.{inFront}
 use Rattle.luck_text.specs.Scan.{neither}
 use Rattle.luck_utf8.specs.Utf8.{utf8Bytes}
-use Rattle.luck_token.specs.Literal.{Piece, piece, malformed}
+use Rattle.luck_token.specs.Literal.{LiteralPiece, piece, malformed}
 use Rattle.luck_token.specs.declared.string.Piece.{Piece as Found}
 use Rattle.luck_token.specs.declared.string.Piece.the-variants.{Byte, Character, Nothing, Malformed}
 use Rattle.luck_token.specs.declared.string.Size.{Size}
 use Rattle.luck_token.specs.declared.string.Size.the-variants as size
 
 -- the code's piece
-abbrev pub pieceOf : Found → Piece
+abbrev pub pieceOf : Found → LiteralPiece
 pieceOf (Byte b width) = piece (b ∷ []) width
 pieceOf (Character c width) = piece (utf8Bytes c) width
 pieceOf (Nothing width) = piece [] width
 pieceOf Malformed = malformed
 
 -- a piece of at least this many bytes lies in the text, at place p
-abbrev pub Lies : ℕ → ℕ → ℕ → ℕ → Type 0
-Lies least width p len = (least ≤ width) × (p + width ≤ len)
+abbrev pub LiesInText : ℕ → ℕ → ℕ → ℕ → Type 0
+LiesInText least width p len = (least ≤ width) × (p + width ≤ len)
 
 abbrev pub Inside : Found → ℕ → ℕ → Type 0
-Inside (Byte b width) p len = Lies 1 width p len
-Inside (Character c width) p len = (c < 0x110000) × Lies 4 width p len
-Inside (Nothing width) p len = Lies 1 width p len
+Inside (Byte b width) p len = LiesInText 1 width p len
+Inside (Character c width) p len = (c < 0x110000) × LiesInText 4 width p len
+Inside (Nothing width) p len = LiesInText 1 width p len
 Inside Malformed p len = Unit {0}
 
 -- the code's piece is the one that stands at place p, and lies in the text
-pub record IsPiece (wanted : Piece) (body : List ℕ) (p : ℕ) (found : Found) : Type 0 where
+pub record IsPiece (wanted : LiteralPiece) (body : List ℕ) (p : ℕ) (found : Found) : Type 0 where
   pub is : pieceOf found ≡ wanted
   pub inside : Inside found p (length body)
 
@@ -48,9 +48,9 @@ plain true b = neither (code "\r") (code "\n") b
 plain false b = neither (code "\\") (code "\\") b
 
 -- a value has no more bytes than its body
-abbrev pub Within : Size → ℕ → Type 0
-Within (size.Length n) len = n ≤ len
-Within size.Malformed len = Unit {0}
+abbrev pub SizeWithin : Size → ℕ → Type 0
+SizeWithin (size.Length n) len = n ≤ len
+SizeWithin size.Malformed len = Unit {0}
 
 -- a value that fits stands at the front of the output, and behind it what was there
 abbrev pub Written : Option (List ℕ) → List ℕ → List ℕ → Type 0

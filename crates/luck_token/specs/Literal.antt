@@ -59,12 +59,12 @@ longStringBody lfcr raw = let width = bracketWidth raw in stripLineBreak lfcr (p
 -- ---- Pieces
 
 -- the bytes that a piece of the text stands for, and how many bytes of the text it takes
-pub data Piece : Type 0 where
-  piece : List ℕ → ℕ → Piece
-  malformed : Piece
+pub data LiteralPiece : Type 0 where
+  piece : List ℕ → ℕ → LiteralPiece
+  malformed : LiteralPiece
 
 -- in a long string each line break is a newline, and any other byte itself
-unfoldable pub longPiece : Bool → List ℕ → ℕ → Piece
+unfoldable pub longPiece : Bool → List ℕ → ℕ → LiteralPiece
 longPiece lfcr body p =
     let width = lineBreak lfcr body p in
     if eqb width 0 then piece (byteAt body p ∷ []) 1 else piece (code "\n" ∷ []) width
@@ -75,8 +75,8 @@ otherEscape rules = if rules .«strict_escapes» then Undefined else Itself
 
 -- what the byte after a backslash begins. The code's enum Escape: Simple (the byte that it stands for), LineBreak, Hex `\xXX`, Whitespace `\z`,
 -- Decimal `\ddd`, Unicode `\u{XXX}`, Itself (the byte stands for itself), Undefined. 07, 08, 0C and 0B are BEL, BS, FF and VT.
-unfoldable pub escapeOf : Rules → ℕ → Escape
-escapeOf rules e =
+unfoldable pub escapeKind : Rules → ℕ → Escape
+escapeKind rules e =
     if eqb e (code "a") then Simple 0x07
     else if eqb e (code "b") then Simple 0x08
     else if eqb e (code "f") then Simple 0x0C
@@ -93,20 +93,20 @@ escapeOf rules e =
     else otherEscape rules
 
 -- `\` and a line break is a newline. A lone CR counts here in Luau too.
-unfoldable pub lineBreakEscape : Bool → List ℕ → ℕ → Piece
+unfoldable pub lineBreakEscape : Bool → List ℕ → ℕ → LiteralPiece
 lineBreakEscape lfcr body p = piece (code "\n" ∷ []) (1 + max 1 (lineBreak lfcr body (p + 1)))
 
 -- exactly two hexadecimal digits
-unfoldable pub hexEscape : List ℕ → ℕ → Piece
+unfoldable pub hexEscape : List ℕ → ℕ → LiteralPiece
 hexEscape body p =
     if isXdigit (byteAt body (p + 2)) && isXdigit (byteAt body (p + 3)) then piece (numeral 16 (part body (p + 2) (p + 4)) ∷ []) 4 else malformed
 
 -- `\z` skips the whitespace after it
-unfoldable pub whitespaceEscape : List ℕ → ℕ → Piece
+unfoldable pub whitespaceEscape : List ℕ → ℕ → LiteralPiece
 whitespaceEscape body p = piece [] (2 + run isLuaWhitespace (drop (p + 2) body))
 
 -- one to three decimal digits, at most 255
-unfoldable pub decimalEscape : List ℕ → ℕ → Piece
+unfoldable pub decimalEscape : List ℕ → ℕ → LiteralPiece
 decimalEscape body p =
     let count = min 3 (run isDigit (drop (p + 1) body)) in
     let value = numeral 10 (part body (p + 1) (p + 1 + count)) in
@@ -124,7 +124,7 @@ unfoldable pub allowsCodePoint : Rules → ℕ → ℕ → Bool
 allowsCodePoint rules count value = allowsDigits rules count && leb value (codePointLimit rules) && isChar value
 
 -- hexadecimal digits in braces, as many and of such a value as the version allows
-unfoldable pub unicodeEscape : Rules → List ℕ → ℕ → Piece
+unfoldable pub unicodeEscape : Rules → List ℕ → ℕ → LiteralPiece
 unicodeEscape rules body p =
     let count = run isXdigit (drop (p + 3) body) in
     let value = numeral 16 (part body (p + 3) (p + 3 + count)) in
@@ -133,44 +133,44 @@ unicodeEscape rules body p =
     else malformed
 
 -- the escape whose backslash stands at place p
-unfoldable pub escapeAs : Rules → Escape → List ℕ → ℕ → Piece
-escapeAs rules (Simple b) body p = piece (b ∷ []) 2
-escapeAs rules LineBreak body p = lineBreakEscape (rules .«lfcr_line_break») body p
-escapeAs rules Hex body p = hexEscape body p
-escapeAs rules Whitespace body p = whitespaceEscape body p
-escapeAs rules Decimal body p = decimalEscape body p
-escapeAs rules Unicode body p = unicodeEscape rules body p
-escapeAs rules Itself body p = piece (byteAt body (p + 1) ∷ []) 2
-escapeAs rules Undefined body p = malformed
+unfoldable pub escapePiece : Rules → Escape → List ℕ → ℕ → LiteralPiece
+escapePiece rules (Simple b) body p = piece (b ∷ []) 2
+escapePiece rules LineBreak body p = lineBreakEscape (rules .«lfcr_line_break») body p
+escapePiece rules Hex body p = hexEscape body p
+escapePiece rules Whitespace body p = whitespaceEscape body p
+escapePiece rules Decimal body p = decimalEscape body p
+escapePiece rules Unicode body p = unicodeEscape rules body p
+escapePiece rules Itself body p = piece (byteAt body (p + 1) ∷ []) 2
+escapePiece rules Undefined body p = malformed
 
-unfoldable pub escapeAt : Rules → List ℕ → ℕ → Piece
-escapeAt rules body p =
-    let escape = escapeAs rules (escapeOf rules (byteAt body (p + 1))) body p in
+unfoldable pub escapePieceAt : Rules → List ℕ → ℕ → LiteralPiece
+escapePieceAt rules body p =
+    let escape = escapePiece rules (escapeKind rules (byteAt body (p + 1))) body p in
     if ltb (p + 1) (length body) then escape else malformed
 
 -- in a short string a backslash begins an escape, and any other byte is itself
-unfoldable pub shortPiece : Rules → List ℕ → ℕ → Piece
+unfoldable pub shortPiece : Rules → List ℕ → ℕ → LiteralPiece
 shortPiece rules body p =
-    let escape = escapeAt rules body p in
+    let escape = escapePieceAt rules body p in
     if eqb (byteAt body p) (code "\\") then escape else piece (byteAt body p ∷ []) 1
 
 -- the piece at place p of a long or a short string
-unfoldable pub pieceAt : Bool → Rules → List ℕ → ℕ → Piece
+unfoldable pub pieceAt : Bool → Rules → List ℕ → ℕ → LiteralPiece
 pieceAt true rules body p = longPiece (rules .«lfcr_line_break») body p
 pieceAt false rules body p = shortPiece rules body p
 
 -- ---- The value
 
 -- the bytes so far and those of one more piece
-unfoldable pub taken : List ℕ → Piece → Turn (List ℕ) (Option (List ℕ))
-taken before malformed = stop none
-taken before (piece bytes width) = goes width (before ++ bytes)
+unfoldable pub pieceTurn : List ℕ → LiteralPiece → Turn (List ℕ) (Option (List ℕ))
+pieceTurn before malformed = stop none
+pieceTurn before (piece bytes width) = goes width (before ++ bytes)
 
 unfoldable pub wholeValue : ℕ → List ℕ → Option (List ℕ)
 wholeValue p before = some before
 
 unfoldable pub valueOf : Bool → Rules → List ℕ → Option (List ℕ)
-valueOf long rules body = walkFrom (λ p before. taken before (pieceAt long rules body p)) wholeValue (length body) 0 []
+valueOf long rules body = walkFrom (λ p before. pieceTurn before (pieceAt long rules body p)) wholeValue (length body) 0 []
 
 -- the value of a literal, none for a text that is no literal or has a malformed piece
 unfoldable pub literalValue : Rules → List ℕ → Option (List ℕ)

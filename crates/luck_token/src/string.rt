@@ -6,9 +6,9 @@ ghost use Prim.Native.Nat.{ℕ, _+_, _-_, _<_, _≤_};
 ghost use lib.ListN.{length};
 ghost use Rattle.luck_text.specs.Bytes.{byteAt, part};
 ghost use Rattle.luck_token.specs.Whitespace.{stripLineBreak};
-ghost use Rattle.luck_token.specs.Literal.{isShort, shortStringBody, placesOf, bracketAt, bracketWidth, otherEscape, escapeOf, lineBreakEscape, hexEscape, decimalEscape, allowsDigits, allowsCodePoint, unicodeEscape, escapeAt, longPiece, pieceAt, valueOf, literalValue};
-ghost use Rattle.luck_token.specs.Decode.{withRoom, decodeString, answerOf, numbered, outputOf};
-ghost use Rattle.luck_token.specs.Inner.{IsPiece, sizeOf, plain, Within, Written};
+ghost use Rattle.luck_token.specs.Literal.{isShort, shortStringBody, placesOf, bracketAt, bracketWidth, otherEscape, escapeKind, lineBreakEscape, hexEscape, decimalEscape, allowsDigits, allowsCodePoint, unicodeEscape, escapePieceAt, longPiece, pieceAt, valueOf, literalValue};
+ghost use Rattle.luck_token.specs.Decode.{withRoom, decodeString, decodingOf, numbered, outputOf};
+ghost use Rattle.luck_token.specs.Inner.{IsPiece, sizeOf, plain, SizeWithin, Written};
 use crate::version;
 use crate::version::Rules;
 use crate::whitespace;
@@ -92,7 +92,7 @@ fn other_escape(rules: Rules) -> Escape
 }
 
 fn escape_of(byte: u8, rules: Rules) -> Escape
-    ensures { λ r. ⌜ r ≡ escapeOf rules byte ⌝ }
+    ensures { λ r. ⌜ r ≡ escapeKind rules byte ⌝ }
 {
     match byte {
         b'a' => Escape::Simple(0x07),
@@ -236,7 +236,7 @@ fn unicode_escape(body: &[u8], at: usize, rules: Rules) -> Piece
 // The escape whose backslash stands at `at`.
 fn escape_at(body: &[u8], at: usize, rules: Rules) -> Piece
     requires { ⌜ at < length (now body) ⌝ }
-    ensures { λ r. ⌜ IsPiece (escapeAt rules (now (body .entry)) at) (now (body .entry)) at r ⌝ }
+    ensures { λ r. ⌜ IsPiece (escapePieceAt rules (now (body .entry)) at) (now (body .entry)) at r ⌝ }
 {
     let next = at + 1;
     if body.len() <= next {
@@ -334,7 +334,7 @@ pub enum Size {
 // 16 pieces.
 fn write(body: &[u8], long: bool, rules: Rules, output: &mut [u8]) -> Size
     ensures size { λ r. ⌜ r ≡ sizeOf (valueOf long rules (now (body .entry))) ⌝ }
-    ensures within { λ r. ⌜ Within r (length (now (body .entry))) ⌝ }
+    ensures within { λ r. ⌜ SizeWithin r (length (now (body .entry))) ⌝ }
     ensures output { λ r. ⌜ Written (valueOf long rules (now (body .entry))) (now (output .entry)) (now (output .exit)) ⌝ }
 {
     let mut at = 0;
@@ -388,7 +388,7 @@ pub enum Decoded {
 
 // A body that has no other than plain bytes is its value.
 fn decode_plain(body: &[u8], output: &mut [u8]) -> Decoded
-    ensures answer { λ r. ⌜ numbered r ≡ answerOf (withRoom (length (now (output .entry))) (some (now (body .entry)))) ⌝ }
+    ensures answer { λ r. ⌜ numbered r ≡ decodingOf (withRoom (length (now (output .entry))) (some (now (body .entry)))) ⌝ }
     ensures output { λ r. ⌜ now (output .exit) ≡ outputOf (withRoom (length (now (output .entry))) (some (now (body .entry)))) (now (output .entry)) ⌝ }
 {
     let n = body.len();
@@ -402,7 +402,7 @@ fn decode_plain(body: &[u8], output: &mut [u8]) -> Decoded
 // A long string is never malformed: where the output has room for the body, it is read once.
 fn decode_long(body: &[u8], long: bool, rules: Rules, output: &mut [u8]) -> Decoded
     requires { ⌜ (long ≡ true) × (length (now body) ≤ length (now output)) ⌝ }
-    ensures answer { λ r. ⌜ numbered r ≡ answerOf (withRoom (length (now (output .entry))) (valueOf long rules (now (body .entry)))) ⌝ }
+    ensures answer { λ r. ⌜ numbered r ≡ decodingOf (withRoom (length (now (output .entry))) (valueOf long rules (now (body .entry)))) ⌝ }
     ensures output { λ r. ⌜ now (output .exit) ≡ outputOf (withRoom (length (now (output .entry))) (valueOf long rules (now (body .entry)))) (now (output .entry)) ⌝ }
 {
     let size = write(body, long, rules, output);
@@ -414,7 +414,7 @@ fn decode_long(body: &[u8], long: bool, rules: Rules, output: &mut [u8]) -> Deco
 
 // A value of up to 64 bytes is read once, into a buffer. Any other is measured first: a refusal leaves the output untouched.
 fn decode_pieces(body: &[u8], long: bool, rules: Rules, output: &mut [u8]) -> Decoded
-    ensures answer { λ r. ⌜ numbered r ≡ answerOf (withRoom (length (now (output .entry))) (valueOf long rules (now (body .entry)))) ⌝ }
+    ensures answer { λ r. ⌜ numbered r ≡ decodingOf (withRoom (length (now (output .entry))) (valueOf long rules (now (body .entry)))) ⌝ }
     ensures output { λ r. ⌜ now (output .exit) ≡ outputOf (withRoom (length (now (output .entry))) (valueOf long rules (now (body .entry)))) (now (output .entry)) ⌝ }
 {
     let mut buffer: [u8; 64] = [0; 64];
@@ -437,7 +437,7 @@ fn decode_pieces(body: &[u8], long: bool, rules: Rules, output: &mut [u8]) -> De
 
 // A short body is read at once: looking for a special byte first would cost more than it saves.
 fn decode_body(body: &[u8], long: bool, rules: Rules, output: &mut [u8]) -> Decoded
-    ensures answer { λ r. ⌜ numbered r ≡ answerOf (withRoom (length (now (output .entry))) (valueOf long rules (now (body .entry)))) ⌝ }
+    ensures answer { λ r. ⌜ numbered r ≡ decodingOf (withRoom (length (now (output .entry))) (valueOf long rules (now (body .entry)))) ⌝ }
     ensures output { λ r. ⌜ now (output .exit) ≡ outputOf (withRoom (length (now (output .entry))) (valueOf long rules (now (body .entry)))) (now (output .entry)) ⌝ }
 {
     if 64 <= body.len() {
@@ -497,7 +497,7 @@ fn long_string_body(raw: &[u8], width: usize, lfcr: bool) -> &[u8]
 }
 
 fn decode_literal(raw: &[u8], rules: Rules, output: &mut [u8]) -> Decoded
-    ensures answer { λ r. ⌜ numbered r ≡ answerOf (withRoom (length (now (output .entry))) (literalValue rules (now (raw .entry)))) ⌝ }
+    ensures answer { λ r. ⌜ numbered r ≡ decodingOf (withRoom (length (now (output .entry))) (literalValue rules (now (raw .entry)))) ⌝ }
     ensures output { λ r. ⌜ now (output .exit) ≡ outputOf (withRoom (length (now (output .entry))) (literalValue rules (now (raw .entry)))) (now (output .entry)) ⌝ }
 {
     if is_short(raw) {
@@ -513,7 +513,7 @@ fn decode_literal(raw: &[u8], rules: Rules, output: &mut [u8]) -> Decoded
 }
 
 pub fn decode_string(version: u32, raw: &[u8], output: &mut [u8]) -> Decoded
-    ensures answer { λ r. ⌜ numbered r ≡ answerOf (decodeString version (now (raw .entry)) (length (now (output .entry)))) ⌝ }
+    ensures answer { λ r. ⌜ numbered r ≡ decodingOf (decodeString version (now (raw .entry)) (length (now (output .entry)))) ⌝ }
     ensures output { λ r. ⌜ now (output .exit) ≡ outputOf (decodeString version (now (raw .entry)) (length (now (output .entry)))) (now (output .entry)) ⌝ }
 {
     if version::is_version(version) {

@@ -11,6 +11,6 @@ placeOr other none = other
 placeOr other (some p) = p
 
 -- where the text between the quotes starts and ends, zeros where there are no quotes
-abbrev pub bodyOf : Option (ℕ × ℕ) → Body
-bodyOf none = record { «is_short» = false; start = 0; end = 0 }
-bodyOf (some (start, end)) = record { «is_short» = true; start = start; end = end }
+abbrev pub bodyStruct : Option (ℕ × ℕ) → Body
+bodyStruct none = record { «is_short» = false; start = 0; end = 0 }
+bodyStruct (some (start, end)) = record { «is_short» = true; start = start; end = end }

@@ -8,7 +8,7 @@ ghost use Rattle.luck_token.specs.Span.{spanOf, shiftedBy};
 ghost use Rattle.luck_utf8.specs.Utf8.{illFormed, charAt};
 ghost use Rattle.luck_token.specs.Version.{rulesOf};
 ghost use Rattle.luck_token.specs.Whitespace.{stripLineBreak};
-ghost use Rattle.luck_token_exports.specs.Answers.{placeOr, bodyOf};
+ghost use Rattle.luck_token_exports.specs.Answers.{placeOr, bodyStruct};
 use luck_token::span::Span;
 use luck_token::string;
 use luck_token::string::ShortString;
@@ -71,7 +71,7 @@ pub struct Body {
 
 #[no_mangle]
 pub extern "C" fn luck_token_short_string_body(text: &[u8]) -> Body
-    ensures { λ r. ⌜ r ≡ bodyOf (shortStringBody (now (text .entry))) ⌝ }
+    ensures { λ r. ⌜ r ≡ bodyStruct (shortStringBody (now (text .entry))) ⌝ }
 {
     let body = string::short_string_body(text);
     match body {

@@ -6,8 +6,7 @@ use mathlib.Core.Bool.{true, false}
 use mathlib.Core.List.{List, [], _∷_, _++_}
 use mathlib.Core.Option.{Option}
 use lib.ListN.{length}
-use Rattle.luck_token.specs.Decode.{decodeString, answerOf, outputOf}
-use Rattle.luck_token.specs.Decode.{Answer as Decoded}
+use Rattle.luck_token.specs.Decode.{Decoding, decodeString, decodingOf, outputOf}
 use Rattle.luck_answer.specs.Answer.{Answer}
 use Rattle.luck_pattern.specs.Pattern.{checkPattern}
 use Rattle.luck_replacement.specs.Replacement.{checkReplacement}
@@ -29,7 +28,7 @@ pub data Asked : Type 0 where
 pub data Told : Type 0 where
   checked : Answer → Told
   checkedLiteral : LiteralAnswer → Told
-  decoded : Decoded → List ℕ → Told
+  decoded : Decoding → List ℕ → Told
   tried : Report → List ℕ → Told
 
 abbrev pub tell : ℕ → Asked → Told
@@ -42,7 +41,7 @@ tell version (replacement captures text) = checked (checkReplacement version cap
 tell version (literal kind captures start text) = checkedLiteral (checkLiteral kind version captures start text)
 tell version (decode text output) =
     let outcome = decodeString version text (length output) in
-    decoded (answerOf outcome) (outputOf outcome output)
+    decoded (decodingOf outcome) (outputOf outcome output)
 tell version (trial sub pat rep budget output) =
     let answer = gsub version pat rep sub budget (length output) in
     tried (report answer) (outputAfter output answer)

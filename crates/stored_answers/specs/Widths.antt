@@ -4,7 +4,7 @@ use Prim.Native.Nat.{ℕ}
 use Rattle.stored_answers.specs.declared.asked.Answers.{Answers}
 use Rattle.stored_answers.specs.declared.asked.Answers.the-variants.{Checks, LiteralChecks, RealLua}
 
-abbrev pub widthOf : Answers → ℕ
-widthOf Checks = 13
-widthOf LiteralChecks = 27
-widthOf RealLua = 2
+abbrev pub answerWidth : Answers → ℕ
+answerWidth Checks = 13
+answerWidth LiteralChecks = 27
+answerWidth RealLua = 2

@@ -2,7 +2,7 @@
 ghost use mathlib.Core.Path.{_≡_};
 ghost use Prim.Native.Nat.{_<_, _≤_};
 ghost use lib.ListN.{length};
-ghost use Rattle.stored_answers.specs.Widths.{widthOf};
+ghost use Rattle.stored_answers.specs.Widths.{answerWidth};
 ghost use Rattle.stored_questions.specs.Places.{AnswerLies};
 ghost use Rattle.stored_records.specs.Tally.{Passes};
 use crate::checks;
@@ -22,7 +22,7 @@ pub enum Answers {
 
 // How many bytes an answer has.
 fn width_of(answers: Answers) -> usize
-    ensures width { λ r. ⌜ r ≡ widthOf answers ⌝ }
+    ensures width { λ r. ⌜ r ≡ answerWidth answers ⌝ }
     ensures below { λ r. ⌜ r < 256 ⌝ }
 {
     match answers {
@@ -33,7 +33,7 @@ fn width_of(answers: Answers) -> usize
 }
 
 fn agrees(answers: Answers, file: &[u8], question: Question) -> bool
-    requires { ⌜ AnswerLies (widthOf answers) (length (now file)) question ⌝ }
+    requires { ⌜ AnswerLies (answerWidth answers) (length (now file)) question ⌝ }
 {
     match answers {
         Answers::Checks => checks::agrees(file, question),

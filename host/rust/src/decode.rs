@@ -8,6 +8,7 @@ use crate::version::Version;
 
 /// Why a literal has no value, or none that could be written.
 #[derive(Debug, Clone, Copy, PartialEq, Eq, Hash)]
+#[non_exhaustive]
 pub enum DecodeError {
     /// 23: not UTF-8.
     NotUtf8 {

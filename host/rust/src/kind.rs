@@ -1,5 +1,7 @@
 //! What a literal is used for.
 
+use std::fmt;
+
 /// What a literal is used for, which decides how it is checked.
 #[derive(Debug, Clone, Copy, PartialEq, Eq, Hash)]
 pub enum Kind {
@@ -45,5 +47,25 @@ impl Kind {
     #[must_use]
     pub fn from_letter(letter: u8) -> Option<Self> {
         Self::ALL.into_iter().find(|kind| kind.letter() == letter)
+    }
+}
+
+/// Its name, as the command `luck` takes it.
+///
+/// ```
+/// use luck::Kind;
+///
+/// assert_eq!(Kind::Packsize.to_string(), "packsize");
+/// ```
+impl fmt::Display for Kind {
+    fn fmt(&self, f: &mut fmt::Formatter<'_>) -> fmt::Result {
+        f.pad(match self {
+            Self::Format => "format",
+            Self::Pattern => "pattern",
+            Self::Pack => "pack",
+            Self::Packsize => "packsize",
+            Self::Replacement => "replacement",
+            Self::Date => "date",
+        })
     }
 }

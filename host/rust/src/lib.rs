@@ -30,4 +30,4 @@ pub use kind::Kind;
 pub use literal::{LiteralCheck, LiteralError, Span, check_literal};
 pub use refusal::Refusal;
 pub use trial::{Ending, RaisedKind, Trial, gsub_trial};
-pub use version::Version;
+pub use version::{UnknownVersion, Version};

@@ -10,6 +10,7 @@ use crate::version::Version;
 
 /// What became of a literal that is not refused.
 #[derive(Debug, Clone, Copy, PartialEq, Eq, Hash)]
+#[non_exhaustive]
 pub enum LiteralCheck {
     /// Accepted, with the count of the kind's check: arguments, captures or values; 0 for a replacement and a date.
     Accepted(usize),
@@ -28,6 +29,7 @@ pub struct Span {
 
 /// Why a literal is refused.
 #[derive(Debug, Clone, Copy, PartialEq, Eq, Hash)]
+#[non_exhaustive]
 pub struct LiteralError {
     /// The refusal. Its offset counts from the body's first byte; that of [`Refusal::NotUtf8`] from the quote.
     pub refusal: Refusal,

@@ -7,6 +7,7 @@ use crate::raw;
 
 /// Why a text is refused. Each `offset` is a byte of the text that was checked.
 #[derive(Debug, Clone, Copy, PartialEq, Eq, Hash)]
+#[non_exhaustive]
 pub enum Refusal {
     /// 1: the text ends after a `%` or its modifiers; in a pattern also inside `%b`.
     TruncatedSpecifier {

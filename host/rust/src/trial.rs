@@ -9,6 +9,7 @@ use crate::version::Version;
 /// What a trial of gsub gave.
 #[derive(Debug, Clone, Copy, PartialEq, Eq, Hash)]
 #[must_use]
+#[non_exhaustive]
 pub struct Trial {
     /// How it ended.
     pub ending: Ending,
@@ -22,6 +23,7 @@ pub struct Trial {
 
 /// How a trial ended.
 #[derive(Debug, Clone, Copy, PartialEq, Eq, Hash)]
+#[non_exhaustive]
 pub enum Ending {
     /// The whole subject was read.
     Done,
@@ -44,6 +46,7 @@ pub enum Ending {
 
 /// The error that Lua raises, by its message.
 #[derive(Debug, Clone, Copy, PartialEq, Eq, Hash)]
+#[non_exhaustive]
 pub enum RaisedKind {
     /// 1: the pattern ends with `%`.
     EndsWithPercent,
@@ -138,6 +141,19 @@ impl Ending {
     }
 }
 
+impl fmt::Display for Ending {
+    fn fmt(&self, f: &mut fmt::Formatter<'_>) -> fmt::Result {
+        match self {
+            Self::Done => f.write_str("done"),
+            Self::OutputFull => f.write_str("the output is full"),
+            Self::StepsSpent => f.write_str("the budget of steps is spent"),
+            Self::TooDeep => f.write_str("too deep: real Lua raises \"pattern too complex\""),
+            Self::Raised(kind) => kind.fmt(f),
+            Self::Other { number, kind } => write!(f, "refusal {number}, kind {kind}"),
+        }
+    }
+}
+
 impl From<raw::Trial> for Trial {
     fn from(answer: raw::Trial) -> Self {
         Self {
@@ -152,7 +168,10 @@ impl From<raw::Trial> for Trial {
 /// Tries `string.gsub(subject, pattern, replacement)` within a budget of steps, and writes the result to the front of `output`; the rest
 /// of the output is as it was. The texts are not checked first.
 ///
-/// The budget bounds the steps and not the time: a step may read the whole pattern or the whole subject. It takes up to 476 KiB of stack.
+/// The budget bounds the steps and not the time: a step may read the whole pattern or the whole subject.
+///
+/// It takes up to 473 KiB of stack: give a thread that calls it 512 KiB or more (`std::thread::Builder::stack_size`; Rust's own default, 2 MiB,
+/// is enough), or the process dies.
 ///
 /// ```
 /// use luck::{Ending, Version};

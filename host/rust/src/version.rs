@@ -1,9 +1,12 @@
 //! The versions of Lua.
 
+use std::error::Error;
 use std::fmt;
+use std::str::FromStr;
 
 /// A version of Lua whose rules the library knows.
 #[derive(Debug, Clone, Copy, PartialEq, Eq, PartialOrd, Ord, Hash)]
+#[non_exhaustive]
 pub enum Version {
     /// Lua 5.1
     Lua51,
@@ -50,9 +53,71 @@ impl Version {
     }
 }
 
+/// A number or a name that is no version.
+#[derive(Debug, Clone, Copy, PartialEq, Eq, Hash)]
+pub struct UnknownVersion;
+
+impl fmt::Display for UnknownVersion {
+    fn fmt(&self, f: &mut fmt::Formatter<'_>) -> fmt::Result {
+        f.write_str("unknown version: neither 5.1 to 5.5 or luau, nor a number from 1 to 6")
+    }
+}
+
+impl Error for UnknownVersion {}
+
+/// By the number that the C functions take.
+///
+/// ```
+/// use luck::{UnknownVersion, Version};
+///
+/// assert_eq!(Version::try_from(4), Ok(Version::Lua54));
+/// assert_eq!(Version::try_from(7), Err(UnknownVersion));
+/// ```
+impl TryFrom<u32> for Version {
+    type Error = UnknownVersion;
+
+    fn try_from(number: u32) -> Result<Self, UnknownVersion> {
+        Self::from_number(number).ok_or(UnknownVersion)
+    }
+}
+
+impl From<Version> for u32 {
+    fn from(version: Version) -> Self {
+        version.number()
+    }
+}
+
+/// By its name, in any case, as the command `luck` takes it: `5.4`, `lua5.4`, `Lua 5.4` or the number `4`; `luau` or `6`.
+///
+/// ```
+/// use luck::{UnknownVersion, Version};
+///
+/// assert_eq!("5.4".parse(), Ok(Version::Lua54));
+/// assert_eq!("Luau".parse(), Ok(Version::Luau));
+/// assert_eq!("5.6".parse::<Version>(), Err(UnknownVersion));
+/// ```
+impl FromStr for Version {
+    type Err = UnknownVersion;
+
+    fn from_str(name: &str) -> Result<Self, UnknownVersion> {
+        let name = name.to_ascii_lowercase();
+        let plain = name.strip_prefix("lua").map_or(name.as_str(), |rest| rest.strip_prefix(' ').unwrap_or(rest));
+        match (plain, name.as_str()) {
+            ("5.1", _) | (_, "1") => Ok(Self::Lua51),
+            ("5.2", _) | (_, "2") => Ok(Self::Lua52),
+            ("5.3", _) | (_, "3") => Ok(Self::Lua53),
+            ("5.4", _) | (_, "4") => Ok(Self::Lua54),
+            ("5.5", _) | (_, "5") => Ok(Self::Lua55),
+            (_, "luau" | "6") => Ok(Self::Luau),
+            _ => Err(UnknownVersion),
+        }
+    }
+}
+
+/// As [`FromStr`] reads it.
 impl fmt::Display for Version {
     fn fmt(&self, f: &mut fmt::Formatter<'_>) -> fmt::Result {
-        f.write_str(match self {
+        f.pad(match self {
             Self::Lua51 => "Lua 5.1",
             Self::Lua52 => "Lua 5.2",
             Self::Lua53 => "Lua 5.3",

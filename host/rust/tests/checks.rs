@@ -1,7 +1,7 @@
 //! The checks of bodies: what is accepted, what depends on the version, and edge inputs.
 
 use luck::Version::{Lua51, Lua52, Lua53, Lua54, Luau};
-use luck::{Refusal, Version};
+use luck::{Refusal, UnknownVersion, Version};
 
 /// The versions that accept, by number.
 fn accepting(check: impl Fn(Version) -> bool) -> Vec<u32> {
@@ -141,6 +141,27 @@ fn versions_by_number() {
     for number in [0, 7, u32::MAX] {
         assert_eq!(Version::from_number(number), None);
     }
+    for number in 0..8 {
+        assert_eq!(Version::try_from(number).ok(), Version::from_number(number));
+    }
+    assert_eq!(u32::from(Lua54), 4);
+}
+
+#[test]
+fn versions_by_name() {
     let names: Vec<String> = Version::ALL.into_iter().map(|version| version.to_string()).collect();
     assert_eq!(names, ["Lua 5.1", "Lua 5.2", "Lua 5.3", "Lua 5.4", "Lua 5.5", "Luau"]);
+    assert_eq!(format!("{:>8}", Version::Luau), "    Luau");
+    for version in Version::ALL {
+        for name in [version.to_string(), version.to_string().to_uppercase(), version.number().to_string()] {
+            assert_eq!(name.parse(), Ok(version), "{name}");
+        }
+    }
+    for name in ["5.4", "lua5.4", "LUA5.4", "Lua 5.4"] {
+        assert_eq!(name.parse(), Ok(Lua54), "{name}");
+    }
+    for name in ["", "0", "7", "04", "5.0", "5.6", "5.10", "lua", "lua4", "lua  5.4", " 5.4", "lualuau", "lua6"] {
+        assert_eq!(name.parse::<Version>(), Err(UnknownVersion), "{name}");
+    }
+    assert_eq!(UnknownVersion.to_string(), "unknown version: neither 5.1 to 5.5 or luau, nor a number from 1 to 6");
 }

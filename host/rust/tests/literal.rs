@@ -88,8 +88,16 @@ fn nul() {
 #[test]
 fn not_utf8() {
     for text in [b"'%\xFF'".as_slice(), b"[[\xFF]]", b"'\\\xFF", b"%y\xFF"] {
-        assert_eq!(format(100, text), Err(LiteralError { refusal: Refusal::NotUtf8 { offset: 2 }, span: None }));
+        let error = format(100, text).unwrap_err();
+        assert_eq!((error.refusal, error.span), (Refusal::NotUtf8 { offset: 2 }, None));
     }
+}
+
+#[test]
+fn kinds_by_name() {
+    let names: Vec<String> = Kind::ALL.into_iter().map(|kind| kind.to_string()).collect();
+    assert_eq!(names, ["format", "pattern", "pack", "packsize", "replacement", "date"]);
+    assert_eq!(format!("{:>8}", Kind::Pack), "    pack");
 }
 
 #[test]

@@ -3,6 +3,7 @@
 use std::ptr::{null, null_mut};
 
 use luck::raw::{self, Answer, Decoded, Literal, Trial};
+use luck::{Kind, Version};
 
 const NO_VERSIONS: [u32; 4] = [0, 7, 257, u32::MAX];
 
@@ -146,11 +147,41 @@ fn numbers_of_the_header() {
         ("RAISED", raw::RAISED),
         ("UNKNOWN_KIND", raw::UNKNOWN_KIND),
     ];
-    let header = include_str!("../../../include/luck.h");
-    let there: Vec<(&str, u32)> = header
-        .lines()
-        .filter_map(|line| line.trim().strip_prefix("LUCK_")?.trim_end_matches(',').split_once(" = "))
-        .map(|(name, number)| (name, number.parse().unwrap()))
-        .collect();
-    assert_eq!(there, here);
+    assert_eq!(numbers_after("/* `number`"), here.map(|(name, number)| (name.to_owned(), number)));
+}
+
+const HEADER: &str = include_str!("../../../include/luck.h");
+
+/// The names, without `LUCK_`, and numbers or letters of the enum of `include/luck.h` that follows this comment.
+fn numbers_after(comment: &str) -> Vec<(String, u32)> {
+    let (_, rest) = HEADER.split_once(comment).unwrap();
+    let (body, _) = rest.split_once("};").unwrap();
+    body.lines()
+        .filter_map(|line| line.trim().strip_prefix("LUCK_")?.split([',', '/']).next()?.split_once(" = "))
+        .map(|(name, value)| {
+            let letter = value.trim().trim_matches('\'').as_bytes();
+            (name.to_owned(), value.trim().parse().unwrap_or_else(|_| u32::from(letter[0])))
+        })
+        .collect()
+}
+
+/// The versions and kinds of the header are those of this crate, in the same order.
+#[test]
+fn names_of_the_header() {
+    let versions = numbers_after("/* `version`");
+    assert_eq!(versions.iter().map(|(_, number)| *number).collect::<Vec<_>>(), Version::ALL.map(Version::number));
+    for ((name, _), version) in versions.iter().zip(Version::ALL) {
+        assert_eq!(name.replace('_', ""), format!("{version:?}").to_uppercase());
+    }
+    let kinds = numbers_after("/* `kind`");
+    assert_eq!(kinds.iter().map(|(_, letter)| *letter).collect::<Vec<_>>(), Kind::ALL.map(|kind| kind.letter().into()));
+    for ((name, _), kind) in kinds.iter().zip(Kind::ALL) {
+        assert_eq!(name.strip_prefix("KIND_"), Some(kind.to_string().to_uppercase().as_str()));
+    }
+}
+
+/// The crate has the version of the header.
+#[test]
+fn version_of_the_header() {
+    assert!(HEADER.contains(concat!("#define LUCK_VERSION \"", env!("CARGO_PKG_VERSION"), "\"\n")));
 }

@@ -19,7 +19,9 @@ fn run(version: Version, texts: [&[u8]; 3], budget: u32, room: usize) -> (Trial,
 }
 
 fn trial(ending: Ending, written: usize, replacements: usize, steps: u32) -> Trial {
-    Trial { ending, written, replacements, steps }
+    let mut wanted = Trial::from(raw::Trial { number: raw::ACCEPTED, kind: 0, written, replacements, steps });
+    wanted.ending = ending;
+    wanted
 }
 
 #[test]
@@ -88,6 +90,37 @@ fn too_deep() {
     assert_eq!(run(Lua54, texts, 200, 20).0, trial(TooDeep, 0, 0, 200));
     assert_eq!(run(Lua54, texts, 199, 20).0, trial(StepsSpent, 0, 0, 199));
     assert_eq!(run(Lua54, [&subject[1..], &pattern[2..], b"x"], ENOUGH, 20).0.ending, Done);
+}
+
+/// The deepest trials that are known (`host/c/stack.c`), on a thread with the stack that the documentation asks for.
+#[test]
+fn stack() {
+    let captures = |item: &str, closed| ["(".repeat(32), item.to_owned(), ")".repeat(closed)].concat();
+    let rows = [
+        (captures("c", 31) + &"a*b*".repeat(68) + ")", "c".to_owned() + &"ab".repeat(68)),
+        (captures("c", 31) + &"a-".repeat(136) + ")", "c".to_owned() + &"a".repeat(136)),
+        (".-".to_owned() + &captures(".", 32) + &".-".repeat(136), "a".repeat(137)),
+    ];
+    for (pattern, subject) in rows {
+        let run = move || run(Lua54, [subject.as_bytes(), pattern.as_bytes(), b"x"], ENOUGH, 20).0.ending;
+        let thread = std::thread::Builder::new().stack_size(512 * 1024).spawn(run).unwrap();
+        assert_eq!(thread.join().unwrap(), TooDeep);
+    }
+}
+
+#[test]
+fn messages() {
+    let rows = [
+        (Done, "done"),
+        (OutputFull, "the output is full"),
+        (StepsSpent, "the budget of steps is spent"),
+        (TooDeep, "too deep: real Lua raises \"pattern too complex\""),
+        (Raised(RaisedKind::MissingBracket), "missing ']'"),
+        (Ending::Other { number: 29, kind: 11 }, "refusal 29, kind 11"),
+    ];
+    for (ending, message) in rows {
+        assert_eq!(ending.to_string(), message);
+    }
 }
 
 #[test]

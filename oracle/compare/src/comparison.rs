@@ -1,16 +1,19 @@
 //! Asks the library and the reference the same and reports where they differ.
 
 mod checks;
+mod known;
+mod output;
+pub mod report;
 
 use std::str;
 
 use luck_token::LuaVersion;
 
-use crate::library;
-use crate::output::Output;
-use crate::random::Random;
+use crate::comparison::output::Output;
+use crate::comparison::report::{Case, Check, Report};
 use crate::reference::{self, NO_VERSIONS, VERSIONS, Value};
-use crate::report::{Case, Check, Report};
+use crate::texts::random::Random;
+use library::token;
 
 /// Bytes of room behind a value, to see that they stay as they were.
 const SPARE_ROOM: usize = 9;
@@ -23,7 +26,7 @@ pub struct Comparison {
 }
 
 impl Comparison {
-    pub fn new() -> Self {
+    pub(crate) fn new() -> Self {
         Self { report: Report::default(), output: Output::new(), turn: 0 }
     }
 
@@ -45,21 +48,21 @@ impl Comparison {
 
     /// The UTF-8 test, and the character at each place, at the end, just past it and far past it.
     pub fn utf8_text(&mut self, text: &[u8]) {
-        self.plain(Check::Utf8, None, text, library::utf8(text), reference::utf8(text));
+        self.plain(Check::Utf8, None, text, token::utf8(text), reference::utf8(text));
         for at in (0..=text.len() + 1).chain([usize::MAX]) {
-            self.plain(Check::CharAt, None, text, library::char_at(text, at), reference::char_at(text, at));
+            self.plain(Check::CharAt, None, text, token::char_at(text, at), reference::char_at(text, at));
         }
     }
 
     fn line_break(&mut self, text: &[u8]) {
         for (number, version) in VERSIONS.zip(LuaVersion::ALL) {
-            let left = library::strip_line_break(number, text);
+            let left = token::strip_line_break(number, text);
             self.plain(Check::LineBreak, Some(number), text, left, reference::strip_line_break(version, text));
         }
     }
 
     fn short_body(&mut self, text: &str) {
-        let body = library::short_string_body(text.as_bytes());
+        let body = token::short_string_body(text.as_bytes());
         self.plain(Check::ShortBody, None, text.as_bytes(), body, reference::short_string_body(text));
     }
 
@@ -101,7 +104,7 @@ impl Comparison {
     /// The rules of every version, and that luck's rules which share a row agree.
     pub fn rules(&mut self) {
         for number in VERSIONS.chain(NO_VERSIONS) {
-            self.plain(Check::Rules, Some(number), b"", library::rules(number), reference::rules(number));
+            self.plain(Check::Rules, Some(number), b"", token::rules(number), reference::rules(number));
             let shared = reference::lua_version(number).map(reference::shared_rules);
             for (name, row, rule) in shared.into_iter().flatten() {
                 self.plain(Check::Rules, Some(number), name.as_bytes(), row, rule);
@@ -112,7 +115,7 @@ impl Comparison {
     pub fn whitespace(&mut self) {
         for byte in 0..=u8::MAX {
             let is_whitespace = u8::from(luck_token::is_lua_whitespace(byte));
-            self.plain(Check::Whitespace, None, &[byte], library::is_lua_whitespace(byte), is_whitespace);
+            self.plain(Check::Whitespace, None, &[byte], token::is_lua_whitespace(byte), is_whitespace);
         }
     }
 
@@ -135,7 +138,7 @@ impl Comparison {
     }
 
     fn span(&mut self, start: usize, end: usize, offset: u32) {
-        let [answer, expected] = [library::span(start, end, offset), reference::span(start, end, offset)];
+        let [answer, expected] = [token::span(start, end, offset), reference::span(start, end, offset)];
         self.report.add(Case { check: Check::Span, version: None, text: b"" }, answer == expected, || {
             format!("{start} to {end}, shifted by {offset}: library {answer:?}, luck {expected:?}")
         });

@@ -1,9 +1,10 @@
 //! The kinds of text that are checked.
 
+use library::{Answer, c};
 use luck_linter::Fault;
 use luck_token::LuaVersion;
 
-use crate::report::Check;
+use crate::comparison::report::Check;
 
 #[derive(Debug, Clone, Copy, PartialEq, Eq)]
 pub enum Kind {
@@ -41,6 +42,19 @@ impl Kind {
             Self::Packsize => Check::Packsize,
             Self::Replacement => Check::Replacement,
             Self::Date => Check::Date,
+        }
+    }
+
+    /// The library's check.
+    #[inline]
+    pub fn by_library(self, version: u32, captures: Option<usize>, body: &[u8]) -> Answer {
+        match self {
+            Self::Format => library::check(c::luck_check_format, version, body),
+            Self::Pattern => library::check(c::luck_check_pattern, version, body),
+            Self::Pack => library::check(c::luck_check_pack, version, body),
+            Self::Packsize => library::check(c::luck_check_packsize, version, body),
+            Self::Replacement => library::check_replacement(version, captures, body),
+            Self::Date => library::check(c::luck_check_date, version, body),
         }
     }
 

@@ -1,9 +1,14 @@
 //! What is right of the program `bodies`: document 01's rules of a line, and luck's answer for the body.
 
+pub mod comparison;
+mod heads;
+mod program;
+pub mod texts;
+
 use std::fmt;
 
-use crate::check_reference::Body;
 use crate::kind::Kind;
+use crate::reference::checks::Body;
 
 /// The bytes that a line may have, its newline not counted.
 pub const LONGEST: usize = 4005;

@@ -1,11 +1,14 @@
 //! What is right: luck's Rust, with the port's own refusals 25, 23 and 26 around it.
 
+pub mod checks;
+
 use std::borrow::Cow;
 use std::str;
 
 use luck_token::LuaVersion;
 
-use crate::library::{Body, Char, Decoded, RULES, Row, Span};
+use library::Decoded;
+use library::token::{Body, Char, RULES, Row, Span};
 
 /// The versions' numbers: 1 to 5 are Lua 5.1 to 5.5, 6 is Luau.
 pub const VERSIONS: std::ops::RangeInclusive<u32> = 1..=6;

@@ -2,18 +2,20 @@
 //!
 //! The answers are the reference's; the library is not asked.
 
+mod checks;
+pub mod lines;
+pub mod picked;
+mod rows;
+
 use std::fs;
 use std::io;
 use std::ops::RangeInclusive;
 use std::path::Path;
 
-use crate::edges;
-use crate::grammar;
-use crate::library::Decoded;
-use crate::random::Random;
 use crate::reference::{self, VERSIONS};
-use crate::store_checks;
-use crate::store_rows;
+use crate::texts::random::Random;
+use crate::texts::{edges, grammar};
+use library::Decoded;
 
 const FILE: &str = "literals.bin";
 const WRONG_FILE: &str = "wrong.bin";
@@ -31,8 +33,8 @@ pub fn write(folder: &Path) -> io::Result<(usize, usize)> {
     fs::create_dir_all(folder)?;
     fs::write(folder.join(FILE), &records.bytes)?;
     fs::write(folder.join(WRONG_FILE), wrong_records().bytes)?;
-    let checks = store_checks::write(folder)?;
-    let rows = store_rows::write(folder)?;
+    let checks = checks::write(folder)?;
+    let rows = rows::write(folder)?;
     Ok((records.count + checks.0 + rows.0, records.bytes.len() + checks.1 + rows.1))
 }
 

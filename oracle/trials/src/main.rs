@@ -1,14 +1,14 @@
 //! Compares the proved library's trial of gsub with a plain program of the same rules, in one process: number, kind, bytes written,
 //! replacements, steps, and every byte of the output.
 
-mod library;
-mod plain;
 mod real;
 mod store;
 
 use std::env;
 use std::path::Path;
 use std::process::ExitCode;
+
+use trials::plain;
 
 const USAGE: &str = "usage: trials short | trials long [SEED] [COUNT] | trials real FILE | trials store DATA DIR";
 const DEFAULT_SEED: u64 = 20_240_501;

@@ -3,8 +3,6 @@
 use std::fs;
 use std::io;
 
-use crate::library;
-
 pub const BUDGET: u32 = 1_000_000;
 const ROOM: usize = 4_096;
 /// Differences that are printed.

@@ -72,7 +72,9 @@ fn real_records(case: &real::Case) -> Vec<Record> {
         };
         match answer {
             Answer::Done(count, text) => Record { replacements: u16::try_from(*count).unwrap(), written: text.clone(), ..base },
-            Answer::Raised(kind) => Record { known: KINDS_ALIKE | NUMBER_AND_KIND, number: 29, kind: u8::try_from(*kind).unwrap(), ..base },
+            Answer::Raised(kind) => {
+                Record { known: KINDS_ALIKE | NUMBER_AND_KIND, number: 29, kind: u8::try_from(*kind).unwrap(), ..base }
+            }
             Answer::LeftOut => unreachable!("left out above"),
         }
     };
@@ -82,14 +84,19 @@ fn real_records(case: &real::Case) -> Vec<Record> {
 /// A text of `rows.txt`, repeated where a number and `*` stand before it.
 fn row_text(word: &str) -> Option<Vec<u8>> {
     match word.split_once('*') {
-        Some((times, word)) if times.bytes().all(|byte| byte.is_ascii_digit()) => Some(real::text(word)?.repeat(times.parse().ok()?)),
+        Some((times, word)) if times.bytes().all(|byte| byte.is_ascii_digit()) => {
+            Some(real::text(word)?.repeat(times.parse().ok()?))
+        }
         _ => real::text(word),
     }
 }
 
 fn row(line: &str) -> Option<Record> {
     let words: Vec<&str> = line.split(' ').collect();
-    let [versions, budget, room, pattern, replacement, subject, number, kind, replacements, steps, written] = words.as_slice() else { return None };
+    let [versions, budget, room, pattern, replacement, subject, number, kind, replacements, steps, written] = words.as_slice()
+    else {
+        return None;
+    };
     let bits = versions.bytes().map(|digit| 1u8 << (digit - b'1'));
     Some(Record {
         versions: bits.fold(0, |set, bit| set | bit),

@@ -1,11 +1,10 @@
 //! The checks of bodies and of literals.
 
 use super::Comparison;
-use crate::check_reference::{Body, Text};
+use crate::comparison::report::{Case, Check};
 use crate::kind::Kind;
-use crate::library;
+use crate::reference::checks::{Body, Text};
 use crate::reference::{NO_VERSIONS, VERSIONS};
-use crate::report::{Case, Check};
 
 /// Counts of captures, none for unknown.
 const CAPTURES: [Option<usize>; 8] = [None, Some(0), Some(1), Some(2), Some(3), Some(9), Some(32), Some(usize::MAX)];
@@ -23,7 +22,7 @@ impl Comparison {
         let body = Body::new(text);
         for version in VERSIONS.chain(NO_VERSIONS) {
             for &captures in captures {
-                let [answer, expected] = [library::check(kind, version, captures, text), body.check(kind, version, captures)];
+                let [answer, expected] = [kind.by_library(version, captures, text), body.check(kind, version, captures)];
                 self.report.add(Case { check: kind.check(), version: Some(version), text }, answer == expected, || {
                     format!("captures {captures:?}: library {answer:?}, luck {expected:?}")
                 });

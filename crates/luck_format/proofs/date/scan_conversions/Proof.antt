@@ -23,20 +23,8 @@ here c = record { there = c .loop-test .taken; walked = c .before .loop .inv .1 
 loop-holds : tie.Need-loop-holds Inv-loop μ-loop
 loop-holds c = (omega arith, laws.start _ _)
 
-shared-slice-read-if1 : tie.Need-shared-slice-read-if1 Inv-loop μ-loop
-shared-slice-read-if1 c = search needs
-
-add-at : tie.Need-add-at Inv-loop μ-loop
-add-at c = search needs
-
-loop-less : tie.Need-loop-less Inv-loop μ-loop
-loop-less c = search needs
-
 loop-again : tie.Need-loop-again Inv-loop μ-loop
 loop-again c = (omega arith, laws.passes-byte (here (c .before .before)) (c .if1 .taken))
-
-sub-if2 : tie.Need-sub-if2 Inv-loop μ-loop
-sub-if2 c = search needs
 
 returns : tie.Need-returns Inv-loop μ-loop
 returns c = laws.lone-strict (here (c .before .before .before .before)) (c .before .before .if1 .left) (omega arith) (c .if3 .taken)
@@ -46,9 +34,6 @@ returns-2 c = laws.lone-lenient (here (c .before .before .before .before)) (c .b
 
 conversion-width-requires : tie.Need-conversion-width-requires Inv-loop μ-loop
 conversion-width-requires c κs = omega arith
-
-add-t12 : tie.Need-add-t12 Inv-loop μ-loop
-add-t12 c = search needs
 
 returns-3 : tie.Need-returns-3 Inv-loop μ-loop
 returns-3 c = laws.no-conversion (here (c .before .before .before .before .before)) (c .before .before .before .if1 .left) (omega arith) (sym (c .before .conversion-width .ensures .0) ∙ c .if4 .taken)
@@ -74,15 +59,13 @@ scan-conversions-spec =
     Inv-loop
     μ-loop
     loop-holds
-    shared-slice-read-if1
-    add-at
-    loop-less
+    (λ c. search needs) (λ c. search needs) (λ c. search needs)
     loop-again
-    sub-if2
+    (λ c. search needs)
     returns
     returns-2
     conversion-width-requires
-    add-t12
+    (λ c. search needs)
     returns-3
     add-at-2
     loop-less-2

@@ -23,68 +23,20 @@ not-signed c = sym (c .before .contains .ensures) ∙ c .if1 .left
 not-based : (c : tie.Else3) → among (c .before .before .before .before .before .before .before .before .args .conversion) (ascii "oxX") ≡ false
 not-based c = sym (c .before .contains2 .ensures) ∙ c .if3 .left
 
-slice-aggregate-contains : tie.Need-slice-aggregate-contains
-slice-aggregate-contains c = search needs
-
-contains-requires : tie.Need-contains-requires
-contains-requires c κs = search needs
-
-slice-aggregate-run-in : tie.Need-slice-aggregate-run-in
-slice-aggregate-run-in c = search needs
-
-run-in-requires : tie.Need-run-in-requires
-run-in-requires c κs = search needs
-
 returns : tie.Need-returns
 returns c = flags (c .before .before .before .before .before .before) (formats.flags-signed _ (sym (c .before .before .before .contains .ensures) ∙ c .before .before .if1 .taken)) (c .run-in .ensures)
-
-slice-aggregate-run-in-2 : tie.Need-slice-aggregate-run-in-2
-slice-aggregate-run-in-2 c = search needs
-
-run-in-requires-2 : tie.Need-run-in-requires-2
-run-in-requires-2 c κs = search needs
 
 returns-2 : tie.Need-returns-2
 returns-2 c = flags (c .before .before .before .before .before .before .before) (formats.flags-unsigned _ (not-signed (c .before .before .before)) (c .before .before .if2 .taken)) (c .run-in2 .ensures)
 
-slice-aggregate-contains-2 : tie.Need-slice-aggregate-contains-2
-slice-aggregate-contains-2 c = search needs
-
-contains-requires-2 : tie.Need-contains-requires-2
-contains-requires-2 c κs = search needs
-
-slice-aggregate-run-in-3 : tie.Need-slice-aggregate-run-in-3
-slice-aggregate-run-in-3 c = search needs
-
-run-in-requires-3 : tie.Need-run-in-requires-3
-run-in-requires-3 c κs = search needs
-
 returns-3 : tie.Need-returns-3
 returns-3 c = flags (c .before .before .before .before .before .before .before .before .before .before) (formats.flags-based _ (not-signed (c .before .before .before .before .before .before)) (c .before .before .before .before .before .if2 .left) (sym (c .before .before .before .contains2 .ensures) ∙ c .before .before .if3 .taken)) (c .run-in3 .ensures)
-
-slice-aggregate-contains-3 : tie.Need-slice-aggregate-contains-3
-slice-aggregate-contains-3 c = search needs
-
-contains-requires-3 : tie.Need-contains-requires-3
-contains-requires-3 c κs = search needs
-
-slice-aggregate-run-in-4 : tie.Need-slice-aggregate-run-in-4
-slice-aggregate-run-in-4 c = search needs
-
-run-in-requires-4 : tie.Need-run-in-requires-4
-run-in-requires-4 c κs = search needs
 
 returns-4 : tie.Need-returns-4
 returns-4 c =
     flags (c .before .before .before .before .before .before .before .before .before .before .before .before .before)
     (formats.flags-float _ (not-signed (c .before .before .before .before .before .before .before .before .before)) (c .before .before .before .before .before .before .before .before .if2 .left) (not-based (c .before .before .before .before .before)) (sym (c .before .before .before .contains3 .ensures) ∙ c .before .before .if4 .taken))
     (c .run-in4 .ensures)
-
-slice-aggregate-run-in-5 : tie.Need-slice-aggregate-run-in-5
-slice-aggregate-run-in-5 c = search needs
-
-run-in-requires-5 : tie.Need-run-in-requires-5
-run-in-requires-5 c κs = search needs
 
 returns-5 : tie.Need-returns-5
 returns-5 c =
@@ -96,24 +48,13 @@ pub flags-run-spec : {M : Type 1} → statement M
 flags-run-spec =
     tie.close
     (tie.spec
-    slice-aggregate-contains
-    contains-requires
-    slice-aggregate-run-in
-    run-in-requires
+    (λ c. search needs) (λ c κs. search needs) (λ c. search needs) (λ c κs. search needs)
     returns
-    slice-aggregate-run-in-2
-    run-in-requires-2
+    (λ c. search needs) (λ c κs. search needs)
     returns-2
-    slice-aggregate-contains-2
-    contains-requires-2
-    slice-aggregate-run-in-3
-    run-in-requires-3
+    (λ c. search needs) (λ c κs. search needs) (λ c. search needs) (λ c κs. search needs)
     returns-3
-    slice-aggregate-contains-3
-    contains-requires-3
-    slice-aggregate-run-in-4
-    run-in-requires-4
+    (λ c. search needs) (λ c κs. search needs) (λ c. search needs) (λ c κs. search needs)
     returns-4
-    slice-aggregate-run-in-5
-    run-in-requires-5
+    (λ c. search needs) (λ c κs. search needs)
     returns-5)

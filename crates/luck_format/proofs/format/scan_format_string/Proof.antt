@@ -21,15 +21,6 @@ abbrev μ-loop : tie.MeasureT-loop
 loop-holds : tie.Need-loop-holds Inv-loop μ-loop
 loop-holds c = (omega arith, omega arith, formats.start (c .before .args .rules) (c .before .args .text .now))
 
-shared-slice-read-if1 : tie.Need-shared-slice-read-if1 Inv-loop μ-loop
-shared-slice-read-if1 c = search needs
-
-add-at : tie.Need-add-at Inv-loop μ-loop
-add-at c = search needs
-
-loop-less : tie.Need-loop-less Inv-loop μ-loop
-loop-less c = search needs
-
 loop-again : tie.Need-loop-again Inv-loop μ-loop
 loop-again c =
     let a = c .before .before .before .before .before .args in
@@ -46,12 +37,6 @@ after c e =
     subst (formats.After (a .rules) (a .text .now) (l .at) (l .count) _) e
     (formats.after (a .rules) (a .text .now) (l .at) (l .count) _ (l .inv .2) (c .before .before .before .loop-test .taken) (c .before .if1 .left) (c .scan-specifier .result) (c .scan-specifier .ensures))
 
-scan-specifier-requires : tie.Need-scan-specifier-requires Inv-loop μ-loop
-scan-specifier-requires c κs = search needs
-
-enum-known-specifier : tie.Need-enum-known-specifier Inv-loop μ-loop
-enum-known-specifier c = search needs
-
 add-count : tie.Need-add-count Inv-loop μ-loop
 add-count c = omega arith
 
@@ -64,9 +49,6 @@ loop-less-2 c = omega (arith, after (c .before .before .before) (c .before .spec
 loop-again-2 : tie.Need-loop-again-2 Inv-loop μ-loop
 loop-again-2 c = let on = after (c .before .before .before) (c .before .specifier .given .1) in (omega arith, on .inside, on .walked)
 
-enum-known-specifier-2 : tie.Need-enum-known-specifier-2 Inv-loop μ-loop
-enum-known-specifier-2 c = search needs
-
 add-at-3 : tie.Need-add-at-3 Inv-loop μ-loop
 add-at-3 c = omega (arith, after (c .before .before .before) (c .before .specifier2 .given .1))
 
@@ -75,9 +57,6 @@ loop-less-3 c = omega (arith, after (c .before .before .before) (c .before .spec
 
 loop-again-3 : tie.Need-loop-again-3 Inv-loop μ-loop
 loop-again-3 c = let on = after (c .before .before .before) (c .before .specifier2 .given .1) in (omega arith, on .inside, on .walked)
-
-enum-known-specifier-3 : tie.Need-enum-known-specifier-3 Inv-loop μ-loop
-enum-known-specifier-3 c = search needs
 
 returns : tie.Need-returns Inv-loop μ-loop
 returns c = after (c .before .before .before) (c .before .specifier3 .given .1)
@@ -95,20 +74,17 @@ scan-format-string-spec =
     Inv-loop
     μ-loop
     loop-holds
-    shared-slice-read-if1
-    add-at
-    loop-less
+    (λ c. search needs) (λ c. search needs) (λ c. search needs)
     loop-again
-    scan-specifier-requires
-    enum-known-specifier
+    (λ c κs. search needs) (λ c. search needs)
     add-count
     add-at-2
     loop-less-2
     loop-again-2
-    enum-known-specifier-2
+    (λ c. search needs)
     add-at-3
     loop-less-3
     loop-again-3
-    enum-known-specifier-3
+    (λ c. search needs)
     returns
     returns-2)

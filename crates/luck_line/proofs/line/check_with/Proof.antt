@@ -3,7 +3,7 @@ use mathlib.Core.Path.{_≡_, sym, ap, _∙_}
 use mathlib.Core.Option.{Option}
 use Prim.Native.Nat.{ℕ}
 use Rattle.luck_linter.specs.Checks.{Check}
-use Rattle.luck_line.specs.Line.{capturesIn, checkWith}
+use Rattle.luck_line.specs.Line.{captureColumns, checkWith}
 use Rattle.luck_line.specs.Inner.{columnsOf}
 use Rattle.luck_line.specs.declared.line.Columns.{Columns}
 use Rattle.luck_line.proofs.Heads.{count-of-replacement, count-of-other}
@@ -12,8 +12,8 @@ use Rattle.luck_line.proofs.line.check_with.Statement.{statement}
 use Rattle.luck_line.proofs.line.check_with.Tie as tie
 
 -- an arm gives the check of the columns that it is for
-of-arm : (kind tens units : ℕ) (found variant : Columns) (named : Option Check) → columnsOf found ≡ capturesIn tens units → found ≡ variant
-    → named ≡ checkWith kind (columnsOf variant) → named ≡ checkWith kind (capturesIn tens units)
+of-arm : (kind tens units : ℕ) (found variant : Columns) (named : Option Check) → columnsOf found ≡ captureColumns tens units → found ≡ variant
+    → named ≡ checkWith kind (columnsOf variant) → named ≡ checkWith kind (captureColumns tens units)
 of-arm kind tens units found variant named is has e = e ∙ ap (λ x. checkWith kind (columnsOf x)) (sym has) ∙ ap (checkWith kind) is
 
 returns : tie.Need-returns

@@ -4,7 +4,7 @@ use native.Mathlib.Omega.{arith}
 use Prim.Native.Nat.{_-_, _≤_}
 use lib.ListN.{length, take, drop}
 use lib.Seq.{length-take-le}
-use Rattle.luck_lines.specs.Stream.{state, feed}
+use Rattle.luck_lines.specs.Stream.{feedState, feed}
 use Rattle.luck_lines.proofs.Streams as streams
 use borrow.Author.Needs.{needs}
 use Rattle.luck_lines.proofs.stream.feed.Statement.{statement}
@@ -13,7 +13,7 @@ use Rattle.luck_lines.proofs.stream.feed.Tie as tie
 abbrev Inv-loop : tie.InvT-loop
 Inv-loop input output₀ long used₀ wrote₀ is-long₀ output used wrote is-long =
     (used ≤ length input) × (wrote ≤ length output) × (length output ≡ length output₀) × (drop wrote output ≡ drop wrote output₀)
-    × (streams.on input (length output₀) used (state (take wrote output) is-long) ≡ feed input (length output₀) long)
+    × (streams.on input (length output₀) used (feedState (take wrote output) is-long) ≡ feed input (length output₀) long)
 
 abbrev μ-loop : tie.MeasureT-loop
 μ-loop input output₀ long used₀ wrote₀ is-long₀ output used wrote is-long = length input - used
@@ -34,7 +34,7 @@ returns : tie.Need-returns Inv-loop μ-loop
 returns c = let a = c .before .before .before .before .before .before .before .args in
     let l = c .before .before .before .before .loop in
     streams.nothing-ends (a .input .now) (a .output .now) (l .output) (l .used) (l .wrote) (a .long) (l .is-long) (l .inv .0) (l .inv .1) (l .inv .2) (l .inv .3) (l .inv .4) _ (c .unended .ensures)
-    (streams.no-newline (a .input .now) (length (a .output .now)) (l .used) (state (take (l .wrote) (l .output)) (l .is-long)) (c .before .before .before .loop-test .taken) (sym (c .before .before .line-end .ensures) ∙ c .before .if1 .taken))
+    (streams.no-newline (a .input .now) (length (a .output .now)) (l .used) (feedState (take (l .wrote) (l .output)) (l .is-long)) (c .before .before .before .loop-test .taken) (sym (c .before .before .line-end .ensures) ∙ c .before .if1 .taken))
 
 sub-if2 : tie.Need-sub-if2 Inv-loop μ-loop
 sub-if2 c = search needs
@@ -98,7 +98,7 @@ returns-3 : tie.Need-returns-3 Inv-loop μ-loop
 returns-3 c = let a = c .before .before .before .before .before .args in
     let l = c .before .before .loop in
     streams.nothing-ends (a .input .now) (a .output .now) (l .output) (l .used) (l .wrote) (a .long) (l .is-long) (l .inv .0) (l .inv .1) (l .inv .2) (l .inv .3) (l .inv .4) _ (c .unended2 .ensures)
-    (streams.at-end (a .input .now) (length (a .output .now)) (l .used) (state (take (l .wrote) (l .output)) (l .is-long)) (c .before .loop-test .left))
+    (streams.at-end (a .input .now) (length (a .output .now)) (l .used) (feedState (take (l .wrote) (l .output)) (l .is-long)) (c .before .loop-test .left))
 
 pub feed-spec : {M : Type 1} → statement M
 feed-spec =

@@ -6,7 +6,7 @@ use lib.ListN.{length}
 use Rattle.luck_text.specs.Walk.Turn.{stop}
 use Rattle.luck_utf8.specs.declared.utf8.Char.{Char}
 use Rattle.luck_answer.specs.Answer.{refusedWith, refusal}
-use Rattle.luck_pack.specs.Pack.{state}
+use Rattle.luck_pack.specs.Pack.{packState}
 use Rattle.luck_pack.specs.Inner.{alignmentRead, packTurnOf}
 use Rattle.luck_pack.specs.declared.pack.Read.{Read}
 use Rattle.luck_pack.proofs.Packs.{ReadAt, align-to, align-refused, align-fault, goes-in}
@@ -62,7 +62,7 @@ returns c =
     let n = c .before .before .found .given in
     let r = c .aligned in (
       λ values.
-          align-to (a .text .now) (a .at) (state values (a .alignment)) (packTurnOf values (r .result)) (o .0 .0) (o .0 .1 .0) (i .0) (n .0 .0)
+          align-to (a .text .now) (a .at) (packState values (a .alignment)) (packTurnOf values (r .result)) (o .0 .0) (o .0 .1 .0) (i .0) (n .0 .0)
           (ap alignmentRead (sym (n .1)) ∙ c .before .before .before .before .alignment-of .ensures) (r .ensures .0 values),
       goes-in (r .result) (1 + o .0 .1 .0) (a .at) (length (a .text .now)) (r .ensures .1) (omega arith) (omega arith),
     )
@@ -73,7 +73,7 @@ returns-2 c =
     let o = c .before .before .before .before .before .next .given in
     let i = read (c .before .before .before .before .before .before .before) (o .1) in (
       λ values.
-          align-refused (a .text .now) (a .at) (state values (a .alignment)) (stop (refusedWith 14 (a .at + 1) (c .char-at .result .code))) (o .0 .0) (o .0 .1 .0) (i .0)
+          align-refused (a .text .now) (a .at) (packState values (a .alignment)) (stop (refusedWith 14 (a .at + 1) (c .char-at .result .code))) (o .0 .0) (o .0 .1 .0) (i .0)
           (ap alignmentRead (sym (c .before .enum-told .given .1)) ∙ c .before .before .before .alignment-of .ensures)
           (ap (λ (x : Char). stop (refusedWith 14 (a .at + 1) (x .code))) (c .char-at .ensures)),
       tt,
@@ -83,7 +83,7 @@ returns-3 : tie.Need-returns-3
 returns-3 c =
     let a = c .before .before .before .before .before .args in
     let e = c .before .next2 .given in
-    (λ values. align-fault (a .text .now) (a .at) (state values (a .alignment)) (stop (refusal (e .0 .0))) (refusal (e .0 .0)) (read (c .before .before .before) (e .1) .0) refl, tt)
+    (λ values. align-fault (a .text .now) (a .at) (packState values (a .alignment)) (stop (refusal (e .0 .0))) (refusal (e .0 .0)) (read (c .before .before .before) (e .1) .0) refl, tt)
 
 pub align-to-next-spec : {M : Type 1} → statement M
 align-to-next-spec =

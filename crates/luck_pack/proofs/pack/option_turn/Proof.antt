@@ -3,7 +3,7 @@ use mathlib.Core.Path.{_≡_, sym, ap, _∙_}
 use Prim.Native.Nat.{ℕ}
 use native.Mathlib.Omega.{arith}
 use lib.ListN.{length}
-use Rattle.luck_pack.specs.Pack.{state}
+use Rattle.luck_pack.specs.Pack.{packState}
 use Rattle.luck_pack.specs.Inner.{keeps, keptTurn}
 use Rattle.luck_pack.specs.declared.pack.PackOption.{PackOption}
 use Rattle.luck_pack.proofs.Packs.{goes-in, refuses, allows, stays}
@@ -13,10 +13,10 @@ use Rattle.luck_pack.proofs.pack.option_turn.Tie as tie
 
 -- what the option does, by its kind
 by-kind : (s : tie.Start) {x : PackOption} → s .args .option ≡ x → (values : ℕ)
-    → keptTurn (s .args .is-packsize) (s .args .text .now) (s .args .at) (state values (s .args .alignment)) (keeps x (s .args .width))
-    ≡ keptTurn (s .args .is-packsize) (s .args .text .now) (s .args .at) (state values (s .args .alignment)) (keeps (s .args .option) (s .args .width))
+    → keptTurn (s .args .is-packsize) (s .args .text .now) (s .args .at) (packState values (s .args .alignment)) (keeps x (s .args .width))
+    ≡ keptTurn (s .args .is-packsize) (s .args .text .now) (s .args .at) (packState values (s .args .alignment)) (keeps (s .args .option) (s .args .width))
 by-kind s e values =
-    ap (λ (o : PackOption). keptTurn (s .args .is-packsize) (s .args .text .now) (s .args .at) (state values (s .args .alignment)) (keeps o (s .args .width)))
+    ap (λ (o : PackOption). keptTurn (s .args .is-packsize) (s .args .text .now) (s .args .at) (packState values (s .args .alignment)) (keeps o (s .args .width)))
     (sym e)
 
 enum-known-option : tie.Need-enum-known-option

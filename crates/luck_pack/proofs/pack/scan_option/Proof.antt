@@ -2,7 +2,7 @@
 use mathlib.Core.Path.{_≡_, ap, subst, _∙_}
 use Prim.Native.Nat.{ℕ}
 use native.Mathlib.Omega.{arith}
-use Rattle.luck_pack.specs.Pack.{state, getoption, luckSize, packTurn}
+use Rattle.luck_pack.specs.Pack.{packState, getoption, luckSize, packTurn}
 use Rattle.luck_pack.specs.Inner.{Kept, keptRead, keptTurn}
 use Rattle.luck_pack.specs.declared.pack.Read.{Read}
 use Rattle.luck_pack.proofs.Packs.{ReadAt, kept-turn}
@@ -17,13 +17,13 @@ read c e = subst (ReadAt (c .before .before .args .text .now) (c .before .before
 
 -- the turn of what the code keeps of it
 turns : (s : tie.Start) {k : Kept} → k ≡ keptRead (getoption (s .args .text .now) (s .args .at)) → (values : ℕ)
-    → keptTurn (s .args .is-packsize) (s .args .text .now) (s .args .at) (state values (s .args .alignment)) k
-    ≡ packTurn luckSize (s .args .is-packsize) (s .args .text .now) (s .args .at) (state values (s .args .alignment))
+    → keptTurn (s .args .is-packsize) (s .args .text .now) (s .args .at) (packState values (s .args .alignment)) k
+    ≡ packTurn luckSize (s .args .is-packsize) (s .args .text .now) (s .args .at) (packState values (s .args .alignment))
 unfolding packTurn
 turns s e values =
     let a = s .args in
-    ap (keptTurn (a .is-packsize) (a .text .now) (a .at) (state values (a .alignment))) e
-    ∙ kept-turn (a .is-packsize) (a .text .now) (a .at) (state values (a .alignment)) (getoption (a .text .now) (a .at))
+    ap (keptTurn (a .is-packsize) (a .text .now) (a .at) (packState values (a .alignment))) e
+    ∙ kept-turn (a .is-packsize) (a .text .now) (a .at) (packState values (a .alignment)) (getoption (a .text .now) (a .at))
 
 scan-pack-option-requires : tie.Need-scan-pack-option-requires
 scan-pack-option-requires c κs = search needs

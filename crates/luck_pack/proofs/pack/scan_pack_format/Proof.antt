@@ -4,7 +4,7 @@ use Prim.Native.Nat.{_+_, _-_, _≤_}
 use native.Mathlib.Omega.{arith}
 use mathlib.Core.Logic.{inl, inr, ⊎-elim}
 use lib.ListN.{length}
-use Rattle.luck_pack.specs.Pack.{state, packWalk}
+use Rattle.luck_pack.specs.Pack.{packState, packWalk}
 use Rattle.luck_pack.specs.declared.pack.Turn.{Turn}
 use Rattle.luck_pack.proofs.Packs.{on, start, After, after, done, counted}
 use borrow.Author.Needs.{needs}
@@ -12,7 +12,7 @@ use Rattle.luck_pack.proofs.pack.scan_pack_format.Statement.{statement}
 use Rattle.luck_pack.proofs.pack.scan_pack_format.Tie as tie
 
 abbrev Inv-loop : tie.InvT-loop
-Inv-loop text is-packsize values₀ alignment₀ at₀ values alignment at = (at ≤ length text) × (values ≤ at) × (on is-packsize text at (state values alignment) ≡ packWalk is-packsize text)
+Inv-loop text is-packsize values₀ alignment₀ at₀ values alignment at = (at ≤ length text) × (values ≤ at) × (on is-packsize text at (packState values alignment) ≡ packWalk is-packsize text)
 
 abbrev μ-loop : tie.MeasureT-loop
 μ-loop text is-packsize values₀ alignment₀ at₀ values alignment at = length text - at
@@ -30,12 +30,6 @@ afterwards c e =
 
 loop-holds : tie.Need-loop-holds Inv-loop μ-loop
 loop-holds c = (omega arith, omega arith, start (c .before .args .is-packsize) (c .before .args .text .now))
-
-scan-option-requires : tie.Need-scan-option-requires Inv-loop μ-loop
-scan-option-requires c κs = search needs
-
-enum-known-turn : tie.Need-enum-known-turn Inv-loop μ-loop
-enum-known-turn c = search needs
 
 add-values : tie.Need-add-values Inv-loop μ-loop
 add-values c = omega arith
@@ -58,9 +52,6 @@ loop-again c =
       ap (on (c .before .before .before .before .before .before .before .before .args .is-packsize) (c .before .before .before .before .before .before .before .before .args .text .now) (c .before .before .before .before .before .before .loop .at + g .0)) (sym same) ∙ next .walked,
     )
 
-enum-known-turn-2 : tie.Need-enum-known-turn-2 Inv-loop μ-loop
-enum-known-turn-2 c = search needs
-
 returns : tie.Need-returns Inv-loop μ-loop
 returns c = afterwards (c .before .before .before) (c .before .turn2 .given .1)
 
@@ -77,12 +68,11 @@ scan-pack-format-spec =
     Inv-loop
     μ-loop
     loop-holds
-    scan-option-requires
-    enum-known-turn
+    (λ c κs. search needs) (λ c. search needs)
     add-values
     add-at
     loop-less
     loop-again
-    enum-known-turn-2
+    (λ c. search needs)
     returns
     returns-2)

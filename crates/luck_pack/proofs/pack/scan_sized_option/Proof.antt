@@ -10,27 +10,6 @@ use borrow.Author.Needs.{needs}
 use Rattle.luck_pack.proofs.pack.scan_sized_option.Statement.{statement}
 use Rattle.luck_pack.proofs.pack.scan_sized_option.Tie as tie
 
-shared-slice-read-byte : tie.Need-shared-slice-read-byte
-shared-slice-read-byte c = search needs
-
-slice-aggregate-contains : tie.Need-slice-aggregate-contains
-slice-aggregate-contains c = search needs
-
-contains-requires : tie.Need-contains-requires
-contains-requires c κs = search needs
-
-add-scan-limited-size : tie.Need-add-scan-limited-size
-add-scan-limited-size c = search needs
-
-scan-limited-size-requires : tie.Need-scan-limited-size-requires
-scan-limited-size-requires c κs = search needs
-
-enum-known-size : tie.Need-enum-known-size
-enum-known-size c = search needs
-
-enum-known-fault : tie.Need-enum-known-fault
-enum-known-fault c = search needs
-
 returns : tie.Need-returns
 returns c =
     let text = c .before .before .before .before .before .before .before .before .before .args .text .now in
@@ -42,18 +21,6 @@ returns-2 c =
     let text = c .before .before .before .before .before .before .before .before .before .args .text .now in
     let at = c .before .before .before .before .before .before .before .before .before .args .at in
     with-size text at (number-letter text at (sym (c .before .before .before .before .before .contains .ensures) ∙ c .before .before .before .before .if1 .taken)) (c .before .before .before .scan-limited-size .ensures) (c .before .fault .given .1)
-
-add-scan-limited-size-2 : tie.Need-add-scan-limited-size-2
-add-scan-limited-size-2 c = search needs
-
-scan-limited-size-requires-2 : tie.Need-scan-limited-size-requires-2
-scan-limited-size-requires-2 c κs = search needs
-
-enum-known-size-2 : tie.Need-enum-known-size-2
-enum-known-size-2 c = search needs
-
-enum-known-fault-2 : tie.Need-enum-known-fault-2
-enum-known-fault-2 c = search needs
 
 returns-3 : tie.Need-returns-3
 returns-3 c =
@@ -67,18 +34,6 @@ returns-4 c =
     let at = c .before .before .before .before .before .before .before .before .before .before .args .at in
     with-size text at (string-letter text at (c .before .before .before .before .if2 .taken)) (c .before .before .before .scan-limited-size2 .ensures) (c .before .fault2 .given .1)
 
-add-scan-limited-size-3 : tie.Need-add-scan-limited-size-3
-add-scan-limited-size-3 c = search needs
-
-scan-limited-size-requires-3 : tie.Need-scan-limited-size-requires-3
-scan-limited-size-requires-3 c κs = search needs
-
-enum-known-size-3 : tie.Need-enum-known-size-3
-enum-known-size-3 c = search needs
-
-enum-known-fault-3 : tie.Need-enum-known-fault-3
-enum-known-fault-3 c = search needs
-
 returns-5 : tie.Need-returns-5
 returns-5 c =
     let text = c .before .before .before .before .before .before .before .before .before .before .before .args .text .now in
@@ -91,12 +46,6 @@ returns-6 c =
     let at = c .before .before .before .before .before .before .before .before .before .before .before .args .at in
     with-size text at (alignment-letter text at (c .before .before .before .before .if3 .taken)) (c .before .before .before .scan-limited-size3 .ensures) (c .before .fault3 .given .1)
 
-add-scan-fixed-string : tie.Need-add-scan-fixed-string
-add-scan-fixed-string c = search needs
-
-scan-fixed-string-requires : tie.Need-scan-fixed-string-requires
-scan-fixed-string-requires c κs = search needs
-
 returns-7 : tie.Need-returns-7
 returns-7 c =
     let text = c .before .before .before .before .before .before .before .before .before .args .text .now in
@@ -105,9 +54,6 @@ returns-7 c =
       c .scan-fixed-string .ensures .0 ∙ fixed-string text at none (c .before .before .before .if2 .left) (c .before .before .if3 .left) (c .before .if4 .taken),
       subst (λ (p : ℕ). OptionIn (c .scan-fixed-string .result) p (length text)) (back at) (c .scan-fixed-string .ensures .1),
     )
-
-char-at-requires : tie.Need-char-at-requires
-char-at-requires c κs = search needs
 
 returns-8 : tie.Need-returns-8
 returns-8 c =
@@ -120,29 +66,17 @@ pub scan-sized-option-spec : {M : Type 1} → statement M
 scan-sized-option-spec =
     tie.close
     (tie.spec
-    shared-slice-read-byte
-    slice-aggregate-contains
-    contains-requires
-    add-scan-limited-size
-    scan-limited-size-requires
-    enum-known-size
-    enum-known-fault
+    (λ c. search needs) (λ c. search needs) (λ c κs. search needs) (λ c. search needs) (λ c κs. search needs)
+    (λ c. search needs) (λ c. search needs)
     returns
     returns-2
-    add-scan-limited-size-2
-    scan-limited-size-requires-2
-    enum-known-size-2
-    enum-known-fault-2
+    (λ c. search needs) (λ c κs. search needs) (λ c. search needs) (λ c. search needs)
     returns-3
     returns-4
-    add-scan-limited-size-3
-    scan-limited-size-requires-3
-    enum-known-size-3
-    enum-known-fault-3
+    (λ c. search needs) (λ c κs. search needs) (λ c. search needs) (λ c. search needs)
     returns-5
     returns-6
-    add-scan-fixed-string
-    scan-fixed-string-requires
+    (λ c. search needs) (λ c κs. search needs)
     returns-7
-    char-at-requires
+    (λ c κs. search needs)
     returns-8)

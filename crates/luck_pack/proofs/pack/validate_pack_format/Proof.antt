@@ -1,58 +1,30 @@
 -- `luck_pack::pack::validate_pack_format` meets its contract. Assumes nothing.
-use mathlib.Core.Path.{_≡_, sym, ap, _∙_}
-use Rattle.luck_answer.specs.Answer.{Answer, textAnswer}
-use Rattle.luck_answer.specs.declared.format_pattern.Text.{Text}
-use Rattle.luck_pack.specs.Pack.{packWalk, checkPack}
+use mathlib.Core.Path.{_∙_}
+use Rattle.luck_answer.proofs.Texts.{by-text}
+use Rattle.luck_pack.specs.Pack.{checkPack}
 use borrow.Author.Needs.{needs}
 use Rattle.luck_pack.proofs.pack.validate_pack_format.Statement.{statement}
 use Rattle.luck_pack.proofs.pack.validate_pack_format.Tie as tie
 
-abbrev walked : tie.Start → Answer
-walked s = packWalk (s .args .is-packsize) (s .args .text .now)
-
--- what the reading of the text makes of the answer
-by-text : (c : tie.After-read-text) {x : Text} → c .read-text .result ≡ x
-    → textAnswer x (walked (c .before .before)) ≡ checkPack (c .before .before .args .version) (c .before .before .args .is-packsize) (c .before .before .args .text .now)
-unfolding checkPack
-by-text c e = let w = walked (c .before .before) in ap (λ (x : Text). textAnswer x w) (sym e) ∙ c .read-text .ensures w
-
-read-text-requires : tie.Need-read-text-requires
-read-text-requires c κs = search needs
-
-enum-told : tie.Need-enum-told
-enum-told c = search needs
-
-scan-pack-format-requires : tie.Need-scan-pack-format-requires
-scan-pack-format-requires c κs = search needs
-
-as-checked-requires : tie.Need-as-checked-requires
-as-checked-requires c κs = search needs
-
-enum-known-read : tie.Need-enum-known-read
-enum-known-read c = search needs
-
-enum-told-2 : tie.Need-enum-told-2
-enum-told-2 c = search needs
-
 returns : tie.Need-returns
-returns c = c .as-checked .ensures ∙ c .before .scan-pack-format .ensures ∙ by-text (c .before .before .before .before) (c .before .before .enum-told .given .1)
+unfolding checkPack
+returns c =
+    c .as-checked .ensures ∙ c .before .scan-pack-format .ensures ∙ by-text _ _ (c .before .before .before .before .read-text .ensures) (c .before .before .enum-told .given .1) _
 
 returns-2 : tie.Need-returns-2
-returns-2 c = by-text (c .before .before .before) (c .before .read .given .1)
+unfolding checkPack
+returns-2 c = by-text _ _ (c .before .before .before .read-text .ensures) (c .before .read .given .1) _
 
 returns-3 : tie.Need-returns-3
-returns-3 c = by-text (c .before .before) (c .enum-told2 .given .1)
+unfolding checkPack
+returns-3 c = by-text _ _ (c .before .before .read-text .ensures) (c .enum-told2 .given .1) _
 
 pub validate-pack-format-spec : {M : Type 1} → statement M
 validate-pack-format-spec =
     tie.close
     (tie.spec
-    read-text-requires
-    enum-told
-    scan-pack-format-requires
-    as-checked-requires
-    enum-known-read
-    enum-told-2
+    (λ c κs. search needs) (λ c. search needs) (λ c κs. search needs) (λ c κs. search needs) (λ c. search needs)
+    (λ c. search needs)
     returns
     returns-2
     returns-3)

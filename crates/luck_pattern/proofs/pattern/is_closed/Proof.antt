@@ -8,7 +8,7 @@ use lib.ListN.{length, List·getD-eq-default}
 use borrow.Author.Tests.{lt-ltb}
 use Rattle.luck_text.proofs.Cases.{second-false}
 use Rattle.luck_pattern.specs.Captures.{isClosed}
-use Rattle.luck_pattern.specs.Inner.{flagsOf}
+use Rattle.luck_pattern.specs.Inner.{flagsOfWord}
 use Rattle.luck_pattern.proofs.Flags.{flags-length, flags-at}
 use borrow.Author.Needs.{needs}
 use Rattle.luck_pattern.proofs.pattern.is_closed.Statement.{statement}
@@ -25,8 +25,8 @@ returns-2 : tie.Need-returns-2
 unfolding isClosed
 returns-2 c =
     let a = c .before .before .args in
-    let len : length (flagsOf (a .count) (a .word)) ≡ a .count = flags-length (a .count) (a .word) in
-    rw (List·getD-eq-default {A = Bool} (flagsOf (a .count) (a .word)) false {n = a .digit - 1} (omega arith)) (sym (second-false (ltb 0 (a .digit)) false refl))
+    let len : length (flagsOfWord (a .count) (a .word)) ≡ a .count = flags-length (a .count) (a .word) in
+    rw (List·getD-eq-default {A = Bool} (flagsOfWord (a .count) (a .word)) false {n = a .digit - 1} (omega arith)) (sym (second-false (ltb 0 (a .digit)) false refl))
 
 sub-result : tie.Need-sub-result
 sub-result c = search needs

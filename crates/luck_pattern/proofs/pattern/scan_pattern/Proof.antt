@@ -7,7 +7,7 @@ use native.Mathlib.Omega.{arith}
 use lib.ListN.{length}
 use Rattle.luck_text.specs.Bytes.{if_then_else_}
 use Rattle.luck_pattern.specs.Pattern.{patternWalk}
-use Rattle.luck_pattern.specs.Inner.{flagsOf, Within, closedOf, Below}
+use Rattle.luck_pattern.specs.Inner.{flagsOfWord, ScanWithin, closedOf, Below}
 use Rattle.luck_pattern.specs.declared.pattern.Scan.{Scan}
 use Rattle.luck_pattern.proofs.Flags.{flags-length}
 use Rattle.luck_pattern.proofs.Patterns.{
@@ -29,92 +29,71 @@ use Rattle.luck_pattern.proofs.pattern.scan_pattern.Tie as tie
 
 abbrev Inv-loop : tie.InvT-loop
 Inv-loop text count₀ word₀ at₀ count word at =
-    (at ≤ length text) × (count ≤ 32) × (word < 2 ^ count) × (items false text at (flagsOf count word) ≡ patternWalk false text)
+    (at ≤ length text) × (count ≤ 32) × (word < 2 ^ count) × (items false text at (flagsOfWord count word) ≡ patternWalk false text)
 
 abbrev μ-loop : tie.MeasureT-loop
 μ-loop text count₀ word₀ at₀ count word at = length text - at
 
 loop-holds : tie.Need-loop-holds Inv-loop μ-loop
-unfolding flagsOf patternWalk
+unfolding flagsOfWord patternWalk
 loop-holds c = (omega arith, omega arith, omega arith, refl)
-
-shared-slice-read-here : tie.Need-shared-slice-read-here Inv-loop μ-loop
-shared-slice-read-here c = search needs
-
-scan-escape-requires : tie.Need-scan-escape-requires Inv-loop μ-loop
-scan-escape-requires c κs = search needs
-
-enum-known-found : tie.Need-enum-known-found Inv-loop μ-loop
-enum-known-found c = search needs
 
 loop-less : tie.Need-loop-less Inv-loop μ-loop
 loop-less c =
     let l = c .before .before .before .before .before .before .before .loop in
     let text = c .before .before .before .before .before .before .before .before .before .args .text .now in
-    let b = subst (λ (x : Scan). Within x (l .at) (length text)) (c .before .found .given .1) (c .before .before .before .scan-escape .ensures .1) in
+    let b = subst (λ (x : Scan). ScanWithin x (l .at) (length text)) (c .before .found .given .1) (c .before .before .before .scan-escape .ensures .1) in
     omega arith
 
 loop-again : tie.Need-loop-again Inv-loop μ-loop
 loop-again c =
     let l = c .before .before .before .before .before .before .before .loop in
     let text = c .before .before .before .before .before .before .before .before .before .args .text .now in
-    let captures = flagsOf (l .count) (l .word) in
+    let captures = flagsOfWord (l .count) (l .word) in
     let f = c .before .before .before .scan-escape in
     let r = c .before .found .given in
-    let b = subst (λ (x : Scan). Within x (l .at) (length text)) (r .1) (f .ensures .1) in (
+    let b = subst (λ (x : Scan). ScanWithin x (l .at) (length text)) (r .1) (f .ensures .1) in (
       b .1,
       l .inv .1,
       l .inv .2,
       turn-past false text (l .at) captures (c .before .before .before .before .before .before .loop-test .taken) (l .inv .3) (f .result) _ (f .ensures .0) (item-escape false text (l .at) captures (c .before .before .before .before .match .keys1)) (r .0 .0) (r .1) (f .ensures .1),
     )
 
-enum-known-found-2 : tie.Need-enum-known-found-2 Inv-loop μ-loop
-enum-known-found-2 c = search needs
-
 returns : tie.Need-returns Inv-loop μ-loop
 returns c =
     let l = c .before .before .before .before .before .before .before .loop in
     let text = c .before .before .before .before .before .before .before .before .before .args .text .now in
-    let captures = flagsOf (l .count) (l .word) in
+    let captures = flagsOfWord (l .count) (l .word) in
     let f = c .before .before .before .scan-escape in
     let r = c .before .found2 .given in
     turn-fault false text (l .at) captures (c .before .before .before .before .before .before .loop-test .taken) (l .inv .3) (f .result) _ (f .ensures .0) (item-escape false text (l .at) captures (c .before .before .before .before .match .keys1)) (r .0 .0) (r .1)
-
-scan-set-requires : tie.Need-scan-set-requires Inv-loop μ-loop
-scan-set-requires c κs = search needs
-
-enum-known-found-3 : tie.Need-enum-known-found-3 Inv-loop μ-loop
-enum-known-found-3 c = search needs
 
 loop-less-2 : tie.Need-loop-less-2 Inv-loop μ-loop
 loop-less-2 c =
     let l = c .before .before .before .before .before .before .before .loop in
     let text = c .before .before .before .before .before .before .before .before .before .args .text .now in
-    let b = subst (λ (x : Scan). Within x (l .at) (length text)) (c .before .found3 .given .1) (c .before .before .before .scan-set .ensures .1) in
+    let b = subst (λ (x : Scan). ScanWithin x (l .at) (length text)) (c .before .found3 .given .1) (c .before .before .before .scan-set .ensures .1) in
     omega arith
 
 loop-again-2 : tie.Need-loop-again-2 Inv-loop μ-loop
 loop-again-2 c =
     let l = c .before .before .before .before .before .before .before .loop in
     let text = c .before .before .before .before .before .before .before .before .before .args .text .now in
-    let captures = flagsOf (l .count) (l .word) in
+    let captures = flagsOfWord (l .count) (l .word) in
     let f = c .before .before .before .scan-set in
     let r = c .before .found3 .given in
-    let b = subst (λ (x : Scan). Within x (l .at) (length text)) (r .1) (f .ensures .1) in (
+    let b = subst (λ (x : Scan). ScanWithin x (l .at) (length text)) (r .1) (f .ensures .1) in (
       b .1,
       l .inv .1,
       l .inv .2,
       turn-past false text (l .at) captures (c .before .before .before .before .before .before .loop-test .taken) (l .inv .3) (f .result) _ (f .ensures .0) (item-set false text (l .at) captures (c .before .before .before .before .match .keys2)) (r .0 .0) (r .1) (f .ensures .1),
     )
 
-enum-known-found-4 : tie.Need-enum-known-found-4 Inv-loop μ-loop
-enum-known-found-4 c = search needs
-
 returns-2 : tie.Need-returns-2 Inv-loop μ-loop
 returns-2 c =
     let l = c .before .before .before .before .before .before .before .loop in
     let text = c .before .before .before .before .before .before .before .before .before .args .text .now in
-    let captures = flagsOf (l .count) (l .word) in
+    let captures = flagsOfWord (l .count) (l .word) in
     let f = c .before .before .before .scan-set in
     let r = c .before .found4 .given in
     turn-fault false text (l .at) captures (c .before .before .before .before .before .before .loop-test .taken) (l .inv .3) (f .result) _ (f .ensures .0) (item-set false text (l .at) captures (c .before .before .before .before .match .keys2)) (r .0 .0) (r .1)
@@ -123,16 +102,7 @@ returns-3 : tie.Need-returns-3 Inv-loop μ-loop
 returns-3 c =
     let l = c .before .before .before .before .loop in
     let count = flags-length (l .count) (l .word) in
-    turn-full false (c .before .before .before .before .before .before .args .text .now) (l .at) (flagsOf (l .count) (l .word)) (c .before .before .before .loop-test .taken) (l .inv .3) (c .before .match .keys3) (omega arith)
-
-opened-requires : tie.Need-opened-requires Inv-loop μ-loop
-opened-requires c κs = search needs
-
-add-count : tie.Need-add-count Inv-loop μ-loop
-add-count c = search needs
-
-add-at : tie.Need-add-at Inv-loop μ-loop
-add-at c = search needs
+    turn-full false (c .before .before .before .before .before .before .args .text .now) (l .at) (flagsOfWord (l .count) (l .word)) (c .before .before .before .loop-test .taken) (l .inv .3) (c .before .match .keys3) (omega arith)
 
 loop-less-3 : tie.Need-loop-less-3 Inv-loop μ-loop
 loop-less-3 c = omega arith
@@ -146,17 +116,8 @@ loop-again-3 c =
       omega arith,
       c .opened .ensures .0,
       ap (items false text (l .at + 1)) (c .opened .ensures .1)
-          ∙ turn-open false text (l .at) (flagsOf (l .count) (l .word)) (c .before .before .before .before .loop-test .taken) (l .inv .3) (c .before .before .match .keys3) (omega arith),
+          ∙ turn-open false text (l .at) (flagsOfWord (l .count) (l .word)) (c .before .before .before .before .loop-test .taken) (l .inv .3) (c .before .before .match .keys3) (omega arith),
     )
-
-close-latest-requires : tie.Need-close-latest-requires Inv-loop μ-loop
-close-latest-requires c κs = search needs
-
-enum-known-left : tie.Need-enum-known-left Inv-loop μ-loop
-enum-known-left c = search needs
-
-add-at-2 : tie.Need-add-at-2 Inv-loop μ-loop
-add-at-2 c = search needs
 
 loop-less-4 : tie.Need-loop-less-4 Inv-loop μ-loop
 loop-less-4 c = omega arith
@@ -169,21 +130,15 @@ loop-again-4 c =
       omega arith,
       l .inv .1,
       subst (Below (l .count)) (r .1) (k .ensures .1),
-      turn-close false (c .before .before .before .before .before .before .before .before .before .args .text .now) (l .at) (flagsOf (l .count) (l .word)) (c .before .before .before .before .before .before .loop-test .taken) (l .inv .3) (c .before .before .before .before .match .keys4)
+      turn-close false (c .before .before .before .before .before .before .before .before .before .args .text .now) (l .at) (flagsOfWord (l .count) (l .word)) (c .before .before .before .before .before .before .loop-test .taken) (l .inv .3) (c .before .before .before .before .match .keys4)
           _ (sym (ap (closedOf (l .count)) (r .1)) ∙ k .ensures .0),
     )
-
-enum-told : tie.Need-enum-told Inv-loop μ-loop
-enum-told c = search needs
 
 returns-4 : tie.Need-returns-4 Inv-loop μ-loop
 returns-4 c =
     let l = c .before .before .before .before .before .before .loop in
-    turn-unmatched false (c .before .before .before .before .before .before .before .before .args .text .now) (l .at) (flagsOf (l .count) (l .word)) (c .before .before .before .before .before .loop-test .taken) (l .inv .3) (c .before .before .before .match .keys4)
+    turn-unmatched false (c .before .before .before .before .before .before .before .before .args .text .now) (l .at) (flagsOfWord (l .count) (l .word)) (c .before .before .before .before .before .loop-test .taken) (l .inv .3) (c .before .before .before .match .keys4)
     (sym (ap (closedOf (l .count)) (c .enum-told .given .1)) ∙ c .before .before .close-latest .ensures .0)
-
-add-at-3 : tie.Need-add-at-3 Inv-loop μ-loop
-add-at-3 c = search needs
 
 loop-less-5 : tie.Need-loop-less-5 Inv-loop μ-loop
 loop-less-5 c = omega arith
@@ -195,26 +150,20 @@ loop-again-5 c =
       omega arith,
       l .inv .1,
       l .inv .2,
-      turn-plain false (c .before .before .before .before .before .args .text .now) (l .at) (flagsOf (l .count) (l .word)) (c .before .before .loop-test .taken) (l .inv .3) (n .0 .0 .0 .1) (n .0 .0 .1) (n .0 .1) (n .1),
+      turn-plain false (c .before .before .before .before .before .args .text .now) (l .at) (flagsOfWord (l .count) (l .word)) (c .before .before .loop-test .taken) (l .inv .3) (n .0 .0 .0 .1) (n .0 .0 .1) (n .0 .1) (n .1),
     )
-
-none-open-requires : tie.Need-none-open-requires Inv-loop μ-loop
-none-open-requires c κs = search needs
-
-cast-t22 : tie.Need-cast-t22 Inv-loop μ-loop
-cast-t22 c = search needs
 
 returns-5 : tie.Need-returns-5 Inv-loop μ-loop
 unfolding if_then_else_
 returns-5 c =
     let l = c .before .before .before .loop in
-    turn-end false (c .before .before .before .before .before .args .text .now) (l .at) (flagsOf (l .count) (l .word)) _ (l .count) (sym (c .if2 .taken) ∙ c .before .none-open .ensures) (flags-length (l .count) (l .word)) (c .before .before .loop-test .left) (l .inv .3)
+    turn-end false (c .before .before .before .before .before .args .text .now) (l .at) (flagsOfWord (l .count) (l .word)) _ (l .count) (sym (c .if2 .taken) ∙ c .before .none-open .ensures) (flags-length (l .count) (l .word)) (c .before .before .loop-test .left) (l .inv .3)
 
 returns-6 : tie.Need-returns-6 Inv-loop μ-loop
 unfolding if_then_else_
 returns-6 c =
     let l = c .before .before .before .loop in
-    turn-end false (c .before .before .before .before .before .args .text .now) (l .at) (flagsOf (l .count) (l .word)) _ (l .count) (sym (c .if2 .left) ∙ c .before .none-open .ensures) (flags-length (l .count) (l .word)) (c .before .before .loop-test .left) (l .inv .3)
+    turn-end false (c .before .before .before .before .before .args .text .now) (l .at) (flagsOfWord (l .count) (l .word)) _ (l .count) (sym (c .if2 .left) ∙ c .before .none-open .ensures) (flags-length (l .count) (l .word)) (c .before .before .loop-test .left) (l .inv .3)
 
 pub scan-pattern-spec : {M : Type 1} → statement M
 scan-pattern-spec =
@@ -223,36 +172,28 @@ scan-pattern-spec =
     Inv-loop
     μ-loop
     loop-holds
-    shared-slice-read-here
-    scan-escape-requires
-    enum-known-found
+    (λ c. search needs) (λ c κs. search needs) (λ c. search needs)
     loop-less
     loop-again
-    enum-known-found-2
+    (λ c. search needs)
     returns
-    scan-set-requires
-    enum-known-found-3
+    (λ c κs. search needs) (λ c. search needs)
     loop-less-2
     loop-again-2
-    enum-known-found-4
+    (λ c. search needs)
     returns-2
     returns-3
-    opened-requires
-    add-count
-    add-at
+    (λ c κs. search needs) (λ c. search needs) (λ c. search needs)
     loop-less-3
     loop-again-3
-    close-latest-requires
-    enum-known-left
-    add-at-2
+    (λ c κs. search needs) (λ c. search needs) (λ c. search needs)
     loop-less-4
     loop-again-4
-    enum-told
+    (λ c. search needs)
     returns-4
-    add-at-3
+    (λ c. search needs)
     loop-less-5
     loop-again-5
-    none-open-requires
-    cast-t22
+    (λ c κs. search needs) (λ c. search needs)
     returns-5
     returns-6)

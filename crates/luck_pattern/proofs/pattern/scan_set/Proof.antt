@@ -35,15 +35,6 @@ Inv-members text start first at₀ at =
 abbrev μ-members : tie.MeasureT-members
 μ-members text start first at₀ at = length text - at
 
-first-member-requires : tie.Need-first-member-requires Inv-members μ-members
-first-member-requires c κs = search needs
-
-sub-if1 : tie.Need-sub-if1 Inv-members μ-members
-sub-if1 c = search needs
-
-shared-slice-read-if2 : tie.Need-shared-slice-read-if2 Inv-members μ-members
-shared-slice-read-if2 c = search needs
-
 returns : tie.Need-returns Inv-members μ-members
 returns c =
     let f = c .before .before .before .first-member in
@@ -70,15 +61,6 @@ returns-2 c =
     let a = c .before .before .before .before .before .args in
     (set-unclosed (a .text .now) (a .start) (c .before .before .before .first-member .result) (l .at) (l .inv .4) false (l .inv .3) (c .if3 .taken), tt)
 
-shared-slice-read-here : tie.Need-shared-slice-read-here Inv-members μ-members
-shared-slice-read-here c = search needs
-
-add-after : tie.Need-add-after Inv-members μ-members
-add-after c = search needs
-
-add-at : tie.Need-add-at Inv-members μ-members
-add-at c = search needs
-
 members-less : tie.Need-members-less Inv-members μ-members
 members-less c = omega arith
 
@@ -93,17 +75,11 @@ members-again c =
       set-first (a .text .now) (a .start) (c .before .before .before .before .before .before .first-member .result) (l .at) (l .inv .4) (c .before .before .before .if3 .left) (l .inv .0) (c .before .match .keys1) (omega arith),
     )
 
-sub-if5 : tie.Need-sub-if5 Inv-members μ-members
-sub-if5 c = search needs
-
 returns-3 : tie.Need-returns-3 Inv-members μ-members
 returns-3 c =
     let l = c .before .before .before .before .members in
     let a = c .before .before .before .before .before .before .before .before .args in
     (set-cut (a .text .now) (a .start) (c .before .before .before .before .before .before .first-member .result) (l .at) (l .inv .4) (c .before .before .before .if3 .left) false (c .before .match .keys2) (c .if5 .taken), tt)
-
-add-at-2 : tie.Need-add-at-2 Inv-members μ-members
-add-at-2 c = search needs
 
 members-less-2 : tie.Need-members-less-2 Inv-members μ-members
 members-less-2 c = omega arith
@@ -118,9 +94,6 @@ members-again-2 c =
       l .inv .3,
       set-escaped (a .text .now) (a .start) (c .before .before .before .before .before .before .first-member .result) (l .at) (l .inv .4) (c .before .before .before .if3 .left) (l .inv .0) (c .before .match .keys2) (c .if5 .left),
     )
-
-add-at-3 : tie.Need-add-at-3 Inv-members μ-members
-add-at-3 c = search needs
 
 members-less-3 : tie.Need-members-less-3 Inv-members μ-members
 members-less-3 c = omega arith
@@ -148,23 +121,19 @@ scan-set-spec =
     (tie.spec
     Inv-members
     μ-members
-    first-member-requires
-    sub-if1
-    shared-slice-read-if2
+    (λ c κs. search needs) (λ c. search needs) (λ c. search needs)
     returns
     members-holds
     returns-2
-    shared-slice-read-here
-    add-after
-    add-at
+    (λ c. search needs) (λ c. search needs) (λ c. search needs)
     members-less
     members-again
-    sub-if5
+    (λ c. search needs)
     returns-3
-    add-at-2
+    (λ c. search needs)
     members-less-2
     members-again-2
-    add-at-3
+    (λ c. search needs)
     members-less-3
     members-again-3
     returns-4)

@@ -1,59 +1,30 @@
 -- `luck_pattern::pattern::validate_lua_pattern` meets its contract. Assumes nothing.
-use mathlib.Core.Path.{sym, ap, _∙_}
-use mathlib.Core.Bool.{false}
+use mathlib.Core.Path.{_∙_}
 use borrow.Author.Needs.{needs}
-use Rattle.luck_answer.specs.Answer.{textAnswer}
-use Rattle.luck_pattern.specs.Pattern.{patternWalk, checkPatternAs, checkPattern}
-use Rattle.luck_answer.specs.declared.format_pattern.Text.{Text}
+use Rattle.luck_answer.proofs.Texts.{by-text}
+use Rattle.luck_pattern.specs.Pattern.{checkPatternAs, checkPattern}
 use Rattle.luck_pattern.proofs.pattern.validate_lua_pattern.Statement.{statement}
 use Rattle.luck_pattern.proofs.pattern.validate_lua_pattern.Tie as tie
-
-read-text-requires : tie.Need-read-text-requires
-read-text-requires c κs = search needs
-
-enum-told : tie.Need-enum-told
-enum-told c = search needs
-
-scan-pattern-requires : tie.Need-scan-pattern-requires
-scan-pattern-requires c κs = search needs
-
-as-checked-requires : tie.Need-as-checked-requires
-as-checked-requires c κs = search needs
-
-enum-known-read : tie.Need-enum-known-read
-enum-known-read c = search needs
-
-enum-told-2 : tie.Need-enum-told-2
-enum-told-2 c = search needs
 
 returns : tie.Need-returns
 unfolding checkPattern checkPatternAs
 returns c =
-    let walked = patternWalk false (c .before .before .before .before .before .before .args .text .now) in
-    c .as-checked .ensures ∙ c .before .scan-pattern .ensures ∙ ap (λ (t : Text). textAnswer t walked) (sym (c .before .before .enum-told .given .1)) ∙ c .before .before .before .before .read-text .ensures walked
+    c .as-checked .ensures ∙ c .before .scan-pattern .ensures ∙ by-text _ _ (c .before .before .before .before .read-text .ensures) (c .before .before .enum-told .given .1) _
 
 returns-2 : tie.Need-returns-2
 unfolding checkPattern checkPatternAs
-returns-2 c =
-    let walked = patternWalk false (c .before .before .before .before .before .args .text .now) in
-    ap (λ (t : Text). textAnswer t walked) (sym (c .before .read .given .1)) ∙ c .before .before .before .read-text .ensures walked
+returns-2 c = by-text _ _ (c .before .before .before .read-text .ensures) (c .before .read .given .1) _
 
 returns-3 : tie.Need-returns-3
 unfolding checkPattern checkPatternAs
-returns-3 c =
-    let walked = patternWalk false (c .before .before .before .before .args .text .now) in
-    ap (λ (t : Text). textAnswer t walked) (sym (c .enum-told2 .given .1)) ∙ c .before .before .read-text .ensures walked
+returns-3 c = by-text _ _ (c .before .before .read-text .ensures) (c .enum-told2 .given .1) _
 
 pub validate-lua-pattern-spec : {M : Type 1} → statement M
 validate-lua-pattern-spec =
     tie.close
     (tie.spec
-    read-text-requires
-    enum-told
-    scan-pattern-requires
-    as-checked-requires
-    enum-known-read
-    enum-told-2
+    (λ c κs. search needs) (λ c. search needs) (λ c κs. search needs) (λ c κs. search needs) (λ c. search needs)
+    (λ c. search needs)
     returns
     returns-2
     returns-3)

@@ -22,20 +22,8 @@ abbrev μ-loop : tie.MeasureT-loop
 loop-holds : tie.Need-loop-holds Inv-loop μ-loop
 loop-holds c = (omega arith, refl)
 
-shared-slice-read-if1 : tie.Need-shared-slice-read-if1 Inv-loop μ-loop
-shared-slice-read-if1 c = search needs
-
-add-at : tie.Need-add-at Inv-loop μ-loop
-add-at c = search needs
-
-loop-less : tie.Need-loop-less Inv-loop μ-loop
-loop-less c = search needs
-
 loop-again : tie.Need-loop-again Inv-loop μ-loop
 loop-again c = (omega arith, laws.passes-literal (c .before .before .before .before .before .args .is-strict) (countOf (c .before .before .before .before .before .args .captures)) (c .before .before .before .before .before .args .text .now) (c .before .before .before .loop .at) (c .before .before .loop-test .taken) (c .if1 .taken) ∙ c .before .before .before .loop .inv .1)
-
-sub-if2 : tie.Need-sub-if2 Inv-loop μ-loop
-sub-if2 c = search needs
 
 returns : tie.Need-returns Inv-loop μ-loop
 returns c = laws.lone-strict (c .before .before .before .before .before .before .before .args .is-strict) (countOf (c .before .before .before .before .before .before .before .args .captures)) (c .before .before .before .before .before .before .before .args .text .now) (c .before .before .before .before .before .loop .at) (c .before .before .before .before .loop-test .taken) (c .before .before .if1 .left) (omega arith) (c .if3 .taken) ∙ c .before .before .before .before .before .loop .inv .1
@@ -43,36 +31,12 @@ returns c = laws.lone-strict (c .before .before .before .before .before .before 
 returns-2 : tie.Need-returns-2 Inv-loop μ-loop
 returns-2 c = laws.lone-lenient (c .before .before .before .before .before .before .before .args .is-strict) (countOf (c .before .before .before .before .before .before .before .args .captures)) (c .before .before .before .before .before .before .before .args .text .now) (c .before .before .before .before .before .loop .at) (c .before .before .before .before .loop-test .taken) (c .before .before .if1 .left) (omega arith) (c .if3 .left) ∙ c .before .before .before .before .before .loop .inv .1
 
-add-next : tie.Need-add-next Inv-loop μ-loop
-add-next c = search needs
-
-shared-slice-read-escaped : tie.Need-shared-slice-read-escaped Inv-loop μ-loop
-shared-slice-read-escaped c = search needs
-
-add-at-2 : tie.Need-add-at-2 Inv-loop μ-loop
-add-at-2 c = search needs
-
-loop-less-2 : tie.Need-loop-less-2 Inv-loop μ-loop
-loop-less-2 c = search needs
-
 loop-again-2 : tie.Need-loop-again-2 Inv-loop μ-loop
 loop-again-2 c = (omega arith, laws.passes-percent (c .before .before .before .before .before .before .before .before .args .is-strict) (countOf (c .before .before .before .before .before .before .before .before .args .captures)) (c .before .before .before .before .before .before .before .before .args .text .now) (c .before .before .before .before .before .before .loop .at) (c .before .before .before .before .before .loop-test .taken) (c .before .before .before .if1 .left) (omega arith) (c .match .keys1) ∙ c .before .before .before .before .before .before .loop .inv .1)
-
-cast-allows-digit : tie.Need-cast-allows-digit Inv-loop μ-loop
-cast-allows-digit c = search needs
-
-allows-digit-requires : tie.Need-allows-digit-requires Inv-loop μ-loop
-allows-digit-requires c κs = search needs
 
 returns-3 : tie.Need-returns-3 Inv-loop μ-loop
 unfolding isDigit
 returns-3 c = laws.beyond (c .before .before .before .before .before .before .before .before .before .before .before .before .args .is-strict) (countOf (c .before .before .before .before .before .before .before .before .before .before .before .before .args .captures)) (c .before .before .before .before .before .before .before .before .before .before .before .before .args .text .now) (c .before .before .before .before .before .before .before .before .before .before .loop .at) (c .before .before .before .before .before .before .before .before .before .loop-test .taken) (c .before .before .before .before .before .before .before .if1 .left) (omega arith) (c .before .before .before .before .match .rest .1) (within 48 57 (byteAt (c .before .before .before .before .before .before .before .before .before .before .before .before .args .text .now) (c .before .before .before .before .before .before .before .before .before .before .loop .at + 1)) (omega arith) (omega arith)) (sym (c .before .allows-digit .ensures) ∙ not-true _ (c .if6 .taken)) ∙ c .before .before .before .before .before .before .before .before .before .before .loop .inv .1
-
-add-at-3 : tie.Need-add-at-3 Inv-loop μ-loop
-add-at-3 c = search needs
-
-loop-less-3 : tie.Need-loop-less-3 Inv-loop μ-loop
-loop-less-3 c = search needs
 
 loop-again-3 : tie.Need-loop-again-3 Inv-loop μ-loop
 unfolding isDigit
@@ -81,12 +45,6 @@ loop-again-3 c = (omega arith, laws.passes-digit (c .before .before .before .bef
 returns-4 : tie.Need-returns-4 Inv-loop μ-loop
 unfolding isDigit
 returns-4 c = laws.bad-escape (c .before .before .before .before .before .before .before .before .before .before .args .is-strict) (countOf (c .before .before .before .before .before .before .before .before .before .before .args .captures)) (c .before .before .before .before .before .before .before .before .before .before .args .text .now) (c .before .before .before .before .before .before .before .before .loop .at) (c .before .before .before .before .before .before .before .loop-test .taken) (c .before .before .before .before .before .if1 .left) (omega arith) (c .before .before .match .rest .1) (⊎-elim (λ l. below 48 57 (byteAt (c .before .before .before .before .before .before .before .before .before .before .args .text .now) (c .before .before .before .before .before .before .before .before .loop .at + 1)) (omega arith)) (λ l. above 48 57 (byteAt (c .before .before .before .before .before .before .before .before .before .before .args .text .now) (c .before .before .before .before .before .before .before .before .loop .at + 1)) (omega arith)) (c .before .if4 .came)) (c .if7 .taken) ∙ c .before .before .before .before .before .before .before .before .loop .inv .1
-
-add-at-4 : tie.Need-add-at-4 Inv-loop μ-loop
-add-at-4 c = search needs
-
-loop-less-4 : tie.Need-loop-less-4 Inv-loop μ-loop
-loop-less-4 c = search needs
 
 loop-again-4 : tie.Need-loop-again-4 Inv-loop μ-loop
 unfolding isDigit
@@ -102,26 +60,18 @@ scan-replacement-spec =
     Inv-loop
     μ-loop
     loop-holds
-    shared-slice-read-if1
-    add-at
-    loop-less
+    (λ c. search needs) (λ c. search needs) (λ c. search needs)
     loop-again
-    sub-if2
+    (λ c. search needs)
     returns
     returns-2
-    add-next
-    shared-slice-read-escaped
-    add-at-2
-    loop-less-2
+    (λ c. search needs) (λ c. search needs) (λ c. search needs) (λ c. search needs)
     loop-again-2
-    cast-allows-digit
-    allows-digit-requires
+    (λ c. search needs) (λ c κs. search needs)
     returns-3
-    add-at-3
-    loop-less-3
+    (λ c. search needs) (λ c. search needs)
     loop-again-3
     returns-4
-    add-at-4
-    loop-less-4
+    (λ c. search needs) (λ c. search needs)
     loop-again-4
     returns-5)

@@ -1,13 +1,13 @@
 -- `luck_structs::decoded::of_decoded` meets its contract. Assumes nothing.
 use mathlib.Core.Path.{_≡_, sym, ap, _∙_}
-use Rattle.luck_token.specs.Decode.{Answer, numbered}
+use Rattle.luck_token.specs.Decode.{Decoding, numbered}
 use Rattle.luck_token.specs.declared.string.Decoded.{Decoded}
 use borrow.Author.Needs.{needs}
 use Rattle.luck_structs.proofs.decoded.of_decoded.Statement.{statement}
 use Rattle.luck_structs.proofs.decoded.of_decoded.Tie as tie
 
 -- an arm gives the numbers of the answer that it is for
-of-arm : (decoded variant : Decoded) (a : Answer) → decoded ≡ variant → a ≡ numbered variant → a ≡ numbered decoded
+of-arm : (decoded variant : Decoded) (a : Decoding) → decoded ≡ variant → a ≡ numbered variant → a ≡ numbered decoded
 of-arm decoded variant a is e = e ∙ ap numbered (sym is)
 
 pub of-decoded-spec : {M : Type 1} → statement M

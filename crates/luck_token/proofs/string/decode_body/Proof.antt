@@ -5,7 +5,7 @@ use mathlib.Core.Option.{Option}
 use Prim.Native.Nat.{ℕ}
 use lib.ListN.{length}
 use borrow.Author.Tests.{not-true}
-use Rattle.luck_token.specs.Decode.{withRoom, answerOf, outputOf}
+use Rattle.luck_token.specs.Decode.{withRoom, decodingOf, outputOf}
 use Rattle.luck_token.proofs.Values as values
 use borrow.Author.Needs.{needs}
 use Rattle.luck_token.proofs.string.decode_body.Statement.{statement}
@@ -24,7 +24,7 @@ returns : tie.Need-returns
 returns c =
     let a = c .before .before .before .before .before .before .before .before .before .args in
     let e = values.plain-value (a .long) (a .rules) (a .body .now) (c .before .before .before .before .before .has-special .ensures (not-true _ (c .before .before .before .before .if2 .taken))) in (
-      c .before .before .decode-plain .ensures .0 ∙ ap (λ (o : Option (List ℕ)). answerOf (withRoom (length (a .output .now)) o)) e,
+      c .before .before .decode-plain .ensures .0 ∙ ap (λ (o : Option (List ℕ)). decodingOf (withRoom (length (a .output .now)) o)) e,
       c .before .before .decode-plain .ensures .1 ∙ ap (λ (o : Option (List ℕ)). outputOf (withRoom (length (a .output .now)) o) (a .output .now)) e,
     )
 

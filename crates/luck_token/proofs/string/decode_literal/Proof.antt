@@ -7,7 +7,7 @@ use mathlib.Core.Option.{Option}
 use Prim.Native.Nat.{ℕ}
 use lib.ListN.{length}
 use Rattle.luck_token.specs.Literal.{valueOf}
-use Rattle.luck_token.specs.Decode.{withRoom, answerOf, outputOf}
+use Rattle.luck_token.specs.Decode.{withRoom, decodingOf, outputOf}
 use Rattle.luck_token.proofs.Literals.{both-quotes}
 use Rattle.luck_token.proofs.Values as values
 use borrow.Author.Needs.{needs}
@@ -38,7 +38,7 @@ same-length c = search needs
 returns : tie.Need-returns
 returns c =
     let e = values.short-literal (c .before .before .before .before .before .before .before .before .before .args .rules) (c .before .before .before .before .before .before .before .before .before .args .raw .now) (sym (c .before .before .before .before .before .before .is-short .ensures) ∙ c .before .before .before .before .before .if1 .taken) in (
-      c .before .before .decode-body .ensures .0 ∙ ap (λ (o : Option (List ℕ)). answerOf (withRoom (length (c .before .before .before .before .before .before .before .before .before .args .output .now)) o)) e,
+      c .before .before .decode-body .ensures .0 ∙ ap (λ (o : Option (List ℕ)). decodingOf (withRoom (length (c .before .before .before .before .before .before .before .before .before .args .output .now)) o)) e,
       c .before .before .decode-body .ensures .1 ∙ ap (λ (o : Option (List ℕ)). outputOf (withRoom (length (c .before .before .before .before .before .before .before .before .before .args .output .now)) o) (c .before .before .before .before .before .before .before .before .before .args .output .now)) e,
     )
 
@@ -57,7 +57,7 @@ same-length-2 c = search needs
 returns-2 : tie.Need-returns-2
 returns-2 c =
     let e = ap (valueOf true (c .before .before .before .before .before .before .before .before .before .before .before .args .rules)) (c .before .before .before .before .long-string-body .ensures) ∙ values.long-literal (c .before .before .before .before .before .before .before .before .before .before .before .args .rules) (c .before .before .before .before .before .before .before .before .before .before .before .args .raw .now) (c .before .before .before .before .before .before .bracket-width .result) (c .before .before .before .before .before .before .bracket-width .ensures) (c .before .before .before .before .before .if2 .taken) in (
-      c .before .before .decode-body2 .ensures .0 ∙ ap (λ (o : Option (List ℕ)). answerOf (withRoom (length (c .before .before .before .before .before .before .before .before .before .before .before .args .output .now)) o)) e,
+      c .before .before .decode-body2 .ensures .0 ∙ ap (λ (o : Option (List ℕ)). decodingOf (withRoom (length (c .before .before .before .before .before .before .before .before .before .before .before .args .output .now)) o)) e,
       c .before .before .decode-body2 .ensures .1 ∙ ap (λ (o : Option (List ℕ)). outputOf (withRoom (length (c .before .before .before .before .before .before .before .before .before .before .before .args .output .now)) o) (c .before .before .before .before .before .before .before .before .before .before .before .args .output .now)) e,
     )
 

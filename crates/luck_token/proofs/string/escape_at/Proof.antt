@@ -4,7 +4,7 @@ use Prim.Native.Nat.{ℕ, _+_, _-_}
 use native.Mathlib.Omega.{arith}
 use mathlib.Core.List.{[]}
 use Rattle.luck_text.specs.Bytes.{isLuaWhitespace}
-use Rattle.luck_token.specs.Literal.{piece, escapeAs, whitespaceEscape}
+use Rattle.luck_token.specs.Literal.{piece, escapePiece, whitespaceEscape}
 use Rattle.luck_text.proofs.Bytes.{run-inside}
 use Rattle.luck_token.proofs.Literals.{escape-is, escape-cut, as-piece}
 use borrow.Author.Needs.{needs}
@@ -69,35 +69,35 @@ enum-told-7 : tie.Need-enum-told-7
 enum-told-7 c = search needs
 
 returns-2 : tie.Need-returns-2
-unfolding escapeAs
+unfolding escapePiece
 returns-2 c = record { is = escape-is (c .before .before .before .before .before .before .before .args .rules) (c .before .before .before .before .before .before .before .args .body .now) (c .before .before .before .before .before .before .before .args .at) (c .before .before .before .before .before .if1 .left) _ (sym (c .before .escape .given .1) ∙ c .before .before .before .escape-of .ensures); inside = (omega arith, omega arith) }
 
 returns-3 : tie.Need-returns-3
-unfolding escapeAs
+unfolding escapePiece
 returns-3 c = as-piece _ _ (escape-is (c .before .before .before .before .before .before .before .args .rules) (c .before .before .before .before .before .before .before .args .body .now) (c .before .before .before .before .before .before .before .args .at) (c .before .before .before .before .before .if1 .left) _ (sym (c .before .enum-told .given .1) ∙ c .before .before .before .escape-of .ensures)) (c .line-break-escape .ensures)
 
 returns-4 : tie.Need-returns-4
-unfolding escapeAs
+unfolding escapePiece
 returns-4 c = as-piece _ _ (escape-is (c .before .before .before .before .before .before .before .args .rules) (c .before .before .before .before .before .before .before .args .body .now) (c .before .before .before .before .before .before .before .args .at) (c .before .before .before .before .before .if1 .left) _ (sym (c .before .enum-told2 .given .1) ∙ c .before .before .before .escape-of .ensures)) (c .hex-escape .ensures)
 
 returns-5 : tie.Need-returns-5
-unfolding escapeAs whitespaceEscape
+unfolding escapePiece whitespaceEscape
 returns-5 c = record { is = ap (λ (n : ℕ). piece [] (2 + n)) (c .run .ensures) ∙ escape-is (c .before .before .before .before .before .before .before .args .rules) (c .before .before .before .before .before .before .before .args .body .now) (c .before .before .before .before .before .before .before .args .at) (c .before .before .before .before .before .if1 .left) _ (sym (c .before .enum-told3 .given .1) ∙ c .before .before .before .escape-of .ensures); inside = (omega arith, omega (arith, c .run .ensures, run-inside isLuaWhitespace (c .before .before .before .before .before .before .before .args .body .now) (c .before .before .before .before .before .before .before .args .at + 2) (omega arith))) }
 
 returns-6 : tie.Need-returns-6
-unfolding escapeAs
+unfolding escapePiece
 returns-6 c = as-piece _ _ (escape-is (c .before .before .before .before .before .before .before .args .rules) (c .before .before .before .before .before .before .before .args .body .now) (c .before .before .before .before .before .before .before .args .at) (c .before .before .before .before .before .if1 .left) _ (sym (c .before .enum-told4 .given .1) ∙ c .before .before .before .escape-of .ensures)) (c .decimal-escape .ensures)
 
 returns-7 : tie.Need-returns-7
-unfolding escapeAs
+unfolding escapePiece
 returns-7 c = as-piece _ _ (escape-is (c .before .before .before .before .before .before .before .args .rules) (c .before .before .before .before .before .before .before .args .body .now) (c .before .before .before .before .before .before .before .args .at) (c .before .before .before .before .before .if1 .left) _ (sym (c .before .enum-told5 .given .1) ∙ c .before .before .before .escape-of .ensures)) (c .unicode-escape .ensures)
 
 returns-8 : tie.Need-returns-8
-unfolding escapeAs
+unfolding escapePiece
 returns-8 c = record { is = escape-is (c .before .before .before .before .before .before .args .rules) (c .before .before .before .before .before .before .args .body .now) (c .before .before .before .before .before .before .args .at) (c .before .before .before .before .if1 .left) _ (sym (c .enum-told6 .given .1) ∙ c .before .before .escape-of .ensures); inside = (omega arith, omega arith) }
 
 returns-9 : tie.Need-returns-9
-unfolding escapeAs
+unfolding escapePiece
 returns-9 c = record { is = escape-is (c .before .before .before .before .before .before .args .rules) (c .before .before .before .before .before .before .args .body .now) (c .before .before .before .before .before .before .args .at) (c .before .before .before .before .if1 .left) _ (sym (c .enum-told7 .given .1) ∙ c .before .before .escape-of .ensures); inside = tt }
 
 pub escape-at-spec : {M : Type 1} → statement M

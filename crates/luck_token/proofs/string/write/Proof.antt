@@ -7,7 +7,7 @@ use mathlib.Core.List.{List, []}
 use lib.ListN.{length}
 use Rattle.luck_output.specs.Output.{stores}
 use Rattle.luck_token.specs.Literal.{piece, pieceAt}
-use Rattle.luck_token.specs.Inner.{IsPiece, Lies}
+use Rattle.luck_token.specs.Inner.{IsPiece, LiesInText}
 use Rattle.luck_token.specs.declared.string.Piece.{Piece}
 use Rattle.luck_token.proofs.Values as values
 use borrow.Author.Needs.{needs}
@@ -28,7 +28,7 @@ loop-holds c = ([], refl, omega arith, omega arith, values.start _ _ _, record {
 -- a piece whose bytes are put behind those so far
 piece-put : (l : tie.At-loop Inv-loop μ-loop) (bytes new : List ℕ) (width m : ℕ) → m ≡ length bytes
     → piece bytes width ≡ pieceAt (l .before .before .before .args .long) (l .before .before .before .args .rules) (l .before .before .before .args .body .now) (l .loop .at)
-    → Lies 1 width (l .loop .at) (length (l .before .before .before .args .body .now)) → m ≤ width → new ≡ stores (l .loop .output) (l .loop .size) bytes
+    → LiesInText 1 width (l .loop .at) (length (l .before .before .before .args .body .now)) → m ≤ width → new ≡ stores (l .loop .output) (l .loop .size) bytes
     → values.Kept (l .before .before .before .args .long) (l .before .before .before .args .rules) (l .before .before .before .args .body .now) (l .before .before .before .args .output .now) new (l .loop .at + width) (l .loop .size + m)
 piece-put l = let a = l .before .before .before .args in values.kept-piece (a .long) (a .rules) (a .body .now) (a .output .now) (l .loop .output) (l .loop .at) (l .loop .size) (l .loop .inv)
 

@@ -22,50 +22,14 @@ third-due c = left-in (second-due (c .before .before .before .before .before .be
 fourth-due : (c : tie.Else3) → Due (c .before .before .before .before .before .before .before .before .before .before .before) 3 (tail ∷ [])
 fourth-due c = left-in (third-due (c .before .before)) (c .before .within2 .ensures) (c .if3 .left) (omega arith)
 
-shared-slice-read-second-of-four : tie.Need-shared-slice-read-second-of-four
-shared-slice-read-second-of-four c = search needs
-
-second-of-four-requires : tie.Need-second-of-four-requires
-second-of-four-requires c κs = search needs
-
-sub-if1 : tie.Need-sub-if1
-sub-if1 c = search needs
-
 returns : tie.Need-returns
 returns c = left-short (second-due (c .before)) (omega arith)
-
-add-second : tie.Need-add-second
-add-second c = search needs
-
-shared-slice-read-second : tie.Need-shared-slice-read-second
-shared-slice-read-second c = search needs
-
-add-third : tie.Need-add-third
-add-third c = search needs
-
-shared-slice-read-third : tie.Need-shared-slice-read-third
-shared-slice-read-third c = search needs
-
-add-fourth : tie.Need-add-fourth
-add-fourth c = search needs
-
-shared-slice-read-fourth : tie.Need-shared-slice-read-fourth
-shared-slice-read-fourth c = search needs
-
-within-requires : tie.Need-within-requires
-within-requires c κs = search needs
 
 returns-2 : tie.Need-returns-2
 returns-2 c = left-out (second-due (c .before .before .before .before .before .before)) (c .before .within .ensures) (c .if2 .taken)
 
-within-requires-2 : tie.Need-within-requires-2
-within-requires-2 c κs = search needs
-
 returns-3 : tie.Need-returns-3
 returns-3 c = left-out (third-due (c .before .before)) (c .before .within2 .ensures) (c .if3 .taken)
-
-within-requires-3 : tie.Need-within-requires-3
-within-requires-3 c κs = search needs
 
 returns-4 : tie.Need-returns-4
 returns-4 c = left-out (fourth-due (c .before .before)) (c .before .within3 .ensures) (c .if4 .taken)
@@ -77,20 +41,13 @@ pub four-spec : {M : Type 1} → statement M
 four-spec =
     tie.close
     (tie.spec
-    shared-slice-read-second-of-four
-    second-of-four-requires
-    sub-if1
+    (λ c. search needs) (λ c κs. search needs) (λ c. search needs)
     returns
-    add-second
-    shared-slice-read-second
-    add-third
-    shared-slice-read-third
-    add-fourth
-    shared-slice-read-fourth
-    within-requires
+    (λ c. search needs) (λ c. search needs) (λ c. search needs) (λ c. search needs) (λ c. search needs)
+    (λ c. search needs) (λ c κs. search needs)
     returns-2
-    within-requires-2
+    (λ c κs. search needs)
     returns-3
-    within-requires-3
+    (λ c κs. search needs)
     returns-4
     returns-5)

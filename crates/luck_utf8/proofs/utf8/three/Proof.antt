@@ -19,38 +19,11 @@ second-due c = left-row (c .before .before .before .pre .0) (c .second-of-three 
 third-due : (c : tie.Else2) → Due (c .before .before .before .before .before .before .before .before) 2 (tail ∷ [])
 third-due c = left-in (second-due (c .before .before .before .before .before)) (c .before .within .ensures) (c .if2 .left) (omega arith)
 
-shared-slice-read-second-of-three : tie.Need-shared-slice-read-second-of-three
-shared-slice-read-second-of-three c = search needs
-
-second-of-three-requires : tie.Need-second-of-three-requires
-second-of-three-requires c κs = search needs
-
-sub-if1 : tie.Need-sub-if1
-sub-if1 c = search needs
-
 returns : tie.Need-returns
 returns c = left-short (second-due (c .before)) (omega arith)
 
-add-second : tie.Need-add-second
-add-second c = search needs
-
-shared-slice-read-second : tie.Need-shared-slice-read-second
-shared-slice-read-second c = search needs
-
-add-third : tie.Need-add-third
-add-third c = search needs
-
-shared-slice-read-third : tie.Need-shared-slice-read-third
-shared-slice-read-third c = search needs
-
-within-requires : tie.Need-within-requires
-within-requires c κs = search needs
-
 returns-2 : tie.Need-returns-2
 returns-2 c = left-out (second-due (c .before .before .before .before .before)) (c .before .within .ensures) (c .if2 .taken)
-
-within-requires-2 : tie.Need-within-requires-2
-within-requires-2 c κs = search needs
 
 returns-3 : tie.Need-returns-3
 returns-3 c = left-out (third-due (c .before .before)) (c .before .within2 .ensures) (c .if3 .taken)
@@ -62,16 +35,10 @@ pub three-spec : {M : Type 1} → statement M
 three-spec =
     tie.close
     (tie.spec
-    shared-slice-read-second-of-three
-    second-of-three-requires
-    sub-if1
+    (λ c. search needs) (λ c κs. search needs) (λ c. search needs)
     returns
-    add-second
-    shared-slice-read-second
-    add-third
-    shared-slice-read-third
-    within-requires
+    (λ c. search needs) (λ c. search needs) (λ c. search needs) (λ c. search needs) (λ c κs. search needs)
     returns-2
-    within-requires-2
+    (λ c κs. search needs)
     returns-3
     returns-4)

@@ -18,41 +18,14 @@ abbrev μ-loop : tie.MeasureT-loop
 loop-holds : tie.Need-loop-holds Inv-loop μ-loop
 loop-holds c = (omega arith, refl)
 
-shared-slice-read-if1 : tie.Need-shared-slice-read-if1 Inv-loop μ-loop
-shared-slice-read-if1 c = search needs
-
-add-at : tie.Need-add-at Inv-loop μ-loop
-add-at c = search needs
-
-loop-less : tie.Need-loop-less Inv-loop μ-loop
-loop-less c = search needs
-
 loop-again : tie.Need-loop-again Inv-loop μ-loop
 loop-again c = (omega arith, laws.passes-byte (c .before .before .before .before .before .args .body .now) (c .before .before .before .loop .at) (c .before .before .loop-test .taken) (c .if1 .taken) ∙ c .before .before .before .loop .inv .1)
-
-sub-if2 : tie.Need-sub-if2 Inv-loop μ-loop
-sub-if2 c = search needs
 
 returns : tie.Need-returns Inv-loop μ-loop
 returns c = laws.last-byte (c .before .before .before .before .before .before .args .body .now) (c .before .before .before .before .loop .at) (c .before .before .before .loop-test .taken) (omega arith) ∙ c .before .before .before .before .loop .inv .1
 
-add-next : tie.Need-add-next Inv-loop μ-loop
-add-next c = search needs
-
-shared-slice-read-is-numeric-escape : tie.Need-shared-slice-read-is-numeric-escape Inv-loop μ-loop
-shared-slice-read-is-numeric-escape c = search needs
-
-is-numeric-escape-requires : tie.Need-is-numeric-escape-requires Inv-loop μ-loop
-is-numeric-escape-requires c κs = search needs
-
 returns-2 : tie.Need-returns-2 Inv-loop μ-loop
 returns-2 c = laws.numeric (c .before .before .before .before .before .before .before .before .before .args .body .now) (c .before .before .before .before .before .before .before .loop .at) (c .before .before .before .before .before .before .loop-test .taken) (c .before .before .before .before .if1 .left) (omega arith) (sym (c .before .is-numeric-escape .ensures) ∙ c .if3 .taken) ∙ c .before .before .before .before .before .before .before .loop .inv .1
-
-add-at-2 : tie.Need-add-at-2 Inv-loop μ-loop
-add-at-2 c = search needs
-
-loop-less-2 : tie.Need-loop-less-2 Inv-loop μ-loop
-loop-less-2 c = search needs
 
 loop-again-2 : tie.Need-loop-again-2 Inv-loop μ-loop
 loop-again-2 c = (omega arith, laws.passes-escape (c .before .before .before .before .before .before .before .before .before .args .body .now) (c .before .before .before .before .before .before .before .loop .at) (c .before .before .before .before .before .before .loop-test .taken) (c .before .before .before .before .if1 .left) (omega arith) (sym (c .before .is-numeric-escape .ensures) ∙ c .if3 .left) ∙ c .before .before .before .before .before .before .before .loop .inv .1)
@@ -67,17 +40,12 @@ has-numeric-escape-spec =
     Inv-loop
     μ-loop
     loop-holds
-    shared-slice-read-if1
-    add-at
-    loop-less
+    (λ c. search needs) (λ c. search needs) (λ c. search needs)
     loop-again
-    sub-if2
+    (λ c. search needs)
     returns
-    add-next
-    shared-slice-read-is-numeric-escape
-    is-numeric-escape-requires
+    (λ c. search needs) (λ c. search needs) (λ c κs. search needs)
     returns-2
-    add-at-2
-    loop-less-2
+    (λ c. search needs) (λ c. search needs)
     loop-again-2
     returns-3)

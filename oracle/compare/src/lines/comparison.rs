@@ -1,0 +1,255 @@
+//! Gives the program `bodies` inputs of lines, cut into pieces, and compares every byte that it writes with the reference.
+
+use std::fmt;
+use std::io;
+use std::path::Path;
+use std::time::Instant;
+
+use crate::comparison::report::Shown;
+use crate::lines::texts::{self, Lines};
+use crate::lines::{self, LONGEST, heads, program};
+use crate::store::lines as stored;
+use crate::texts::random::Random;
+
+/// Bytes that are read beyond those wanted, so that a program that writes too much is told from one that does not.
+const EXCESS: usize = 1000;
+
+pub struct LineComparison<'program> {
+    program: &'program Path,
+    random: Random,
+    inputs: u64,
+    lines: u64,
+    differing: u64,
+    /// The first differences.
+    shown: Vec<String>,
+}
+
+impl<'program> LineComparison<'program> {
+    const MOST_SHOWN: usize = 12;
+
+    /// All inputs, of them `count` random lines. Fails where the program cannot be run.
+    pub fn run(program: &'program Path, seed: u64, count: u64) -> io::Result<Self> {
+        let mut comparison = Self { program, random: Random::new(seed), inputs: 0, lines: 0, differing: 0, shown: Vec::new() };
+        comparison.stored()?;
+        comparison.heads()?;
+        comparison.random_lines(seed, count)?;
+        comparison.empty_lines()?;
+        comparison.endings()?;
+        comparison.single_bytes(seed)?;
+        comparison.cuts()?;
+        Ok(comparison)
+    }
+
+    pub const fn differing(&self) -> u64 {
+        self.differing
+    }
+
+    fn stored(&mut self) -> io::Result<()> {
+        self.section("the stored lines, and no line", |comparison| {
+            match stored::input() {
+                Ok(input) => {
+                    comparison.in_one(&input)?;
+                    comparison.in_pieces(&input)?;
+                }
+                Err(difference) => comparison.differ(|| difference),
+            }
+            comparison.in_one(b"")
+        })
+    }
+
+    fn heads(&mut self) -> io::Result<()> {
+        self.section("heads of hostile bytes", |comparison| comparison.in_pieces(&heads::products()))?;
+        self.section("heads with any byte in one place", |comparison| comparison.in_pieces(&heads::any_byte()))?;
+        self.section("counts of captures", |comparison| comparison.in_pieces(&heads::counts()))?;
+        self.section("lines of up to 5 symbols", |comparison| comparison.in_pieces(&heads::short_lines()))
+    }
+
+    fn random_lines(&mut self, seed: u64, count: u64) -> io::Result<()> {
+        const LINES_OF_AN_INPUT: u64 = 200_000;
+        self.section(&format!("{count} random lines, seed {seed}"), |comparison| {
+            let mut lines = Lines::new(seed);
+            let mut left = count;
+            while left > 0 {
+                let now = left.min(LINES_OF_AN_INPUT);
+                comparison.in_pieces(&lines.input(now as usize))?;
+                left -= now;
+            }
+            Ok(())
+        })
+    }
+
+    /// A row is longer than an empty line: these give the most rows for what is read.
+    fn empty_lines(&mut self) -> io::Result<()> {
+        self.section("empty lines", |comparison| {
+            let input = vec![b'\n'; 300_000];
+            comparison.in_one(&input)?;
+            comparison.in_pieces(&input)
+        })
+    }
+
+    /// Each last line with its newline and without, as the only line and after others.
+    fn endings(&mut self) -> io::Result<()> {
+        self.section("last lines with and without a newline", |comparison| {
+            let before = [
+                vec![],
+                b"\n".to_vec(),
+                b"F1   %d\n".to_vec(),
+                line_of(LONGEST + 1, b"\n"),
+                line_of(200_000, b"\n"),
+                vec![b'\n'; 5000],
+            ];
+            for before in &before {
+                for last in last_lines() {
+                    comparison.in_pieces(&[before.as_slice(), &last].concat())?;
+                    comparison.in_pieces(&[before.as_slice(), &last, b"\n"].concat())?;
+                }
+            }
+            Ok(())
+        })
+    }
+
+    fn single_bytes(&mut self, seed: u64) -> io::Result<()> {
+        self.section("cut into single bytes", |comparison| {
+            let mut input = Lines::new(seed).input(100);
+            input.extend(line_of(LONGEST - 1, b"%\n"));
+            input.extend(line_of(LONGEST + 1, b"\n\n\n"));
+            input.extend(b"P1   (a");
+            let pieces: Vec<&[u8]> = input.chunks(1).collect();
+            comparison.compare(&input, &pieces)
+        })
+    }
+
+    /// A short input, and one with lines about the limit, in two pieces: cut at every place, or at those near the line's ends.
+    fn cuts(&mut self) -> io::Result<()> {
+        const SHORT: &[u8] =
+            b"F1   %d%s\nG4 1 %2\nP1   [^]\n\n\nF\nG432 %9\r\nD9   \nK3   \xC3\xA9\nS6   c4\0\nF2   %\xFF\nP1   (";
+        self.section("cut at each place", |comparison| {
+            for place in 0..=SHORT.len() {
+                comparison.in_two(SHORT, place)?;
+            }
+            let long = [line_of(LONGEST, b"\n"), line_of(LONGEST + 1, b"\n"), b"F1   %d\n".to_vec()].concat();
+            for line_end in [LONGEST, 2 * LONGEST + 2] {
+                for place in line_end - 6..line_end + 8 {
+                    comparison.in_two(&long, place)?;
+                }
+            }
+            Ok(())
+        })
+    }
+
+    fn in_one(&mut self, input: &[u8]) -> io::Result<()> {
+        self.compare(input, &[input])
+    }
+
+    fn in_two(&mut self, input: &[u8], place: usize) -> io::Result<()> {
+        self.compare(input, &<[&[u8]; 2]>::from(input.split_at(place)))
+    }
+
+    /// In pieces of 1 to 100,000 bytes, short ones as frequent as long ones.
+    fn in_pieces(&mut self, input: &[u8]) -> io::Result<()> {
+        const MOST: [usize; 5] = [10, 100, 1000, 10_000, 100_000];
+        let mut pieces = Vec::new();
+        let mut rest = input;
+        while !rest.is_empty() {
+            let most = MOST[self.random.below(MOST.len())];
+            let (piece, after) = rest.split_at(rest.len().min(1 + self.random.below(most)));
+            pieces.push(piece);
+            rest = after;
+        }
+        self.compare(input, &pieces)
+    }
+
+    fn compare(&mut self, input: &[u8], pieces: &[&[u8]]) -> io::Result<()> {
+        let wanted = lines::output(input);
+        let run = program::run(self.program, pieces, wanted.len() + EXCESS)?;
+        self.inputs += 1;
+        self.rows(input, &wanted, &run.output);
+        if !run.has_read_all {
+            self.differ(|| format!("{} pieces, {}: the input was not read to its end", pieces.len(), Shown(input)));
+        }
+        if !run.status.success() {
+            self.differ(|| format!("{} pieces, {}: ended with {}", pieces.len(), Shown(input), run.status));
+        }
+        Ok(())
+    }
+
+    /// The rows one by one: where one is missing, all after it stand in a wrong place.
+    fn rows(&mut self, input: &[u8], wanted: &[u8], found: &[u8]) {
+        self.lines += lines::lines(input).count() as u64;
+        if wanted == found {
+            return;
+        }
+        let mut lines = lines::lines(input).zip(1..);
+        let [mut wanted, mut found] = [wanted, found].map(|rows| rows.split_inclusive(|&byte| byte == b'\n'));
+        loop {
+            let line = lines.next();
+            match (wanted.next(), found.next()) {
+                (None, None) => return,
+                (wanted, found) if wanted == found => {}
+                (wanted, found) => self.differ(|| {
+                    let line =
+                        line.map_or("after the last line".to_owned(), |(line, number)| format!("line {number} {}", Shown(line)));
+                    let [wanted, found] =
+                        [wanted, found].map(|row| row.map_or("nothing".to_owned(), |row| Shown(row).to_string()));
+                    format!("{line}: wanted {wanted}, found {found}")
+                }),
+            }
+        }
+    }
+
+    fn differ(&mut self, details: impl FnOnce() -> String) {
+        self.differing += 1;
+        if self.shown.len() < Self::MOST_SHOWN {
+            self.shown.push(details());
+        }
+    }
+
+    /// Runs a part of the comparison and says how many lines it had and how long it took.
+    fn section(&mut self, name: &str, part: impl FnOnce(&mut Self) -> io::Result<()>) -> io::Result<()> {
+        let (start, lines, inputs) = (Instant::now(), self.lines, self.inputs);
+        part(self)?;
+        let (lines, inputs) = (self.lines - lines, self.inputs - inputs);
+        println!("{name}: {lines} lines, {inputs} inputs, {:.1} s", start.elapsed().as_secs_f64());
+        Ok(())
+    }
+}
+
+impl fmt::Display for LineComparison<'_> {
+    fn fmt(&self, f: &mut fmt::Formatter<'_>) -> fmt::Result {
+        for difference in &self.shown {
+            writeln!(f, "difference: {difference}")?;
+        }
+        let hidden = self.differing - self.shown.len() as u64;
+        if hidden > 0 {
+            writeln!(f, "and {hidden} more")?;
+        }
+        write!(f, "{} lines compared in {} inputs, {} differences", self.lines, self.inputs, self.differing)
+    }
+}
+
+/// A format of so many bytes, and what is to stand after it.
+fn line_of(length: usize, after: &[u8]) -> Vec<u8> {
+    [b"F1   ".as_slice(), &vec![b'a'; length - texts::HEAD], after].concat()
+}
+
+fn last_lines() -> Vec<Vec<u8>> {
+    const SHORT: [&[u8]; 14] = [
+        b"",
+        b"F",
+        b"F1  ",
+        b"F1   ",
+        b"F1   %d",
+        b"P1   (a",
+        b"G4 1 %2",
+        b"D7   %Q",
+        b"\r",
+        b"\0",
+        b"F1   a\r",
+        b"F1   a\0",
+        b"K3   \xFF",
+        b"S3   b\xC3",
+    ];
+    const LENGTHS: [usize; 12] = [4004, 4005, 4006, 4007, 4095, 4096, 4097, 8192, 65_535, 65_536, 70_000, 200_000];
+    let long = LENGTHS.iter().map(|&length| line_of(length, b""));
+    SHORT.iter().map(|line| line.to_vec()).chain(long).collect()
+}
