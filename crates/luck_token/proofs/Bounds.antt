@@ -9,7 +9,7 @@ use mathlib.Core.List.{List, [], _∷_}
 use mathlib.Core.Option.{Option, none, some}
 use lib.ListN.{length, drop, length-append, length-take, length-drop}
 use lib.Dec.{eqb, leb, ltb}
-use borrow.Author.Tests.{eqb-true, eqb-false, leb-true}
+use borrow.Author.Tests.{eqb-true, eqb-false, leb-true, leb-false}
 use Rattle.luck_text.specs.Bytes.{byteAt, part, among, isXdigit, run, numeral}
 use Rattle.luck_text.proofs.Cases.{by-test, and-left, and-right, present}
 use Rattle.luck_text.proofs.Keeps.{Turns, walk-keeps}
@@ -172,6 +172,7 @@ pub record Bounded (len room : ℕ) (o : DecodeOutcome) : Type 0 where
   pub in-text : decodingOf o .written ≤ len
   pub refused-empty : (decodingOf o .number ≡ 0 → ⊥) → decodingOf o .written ≡ 0
   pub refused-untouched : (decodingOf o .number ≡ 0 → ⊥) → (output : List ℕ) → outputOf o output ≡ output
+  pub too-short : decodingOf o .number ≡ 26 → room < len
 
 module _ (text : List ℕ) (room : ℕ) where
   value-bounded : (bytes : List ℕ) → length bytes ≤ room → length bytes ≤ length text → Bounded (length text) room (value bytes)
@@ -185,12 +186,13 @@ module _ (text : List ℕ) (room : ℕ) where
         in-text = s;
         refused-empty = λ n. absurd (n refl);
         refused-untouched = λ n. absurd (n refl);
+        too-short = λ e. absurd (omega arith);
       }
 
   refusal-bounded : (number offset : ℕ) → among number (0 ∷ 23 ∷ 24 ∷ 25 ∷ 26 ∷ []) ≡ true → offset ≤ length text → ((number ≡ 23 → ⊥) → offset ≡ 0)
-      → Bounded (length text) room (refused number offset)
+      → (number ≡ 26 → room < length text) → Bounded (length text) room (refused number offset)
   unfolding decodingOf outputOf
-  refusal-bounded number offset e h z =
+  refusal-bounded number offset e h z s =
       record {
         numbered = e;
         offset = h;
@@ -199,18 +201,19 @@ module _ (text : List ℕ) (room : ℕ) where
         in-text = omega arith;
         refused-empty = λ _. refl;
         refused-untouched = λ _ output. refl;
+        too-short = s;
       }
 
   room-bounded : (o : Option (List ℕ)) → Most (length text) o → Bounded (length text) room (withRoom room o)
   unfolding withRoom among
-  room-bounded none s = refusal-bounded 24 0 refl (omega arith) (λ _. refl)
+  room-bounded none s = refusal-bounded 24 0 refl (omega arith) (λ _. refl) (λ e. absurd (omega arith))
   room-bounded (some bytes) s =
       by-test (Bounded (length text) room) (leb (length bytes) room) _ _
-      (λ e. value-bounded bytes (leb-true (length bytes) room e) s) (λ _. refusal-bounded 26 0 refl (omega arith) (λ _. refl))
+      (λ e. value-bounded bytes (leb-true (length bytes) room e) s) (λ e. refusal-bounded 26 0 refl (omega arith) (λ _. refl) (λ _. omega (arith, leb-false (length bytes) room e)))
 
   pub decode-bounded : (version : ℕ) → Bounded (length text) room (decodeString version text room)
   unfolding decodeString among
   decode-bounded version =
-      in-any-case (Bounded (length text) room) refused text _ (refusal-bounded 25 0 refl (omega arith) (λ _. refl))
-      (λ place h. refusal-bounded 23 place refl (omega arith) (λ n. absurd (n refl)))
+      in-any-case (Bounded (length text) room) refused text _ (refusal-bounded 25 0 refl (omega arith) (λ _. refl) (λ e. absurd (omega arith)))
+      (λ place h. refusal-bounded 23 place refl (omega arith) (λ n. absurd (n refl)) (λ e. absurd (omega arith)))
       (room-bounded (literalValue (rulesOf version) text) (literal-small (rulesOf version) text)) version

@@ -39,6 +39,10 @@ module _ (version : ℕ) (text : List ℕ) (room : ℕ) where
   pub written-in-text : decodingOf (decodeString version text room) .written ≤ length text
   written-in-text = decode-bounded text room version .in-text
 
+  -- so that a room of the literal's length is enough,
+  pub room-enough : length text ≤ room → decodingOf (decodeString version text room) .number ≡ 26 → ⊥
+  room-enough h e = omega (arith, decode-bounded text room version .too-short e)
+
   -- and refused none: the output is untouched
   pub refused-empty : (decodingOf (decodeString version text room) .number ≡ 0 → ⊥) → decodingOf (decodeString version text room) .written ≡ 0
   refused-empty = decode-bounded text room version .refused-empty

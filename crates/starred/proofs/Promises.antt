@@ -69,6 +69,7 @@ decodes version text output =
       offset-of-others = decodings.offset-of-others version text room;
       in-room = decodings.written-in-room version text room;
       in-text = decodings.written-in-text version text room;
+      room-enough = decodings.room-enough version text room;
       refused-empty = decodings.refused-empty version text room;
       refused-untouched = λ n. decodings.refused-untouched version text room n output;
       length-kept = decodings.length-kept version text room output refl;

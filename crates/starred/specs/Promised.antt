@@ -48,14 +48,16 @@ pub record ChecksLiteral (allowed : List ℕ) (len : ℕ) (a : LiteralAnswer) : 
   pub spanned-where : (a .spanned ≡ true) ↔ (among (a .answer .number) (0 ∷ 23 ∷ 25 ∷ 30 ∷ []) ≡ false)
   pub span-of-others : a .spanned ≡ false → a .span ≡ record { start = 0; end = 0 }
 
--- decoding a text into an output: only 23 has an offset; no more bytes are written than the output and the text have;
--- refused none are, and in any case the output keeps its length, and what lies behind them is as it was
+-- decoding a text into an output: only 23 has an offset; no more bytes are written than the output and the text have, so
+-- an output of the text's length is never too short; refused none are, and in any case the output keeps its length, and
+-- what lies behind them is as it was
 pub record Decodes (text output : List ℕ) (a : Decoding) (after : List ℕ) : Type 0 where
   pub numbered : among (a .number) (0 ∷ 23 ∷ 24 ∷ 25 ∷ 26 ∷ []) ≡ true
   pub offset-within : a .offset ≤ length text
   pub offset-of-others : (a .number ≡ 23 → ⊥) → a .offset ≡ 0
   pub in-room : a .written ≤ length output
   pub in-text : a .written ≤ length text
+  pub room-enough : length text ≤ length output → a .number ≡ 26 → ⊥
   pub refused-empty : (a .number ≡ 0 → ⊥) → a .written ≡ 0
   pub refused-untouched : (a .number ≡ 0 → ⊥) → after ≡ output
   pub length-kept : length after ≡ length output
