@@ -15,7 +15,7 @@ use Rattle.luck_answer.specs.Answer.{accepted}
 use Rattle.luck_pattern.specs.Pattern.{checkPatternAs}
 use Rattle.luck_replacement.specs.Replacement.{isStrict, checkReplacement}
 use Rattle.lstr_class.specs.Class.{classOf}
-use Rattle.lstr_gsub.specs.Gsub.{answer, outputAfter, strGsub, gsub}
+use Rattle.lstr_gsub.specs.Gsub.{result, outputAfter, strGsub, gsub}
 use Rattle.lstr_gsub.proofs.Writings.{walk-accepted, strict-accepted, writers-alike}
 use Rattle.lstr_gsub.proofs.Quiet.{quiet}
 use Rattle.lstr_gsub.proofs.Endings.{endings}
@@ -93,7 +93,7 @@ module _ (version : ℕ) (pat rep sub : List ℕ) (budget room : ℕ) where
   filled-exactly = trial-within budget room version pat rep sub .ending
 
   -- 25 comes with nothing written, no replacement and no step,
-  pub nothing-with-25 : gsub version pat rep sub budget room .number ≡ 25 → gsub version pat rep sub budget room ≡ answer 25 0 [] 0 0
+  pub nothing-with-25 : gsub version pat rep sub budget room .number ≡ 25 → gsub version pat rep sub budget room ≡ result 25 0 [] 0 0
   nothing-with-25 = with-25 version pat rep sub budget room
 
   -- and in any case the output keeps its length

@@ -21,7 +21,7 @@ use Rattle.luck_replacement.specs.Replacement.{isStrict, pieces}
 use Rattle.lstr_class.specs.Class.{classOf}
 use Rattle.lstr_item.specs.Match.{Outcome, matched, failed, stopped, match}
 use Rattle.lstr_write.specs.Replace.{Wrote, append, addPieces}
-use Rattle.lstr_gsub.specs.Gsub.{Answer, answer, andWrote, Rounds, Writer, endsAgain, copyByte, copyRest, round, anchoredRound, roundsFrom, rounds, strGsub, writerOf, gsub}
+use Rattle.lstr_gsub.specs.Gsub.{TrialResult, result, andWrote, Rounds, Writer, endsAgain, copyByte, copyRest, round, anchoredRound, roundsFrom, rounds, strGsub, writerOf, gsub}
 use Rattle.lstr_item.specs.Inner.{capturesIn}
 use Rattle.lstr_match.specs.Inner.{outcomeBy, outcomeOf}
 use Rattle.lstr_write.specs.Inner.{wroteOf, WroteAs}
@@ -43,7 +43,7 @@ module _ (inClass : ℕ → ℕ → Bool) (sub : List ℕ) (budget room : ℕ) (
       → copyByte sub room a s last out n v ≡ copyByte sub room b s last out n v
   unfolding copyByte
   copy-same a b s last out n v h =
-      ap (λ (k : List ℕ → Answer). if ltb s (length sub) then andWrote (append room (byteAt sub s ∷ []) out) n v k else answer 0 0 out n v)
+      ap (λ (k : List ℕ → TrialResult). if ltb s (length sub) then andWrote (append room (byteAt sub s ∷ []) out) n v k else result 0 0 out n v)
       (fun-ext (λ now. h (s + 1) last now n))
 
   round-same : (a b : Rounds) (o : Outcome) (s u : ℕ) (last : Option ℕ) (out : List ℕ) (n : ℕ) → Onward inClass sub budget s (u + 1) o
@@ -53,7 +53,7 @@ module _ (inClass : ℕ → ℕ → Bool) (sub : List ℕ) (budget room : ℕ) (
   round-same a b (failed v) s u last out n p h = copy-same a b s last out n v (h v (p .ends .0) (p .ends .1))
   round-same a b (matched e cs v) s u last out n p h =
       let g = h v (p .ends .1 .0) (p .ends .1 .1) in
-      ap₂ (λ (again : Answer) (k : List ℕ → Answer). if endsAgain e last then again else andWrote (write s e cs out) (n + 1) v k)
+      ap₂ (λ (again : TrialResult) (k : List ℕ → TrialResult). if endsAgain e last then again else andWrote (write s e cs out) (n + 1) v k)
       (copy-same a b s last out n v g)
       (fun-ext (λ now. g e (some e) now (n + 1)))
 
@@ -99,12 +99,12 @@ module _ (r : Attempt) (kept : List ℕ) where
 
 -- ---- What is reported
 
-pub reported : (entry : List ℕ) (at : ℕ) (output : List ℕ) (number kind n u : ℕ) (a : Answer) → Upto 0 entry at output
-    → answer number kind (take at output) n u ≡ a
+pub reported : (entry : List ℕ) (at : ℕ) (output : List ℕ) (number kind n u : ℕ) (a : TrialResult) → Upto 0 entry at output
+    → result number kind (take at output) n u ≡ a
     → Reported (record { number = number; kind = kind; written = at; replacements = n; steps = u }) entry output a
 reported entry at output number kind n u a upto e =
     let l = length-so-far 0 entry at output upto in
-    subst (λ (x : Answer). Reported (record { number = number; kind = kind; written = at; replacements = n; steps = u }) entry output x) e
+    subst (λ (x : TrialResult). Reported (record { number = number; kind = kind; written = at; replacements = n; steps = u }) entry output x) e
     (record {
       is = ap (λ (k : ℕ). record { number = number; kind = kind; written = k; replacements = n; steps = u }) (sym l);
       output = upto .untouched ∙ ap (λ (k : ℕ). take at output ++ drop k entry) (sym l);
@@ -138,7 +138,7 @@ module _ (inClass : ℕ → ℕ → Bool) (sub : List ℕ) (budget : ℕ) (stric
   abbrev all : Rounds
   all = rounds inClass sub budget (length entry) write is
 
-  abbrev whole : Answer
+  abbrev whole : TrialResult
   whole = all 0 none [] 0 0
 
   -- the rounds from here are the whole answer
@@ -163,7 +163,7 @@ module _ (inClass : ℕ → ℕ → Bool) (sub : List ℕ) (budget : ℕ) (stric
         ap (λ (x : Outcome). round sub (length entry) write all x place (lastOf after) out n) o
         ∙ sym (one-round inClass sub budget (length entry) write is place (lastOf after) out n u) ∙ going .answers
 
-    pub stopping : 1 < r .number → answer (r .number) (r .kind) out n (r .steps) ≡ whole
+    pub stopping : 1 < r .number → result (r .number) (r .kind) out n (r .steps) ≡ whole
     unfolding round
     stopping h = sym (ap (λ (x : Outcome). round sub (length entry) write all x place (lastOf after) out n) (is-stop r kept h)) ∙ turn
 
@@ -201,7 +201,7 @@ module _ (inClass : ℕ → ℕ → Bool) (sub : List ℕ) (budget : ℕ) (stric
         pub goes-upto : Upto 0 entry (w .at) exit
         goes-upto = goes-on 0 entry at output (going .upto) w exit _ more same
 
-        pub replaced-ends : (w .number ≡ 0 → ⊥) → answer (w .number) (w .kind) (take (w .at) exit) (n + 1) (r .steps) ≡ whole
+        pub replaced-ends : (w .number ≡ 0 → ⊥) → result (w .number) (w .kind) (take (w .at) exit) (n + 1) (r .steps) ≡ whole
         unfolding andWrote
         replaced-ends m =
             sym (ap (λ (x : Wrote). andWrote x (n + 1) (r .steps) (λ now. all (r .end) (some (r .end)) now (n + 1) (r .steps))) (is-ended w (take (w .at) exit) m))
@@ -239,7 +239,7 @@ module _ (inClass : ℕ → ℕ → Bool) (sub : List ℕ) (budget : ℕ) (stric
           ⊎-elim (λ l. let z : r .number ≡ 0 = omega arith in ⊎-elim (λ no. absurd (no z)) (λ e. copies-matched z e) old)
           (λ l. copies-failed (omega arith)) (order (r .number) 1)
 
-      pub all-copied : length sub ≤ place → answer 0 0 out n (r .steps) ≡ whole
+      pub all-copied : length sub ≤ place → result 0 0 out n (r .steps) ≡ whole
       unfolding copyByte
       all-copied l = sym (if-false _ _ _ (le-ltb place (length sub) l)) ∙ copies
 
@@ -248,7 +248,7 @@ module _ (inClass : ℕ → ℕ → Bool) (sub : List ℕ) (budget : ℕ) (stric
         unfolding copyByte
         copying = sym (if-true _ _ _ (lt-ltb place (length sub) l)) ∙ copies
 
-        pub copy-full : length entry ≤ at → answer 26 0 out n (r .steps) ≡ whole
+        pub copy-full : length entry ≤ at → result 26 0 out n (r .steps) ≡ whole
         unfolding andWrote append
         copy-full f =
             sym (ap (λ (x : Wrote). andWrote x n (r .steps) (λ now. all (place + 1) (lastOf after) now n (r .steps)))
@@ -279,34 +279,34 @@ module _ (room : ℕ) (bytes before : List ℕ) (w : Written) (out : List ℕ) (
   kind-none n =
       subst (λ (x : Wrote). WroteFine (λ number kind. kind ≡ 0) x) (sym e ∙ is-ended w out n) (append-fine (λ number kind. kind ≡ 0) refl room bytes before)
 
-  pub copied : (n u : ℕ) → answer (w .number) 0 out n u ≡ andWrote (append room bytes before) n u (λ now. answer 0 0 now n u)
+  pub copied : (n u : ℕ) → result (w .number) 0 out n u ≡ andWrote (append room bytes before) n u (λ now. result 0 0 now n u)
   unfolding andWrote
   copied n u =
       ⊎-elim
       (λ l.
       let z : w .number ≡ 0 = omega arith in
-      ap (λ (number : ℕ). answer number 0 out n u) z
-      ∙ ap (λ (x : Wrote). andWrote x n u (λ now. answer 0 0 now n u)) (sym (is-wrote w out z) ∙ e))
+      ap (λ (number : ℕ). result number 0 out n u) z
+      ∙ ap (λ (x : Wrote). andWrote x n u (λ now. result 0 0 now n u)) (sym (is-wrote w out z) ∙ e))
       (λ l.
       let m : w .number ≡ 0 → ⊥ = λ z. omega arith in
-      ap (λ (kind : ℕ). answer (w .number) kind out n u) (sym (kind-none m))
-      ∙ ap (λ (x : Wrote). andWrote x n u (λ now. answer 0 0 now n u)) (sym (is-ended w out m) ∙ e))
+      ap (λ (kind : ℕ). result (w .number) kind out n u) (sym (kind-none m))
+      ∙ ap (λ (x : Wrote). andWrote x n u (λ now. result 0 0 now n u)) (sym (is-ended w out m) ∙ e))
       (order (w .number) 1)
 
 module _ (inClass : ℕ → ℕ → Bool) (sub : List ℕ) (budget : ℕ) (strict : Bool) (rep : List ℕ) (is : List Item) (entry : List ℕ) (r : Attempt) (kept : List ℕ)
     (o : outcomeOf r kept ≡ match inClass sub budget is 0 1 [] 0) where
-  abbrev anchored : Answer
+  abbrev anchored : TrialResult
   anchored = anchoredRound sub (length entry) (writerBy strict rep sub (length entry)) (match inClass sub budget is 0 1 [] 0)
 
   by-outcome : (x : Outcome) → outcomeOf r kept ≡ x → anchoredRound sub (length entry) (writerBy strict rep sub (length entry)) x ≡ anchored
   by-outcome x e = ap (anchoredRound sub (length entry) (writerBy strict rep sub (length entry))) (sym e ∙ o)
 
-  pub anchored-stops : 1 < r .number → answer (r .number) (r .kind) [] 0 (r .steps) ≡ anchored
+  pub anchored-stops : 1 < r .number → result (r .number) (r .kind) [] 0 (r .steps) ≡ anchored
   unfolding anchoredRound
   anchored-stops h = by-outcome (stopped (r .number) (r .kind) (r .steps)) (is-stop r kept h)
 
   pub anchored-fails : r .number ≡ 1 → (w : Written) (exit : List ℕ) → WroteAs w 0 entry exit (append (length entry) sub (take 0 entry))
-      → answer (w .number) 0 (take (w .at) exit) 0 (r .steps) ≡ anchored
+      → result (w .number) 0 (take (w .at) exit) 0 (r .steps) ≡ anchored
   unfolding anchoredRound copyRest
   anchored-fails z w exit more =
       copied (length entry) sub [] w (take (w .at) exit) (more .is) 0 (r .steps) ∙ by-outcome (failed (r .steps)) (is-failure r kept z)
@@ -319,7 +319,7 @@ module _ (inClass : ℕ → ℕ → Bool) (sub : List ℕ) (budget : ℕ) (stric
         ap (λ (x : Wrote). andWrote x 1 (r .steps) (λ now. copyRest sub (length entry) (r .end) now 1 (r .steps))) (more .is)
         ∙ by-outcome (matched (r .end) (capturesIn (r .count) kept) (r .steps)) (is-match r kept z)
 
-    pub anchored-ends : (w .number ≡ 0 → ⊥) → answer (w .number) (w .kind) (take (w .at) exit) 1 (r .steps) ≡ anchored
+    pub anchored-ends : (w .number ≡ 0 → ⊥) → result (w .number) (w .kind) (take (w .at) exit) 1 (r .steps) ≡ anchored
     unfolding andWrote
     anchored-ends m =
         sym (ap (λ (x : Wrote). andWrote x 1 (r .steps) (λ now. copyRest sub (length entry) (r .end) now 1 (r .steps))) (is-ended w (take (w .at) exit) m))
@@ -327,7 +327,7 @@ module _ (inClass : ℕ → ℕ → Bool) (sub : List ℕ) (budget : ℕ) (stric
 
     pub anchored-copies : w .number ≡ 0 → length exit ≡ length entry → (v : Written) (last : List ℕ)
         → WroteAs v (w .at) exit last (append (length exit) (take (length sub - r .end) (drop (r .end) sub)) (take (w .at) exit))
-        → answer (v .number) 0 (take (v .at) last) 1 (r .steps) ≡ anchored
+        → result (v .number) 0 (take (v .at) last) 1 (r .steps) ≡ anchored
     unfolding andWrote copyRest
     anchored-copies m same v last rest =
         copied (length entry) (drop (r .end) sub) (take (w .at) exit) v (take (v .at) last)
@@ -341,7 +341,7 @@ module _ (inClass : ℕ → ℕ → Bool) (sub : List ℕ) (budget : ℕ) (stric
 -- ---- The whole trial
 
 module _ (version : ℕ) (pat rep sub : List ℕ) (budget room : ℕ) where
-  pub no-version : isVersion version ≡ false → answer 25 0 [] 0 0 ≡ gsub version pat rep sub budget room
+  pub no-version : isVersion version ≡ false → result 25 0 [] 0 0 ≡ gsub version pat rep sub budget room
   unfolding gsub
   no-version e = sym (if-false _ _ _ e)
 

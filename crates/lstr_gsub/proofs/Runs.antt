@@ -18,7 +18,7 @@ use Rattle.lstr_item.specs.Match.{Capture, opened, position, closed, Outcome, m
 use Rattle.lstr_laws.proofs.Attempts.{AttemptFine}
 use Rattle.lstr_write.specs.Replace.{Wrote, wrote, ended, andThen, append, decimal, addCapture, addDigit, addPiece, addPieces}
 use Rattle.lstr_gsub.specs.Gsub.{
-  Answer,
+  TrialResult,
   andWrote,
   Rounds,
   Writer,
@@ -90,7 +90,7 @@ module _ (O : List ℕ → Type 0) (W : ℕ → ℕ → List ℕ → Type 0) whe
 
 -- ---- The run
 
-pub record Kept (K : ℕ → List ℕ → Type 0) (E : ℕ → ℕ → ℕ → List ℕ → Type 0) (a : Answer) : Type 0 where
+pub record Kept (K : ℕ → List ℕ → Type 0) (E : ℕ → ℕ → ℕ → List ℕ → Type 0) (a : TrialResult) : Type 0 where
   pub kept : K (a .steps) (a .written)
   pub ending : E (a .number) (a .kind) (a .steps) (a .written)
 
@@ -105,7 +105,7 @@ module _ (K : ℕ → List ℕ → Type 0) (E : ℕ → ℕ → ℕ → List ℕ
   append-writes : (u : ℕ) (bytes out : List ℕ) → K u out → Writes u (append room bytes out)
   append-writes u = append-keeps (K u) (λ number kind out. K u out × E number kind u out) room (grows u) (λ out r h. (h, full u out r h))
 
-  wrote-keeps : (w : Wrote) (n u : ℕ) (k : List ℕ → Answer) → Writes u w → ((out : List ℕ) → K u out → Kept K E (k out)) → Kept K E (andWrote w n u k)
+  wrote-keeps : (w : Wrote) (n u : ℕ) (k : List ℕ → TrialResult) → Writes u w → ((out : List ℕ) → K u out → Kept K E (k out)) → Kept K E (andWrote w n u k)
   unfolding andWrote
   wrote-keeps (wrote out) n u k w f = f out w
   wrote-keeps (ended number kind out) n u k w f = record { kept = w .0; ending = w .1 }
@@ -179,7 +179,7 @@ module _ (K : ℕ → List ℕ → Type 0) (E : ℕ → ℕ → ℕ → List ℕ
 -- ---- Where nothing is said of what is written: U of the steps, E of the number, the kind and the steps
 
 -- of an answer
-pub record Fine (U : ℕ → Type 0) (E : ℕ → ℕ → ℕ → Type 0) (a : Answer) : Type 0 where
+pub record Fine (U : ℕ → Type 0) (E : ℕ → ℕ → ℕ → Type 0) (a : TrialResult) : Type 0 where
   pub steps : U (a .steps)
   pub ending : E (a .number) (a .kind) (a .steps)
 

@@ -11,7 +11,7 @@ use Rattle.luck_token.specs.Version.{isVersion, rulesOf}
 use Rattle.luck_replacement.specs.Replacement.{isStrict, pieces}
 use Rattle.lstr_class.specs.Class.{classOf}
 use Rattle.lstr_laws.proofs.Endings.{Ending, HasStops, other, raising, attempt-ends}
-use Rattle.lstr_gsub.specs.Gsub.{Answer, answer, writerOf, gsub}
+use Rattle.lstr_gsub.specs.Gsub.{TrialResult, result, writerOf, gsub}
 use Rattle.lstr_gsub.proofs.Runs.{pieces-keep, run-keeps}
 
 abbrev knownNumbers : List ℕ
@@ -36,10 +36,10 @@ module _ (version : ℕ) (pat rep sub : List ℕ) (budget room : ℕ) where
   unfolding among
   full u = other knownNumbers budget 26 u refl (λ e. omega arith) (λ e. omega arith)
 
-  pub with-25 : gsub version pat rep sub budget room .number ≡ 25 → gsub version pat rep sub budget room ≡ answer 25 0 [] 0 0
+  pub with-25 : gsub version pat rep sub budget room .number ≡ 25 → gsub version pat rep sub budget room ≡ result 25 0 [] 0 0
   unfolding gsub writerOf among
   with-25 =
-      by-test (λ (a : Answer). a .number ≡ 25 → a ≡ answer 25 0 [] 0 0) (isVersion version) _ _
+      by-test (λ (a : TrialResult). a .number ≡ 25 → a ≡ result 25 0 [] 0 0) (isVersion version) _ _
       (λ t e.
       let kept =
       run-keeps (λ u out. u ≤ budget) Ends (λ cs. Unit {0}) room (λ u out b r h. h)

@@ -17,17 +17,17 @@ use Rattle.lstr_item.specs.Match.{Capture, Outcome, matched, failed, stopped, m
 use Rattle.lstr_write.specs.Replace.{Wrote, wrote, ended, append, addPieces}
 
 -- number (0: done), kind (0 unless the number is 29), the bytes written, the replacements, the steps
-pub record Answer : Type 0 where
+pub record TrialResult : Type 0 where
   pub number : ℕ
   pub kind : ℕ
   pub written : List ℕ
   pub replacements : ℕ
   pub steps : ℕ
 
-abbrev pub answer : ℕ → ℕ → List ℕ → ℕ → ℕ → Answer
-answer number kind out n u = record { number = number; kind = kind; written = out; replacements = n; steps = u }
+abbrev pub result : ℕ → ℕ → List ℕ → ℕ → ℕ → TrialResult
+result number kind out n u = record { number = number; kind = kind; written = out; replacements = n; steps = u }
 
--- what a trial reports: its answer, with the number of the bytes written
+-- what a trial reports: its result, with the number of the bytes written
 pub record Report : Type 0 where
   pub number : ℕ
   pub kind : ℕ
@@ -35,21 +35,21 @@ pub record Report : Type 0 where
   pub replacements : ℕ
   pub steps : ℕ
 
-abbrev pub report : Answer → Report
+abbrev pub report : TrialResult → Report
 report a = record { number = a .number; kind = a .kind; written = length (a .written); replacements = a .replacements; steps = a .steps }
 
 -- the lent output at exit
-abbrev pub outputAfter : List ℕ → Answer → List ℕ
+abbrev pub outputAfter : List ℕ → TrialResult → List ℕ
 outputAfter output a = inFront (a .written) output
 
 -- what goes on after a writing, which may have ended the trial
-unfoldable pub andWrote : Wrote → ℕ → ℕ → (List ℕ → Answer) → Answer
+unfoldable pub andWrote : Wrote → ℕ → ℕ → (List ℕ → TrialResult) → TrialResult
 andWrote (wrote out) n u k = k out
-andWrote (ended number kind out) n u k = answer number kind out n u
+andWrote (ended number kind out) n u k = result number kind out n u
 
 -- the rounds that follow, from a place, the end of the last match, what is written, the replacements and the steps on
 abbrev pub Rounds : Type 0
-Rounds = ℕ → Option ℕ → List ℕ → ℕ → ℕ → Answer
+Rounds = ℕ → Option ℕ → List ℕ → ℕ → ℕ → TrialResult
 
 -- what is written for a match, from its start, its end, its captures and what is written so far
 abbrev pub Writer : Type 0
@@ -65,16 +65,16 @@ module _ (sub : List ℕ) (room : ℕ) where
   unfoldable pub copyByte : Rounds → Rounds
   copyByte next s last out n u =
       let on = andWrote (append room (byteAt sub s ∷ []) out) n u (λ now. next (s + 1) last now n u) in
-      if ltb s (length sub) then on else answer 0 0 out n u
+      if ltb s (length sub) then on else result 0 0 out n u
 
   -- the rest of the subject is copied
-  unfoldable pub copyRest : ℕ → List ℕ → ℕ → ℕ → Answer
-  copyRest s out n u = andWrote (append room (drop s sub) out) n u (λ now. answer 0 0 now n u)
+  unfoldable pub copyRest : ℕ → List ℕ → ℕ → ℕ → TrialResult
+  copyRest s out n u = andWrote (append room (drop s sub) out) n u (λ now. result 0 0 now n u)
 
   module _ (write : Writer) where
     -- a round at s, by the outcome of its attempt: the replacement is counted, then written
-    unfoldable pub round : Rounds → Outcome → ℕ → Option ℕ → List ℕ → ℕ → Answer
-    round next (stopped number kind u) s last out n = answer number kind out n u
+    unfoldable pub round : Rounds → Outcome → ℕ → Option ℕ → List ℕ → ℕ → TrialResult
+    round next (stopped number kind u) s last out n = result number kind out n u
     round next (failed u) s last out n = copyByte next s last out n u
     round next (matched e cs u) s last out n =
         let on = andWrote (write s e cs out) (n + 1) u (λ now. next e (some e) now (n + 1) u) in
@@ -82,8 +82,8 @@ module _ (sub : List ℕ) (room : ℕ) where
         if endsAgain e last then again else on
 
     -- the one attempt of an anchored pattern
-    unfoldable pub anchoredRound : Outcome → Answer
-    anchoredRound (stopped number kind u) = answer number kind [] 0 u
+    unfoldable pub anchoredRound : Outcome → TrialResult
+    anchoredRound (stopped number kind u) = result number kind [] 0 u
     anchoredRound (failed u) = copyRest 0 [] 0 u
     anchoredRound (matched e cs u) = andWrote (write 0 e cs []) 1 u (λ now. copyRest e now 1 u)
 
@@ -91,14 +91,14 @@ module _ (inClass : ℕ → ℕ → Bool) (sub : List ℕ) (budget room : ℕ) (
   -- an attempt starts at level 1 and takes a step at least, or ends the trial by 27: there are no more rounds than steps left, and one more, so the first case is never
   -- reached from `rounds` (`one-round` of proofs/Rounds.antt)
   unfoldable pub roundsFrom : List Item → ℕ → Rounds
-  roundsFrom is zero s last out n u = answer 0 0 out n u
+  roundsFrom is zero s last out n u = result 0 0 out n u
   roundsFrom is (suc fuel) s last out n u = round sub room write (roundsFrom is fuel) (match inClass sub budget is s 1 [] u) s last out n
 
   unfoldable pub rounds : List Item → Rounds
   rounds is s last out n u = roundsFrom is (suc (budget - u)) s last out n u
 
   -- a leading `^` anchors
-  unfoldable pub strGsub : List ℕ → Answer
+  unfoldable pub strGsub : List ℕ → TrialResult
   strGsub pat =
       let anchored = anchoredRound sub room write (match inClass sub budget (items pat 1) 0 1 [] 0) in
       let all = rounds (items pat 0) 0 none [] 0 0 in
@@ -109,10 +109,10 @@ unfoldable pub writerOf : ℕ → List ℕ → List ℕ → ℕ → Writer
 writerOf version rep sub room s e cs out = addPieces sub room s e cs (isStrict (rulesOf version)) (pieces rep) out
 
 -- 25 comes before all else
-unfoldable pub gsub : ℕ → List ℕ → List ℕ → List ℕ → ℕ → ℕ → Answer
+unfoldable pub gsub : ℕ → List ℕ → List ℕ → List ℕ → ℕ → ℕ → TrialResult
 gsub version pat rep sub budget room =
     let trial = strGsub (classOf version) sub budget room (writerOf version rep sub room) pat in
-    if isVersion version then trial else answer 25 0 [] 0 0
+    if isVersion version then trial else result 25 0 [] 0 0
 
 -- the code's answer
 abbrev pub reportOf : Trial → Report

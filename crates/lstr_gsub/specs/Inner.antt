@@ -6,11 +6,11 @@ use mathlib.Core.Bool.{Bool}
 use mathlib.Core.List.{List}
 use Rattle.luck_replacement.specs.Replacement.{pieces}
 use Rattle.lstr_write.specs.Replace.{addPieces}
-use Rattle.lstr_gsub.specs.Gsub.{Answer, Writer, report, reportOf, outputAfter}
+use Rattle.lstr_gsub.specs.Gsub.{TrialResult, Writer, report, reportOf, outputAfter}
 use Rattle.lstr_gsub.specs.declared.gsub.Trial.{Trial}
 
 -- the code's answer is this one, and the output holds what it has written, and then what it held before
-pub record Reported (r : Trial) (entry exit : List ℕ) (a : Answer) : Type 0 where
+pub record Reported (r : Trial) (entry exit : List ℕ) (a : TrialResult) : Type 0 where
   pub is : reportOf r ≡ report a
   pub output : exit ≡ outputAfter entry a
 
