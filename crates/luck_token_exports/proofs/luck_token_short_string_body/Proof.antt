@@ -6,15 +6,6 @@ use borrow.Author.Needs.{needs}
 use Rattle.luck_token_exports.proofs.luck_token_short_string_body.Statement.{statement}
 use Rattle.luck_token_exports.proofs.luck_token_short_string_body.Tie as tie
 
-short-string-body-requires : tie.Need-short-string-body-requires
-short-string-body-requires c κs = search needs
-
-enum-known-body : tie.Need-enum-known-body
-enum-known-body c = search needs
-
-enum-told : tie.Need-enum-told
-enum-told c = search needs
-
 returns : tie.Need-returns
 returns c =
     ap bodyStruct (sym (ap placesOf (c .before .body .given .1)) ∙ c .before .before .before .short-string-body .ensures)
@@ -25,4 +16,4 @@ returns-2 c =
 
 pub luck-token-short-string-body-spec : {M : Type 1} → statement M
 luck-token-short-string-body-spec =
-    tie.close (tie.spec short-string-body-requires enum-known-body enum-told returns returns-2)
+    tie.close (tie.spec (λ c κs. search needs) (λ c. search needs) (λ c. search needs) returns returns-2)

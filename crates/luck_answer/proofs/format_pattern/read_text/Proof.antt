@@ -6,18 +6,6 @@ use borrow.Author.Needs.{needs}
 use Rattle.luck_answer.proofs.format_pattern.read_text.Statement.{statement}
 use Rattle.luck_answer.proofs.format_pattern.read_text.Tie as tie
 
-is-version-requires : tie.Need-is-version-requires
-is-version-requires c κs = search needs
-
-validate-requires : tie.Need-validate-requires
-validate-requires c κs = search needs
-
-enum-told : tie.Need-enum-told
-enum-told c = search needs
-
-enum-known-valid : tie.Need-enum-known-valid
-enum-known-valid c = search needs
-
 returns : tie.Need-returns
 returns c = λ walked. text-fine (c .before .before .before .before .before .before .args .version) (c .before .before .before .before .before .before .args .text .now) walked (sym (c .before .before .before .before .is-version .ensures) ∙ c .before .before .before .if1 .taken) (sym (ap placeOf (c .enum-told .given .1)) ∙ c .before .before .validate .ensures)
 
@@ -31,10 +19,7 @@ pub read-text-spec : {M : Type 1} → statement M
 read-text-spec =
     tie.close
     (tie.spec
-    is-version-requires
-    validate-requires
-    enum-told
-    enum-known-valid
+    (λ c κs. search needs) (λ c κs. search needs) (λ c. search needs) (λ c. search needs)
     returns
     returns-2
     returns-3)

@@ -22,34 +22,13 @@ returns : tie.Need-returns
 unfolding secondBytes if_then_else_
 returns c = (none-at (c .before .before .args .first) (byteAt (c .before .before .args .text .now) (c .before .before .args .at)) (List·getD-eq-default (c .before .before .args .text .now) 0 (c .if1 .taken)), λ e. absurd (false≢true e))
 
-shared-slice-read-second : tie.Need-shared-slice-read-second
-shared-slice-read-second c = search needs
-
-slice-aggregate-contains : tie.Need-slice-aggregate-contains
-slice-aggregate-contains c = search needs
-
-contains-requires : tie.Need-contains-requires
-contains-requires c κs = search needs
-
 returns-2 : tie.Need-returns-2
 unfolding secondBytes if_then_else_
 returns-2 c = (c .contains .ensures ∙ rw (c .before .before .if2 .taken), λ _. c .before .before .before .before .if1 .left)
 
-slice-aggregate-contains-2 : tie.Need-slice-aggregate-contains-2
-slice-aggregate-contains-2 c = search needs
-
-contains-requires-2 : tie.Need-contains-requires-2
-contains-requires-2 c κs = search needs
-
 returns-3 : tie.Need-returns-3
 unfolding secondBytes if_then_else_
 returns-3 c = (c .contains2 .ensures ∙ rw (c .before .before .if3 .taken), λ _. c .before .before .before .before .before .if1 .left)
-
-slice-aggregate-contains-3 : tie.Need-slice-aggregate-contains-3
-slice-aggregate-contains-3 c = search needs
-
-contains-requires-3 : tie.Need-contains-requires-3
-contains-requires-3 c κs = search needs
 
 returns-4 : tie.Need-returns-4
 unfolding secondBytes if_then_else_
@@ -64,14 +43,10 @@ is-second-spec =
     tie.close
     (tie.spec
     returns
-    shared-slice-read-second
-    slice-aggregate-contains
-    contains-requires
+    (λ c. search needs) (λ c. search needs) (λ c κs. search needs)
     returns-2
-    slice-aggregate-contains-2
-    contains-requires-2
+    (λ c. search needs) (λ c κs. search needs)
     returns-3
-    slice-aggregate-contains-3
-    contains-requires-3
+    (λ c. search needs) (λ c κs. search needs)
     returns-4
     returns-5)

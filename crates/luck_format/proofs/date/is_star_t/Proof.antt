@@ -8,25 +8,13 @@ use borrow.Author.Needs.{needs}
 use Rattle.luck_format.proofs.date.is_star_t.Statement.{statement}
 use Rattle.luck_format.proofs.date.is_star_t.Tie as tie
 
-add-if1 : tie.Need-add-if1
-add-if1 c = search needs
-
 returns : tie.Need-returns
 unfolding isStarT
 returns c = rw (ne-eqb (length (c .before .args .text .now)) (c .before .args .at + 2) (c .if1 .taken))
 
-shared-slice-read-if2 : tie.Need-shared-slice-read-if2
-shared-slice-read-if2 c = search needs
-
 returns-2 : tie.Need-returns-2
 unfolding isStarT
 returns-2 c = rw (eq-eqb (length (c .before .before .before .args .text .now)) (c .before .before .before .args .at + 2) (c .before .before .if1 .left), ne-eqb (byteAt (c .before .before .before .args .text .now) (c .before .before .before .args .at)) 42 (c .if2 .taken))
-
-add-result : tie.Need-add-result
-add-result c = search needs
-
-shared-slice-read-result : tie.Need-shared-slice-read-result
-shared-slice-read-result c = search needs
 
 returns-3 : tie.Need-returns-3
 unfolding isStarT
@@ -36,10 +24,9 @@ pub is-star-t-spec : {M : Type 1} → statement M
 is-star-t-spec =
     tie.close
     (tie.spec
-    add-if1
+    (λ c. search needs)
     returns
-    shared-slice-read-if2
+    (λ c. search needs)
     returns-2
-    add-result
-    shared-slice-read-result
+    (λ c. search needs) (λ c. search needs)
     returns-3)

@@ -10,18 +10,9 @@ use borrow.Author.Needs.{needs}
 use Rattle.luck_format.proofs.date.is_table.Statement.{statement}
 use Rattle.luck_format.proofs.date.is_table.Tie as tie
 
-shared-slice-read-if2 : tie.Need-shared-slice-read-if2
-shared-slice-read-if2 c = search needs
-
-is-star-t-requires : tie.Need-is-star-t-requires
-is-star-t-requires c κs = search needs
-
 returns : tie.Need-returns
 unfolding isTable
 returns c = c .is-star-t .ensures ∙ sym (if-true _ _ _ (eq-eqb (byteAt (c .before .before .before .before .before .args .text .now) 0) 33 (c .before .if2 .taken)))
-
-is-star-t-requires-2 : tie.Need-is-star-t-requires-2
-is-star-t-requires-2 c κs = search needs
 
 returns-2 : tie.Need-returns-2
 unfolding isTable
@@ -34,9 +25,8 @@ pub is-table-spec : {M : Type 1} → statement M
 is-table-spec =
     tie.close
     (tie.spec
-    shared-slice-read-if2
-    is-star-t-requires
+    (λ c. search needs) (λ c κs. search needs)
     returns
-    is-star-t-requires-2
+    (λ c κs. search needs)
     returns-2
     returns-3)

@@ -32,9 +32,6 @@ returns c = laws.lone-strict (here (c .before .before .before .before)) (c .befo
 returns-2 : tie.Need-returns-2 Inv-loop μ-loop
 returns-2 c = laws.lone-lenient (here (c .before .before .before .before)) (c .before .before .if1 .left) (omega arith) (c .if3 .left)
 
-conversion-width-requires : tie.Need-conversion-width-requires Inv-loop μ-loop
-conversion-width-requires c κs = omega arith
-
 returns-3 : tie.Need-returns-3 Inv-loop μ-loop
 returns-3 c = laws.no-conversion (here (c .before .before .before .before .before)) (c .before .before .before .if1 .left) (omega arith) (sym (c .before .conversion-width .ensures .0) ∙ c .if4 .taken)
 
@@ -64,8 +61,7 @@ scan-conversions-spec =
     (λ c. search needs)
     returns
     returns-2
-    conversion-width-requires
-    (λ c. search needs)
+    (λ c κs. omega arith) (λ c. search needs)
     returns-3
     add-at-2
     loop-less-2

@@ -5,14 +5,8 @@ use borrow.Author.Needs.{needs}
 use Rattle.luck_format.proofs.date.scan_date.Statement.{statement}
 use Rattle.luck_format.proofs.date.scan_date.Tie as tie
 
-is-table-requires : tie.Need-is-table-requires
-is-table-requires c κs = search needs
-
 returns : tie.Need-returns
 returns c = laws.table (c .before .before .before .before .args .has-options) (c .before .before .before .before .args .text .now) (c .before .before .before .before .args .is-checked) (c .before .before .if1 .taken) (sym (c .before .is-table .ensures) ∙ c .if2 .taken)
-
-scan-conversions-requires : tie.Need-scan-conversions-requires
-scan-conversions-requires c κs = search needs
 
 returns-2 : tie.Need-returns-2
 returns-2 c = c .scan-conversions .ensures ∙ laws.no-table (c .before .before .before .before .before .args .has-options) (c .before .before .before .before .before .args .text .now) (c .before .before .before .before .before .args .is-checked) (c .before .before .before .if1 .taken) (sym (c .before .before .is-table .ensures) ∙ c .before .if2 .left)
@@ -22,4 +16,4 @@ returns-3 c = laws.unchecked (c .before .before .args .has-options) (c .before .
 
 pub scan-date-spec : {M : Type 1} → statement M
 scan-date-spec =
-    tie.close (tie.spec is-table-requires returns scan-conversions-requires returns-2 returns-3)
+    tie.close (tie.spec (λ c κs. search needs) returns (λ c κs. search needs) returns-2 returns-3)

@@ -13,20 +13,8 @@ use Rattle.luck_format.proofs.date.single_width.Tie as tie
 not-everywhere : (c : tie.Else1) → among (c .before .before .before .args .byte) everywhere ≡ false
 not-everywhere c = sym (c .before .contains .ensures) ∙ c .if1 .left
 
-slice-aggregate-contains : tie.Need-slice-aggregate-contains
-slice-aggregate-contains c = search needs
-
-contains-requires : tie.Need-contains-requires
-contains-requires c κs = search needs
-
 returns : tie.Need-returns
 returns c = (laws.single-everywhere _ _ (sym (c .before .contains .ensures) ∙ c .if1 .taken), omega arith)
-
-slice-aggregate-contains-2 : tie.Need-slice-aggregate-contains-2
-slice-aggregate-contains-2 c = search needs
-
-contains-requires-2 : tie.Need-contains-requires-2
-contains-requires-2 c κs = search needs
 
 returns-2 : tie.Need-returns-2
 returns-2 c = (laws.single-with-options _ _ (not-everywhere (c .before .before .before .before)) (c .before .before .before .if2 .taken) (sym (c .before .contains2 .ensures) ∙ c .if3 .taken), omega arith)
@@ -41,11 +29,9 @@ pub single-width-spec : {M : Type 1} → statement M
 single-width-spec =
     tie.close
     (tie.spec
-    slice-aggregate-contains
-    contains-requires
+    (λ c. search needs) (λ c κs. search needs)
     returns
-    slice-aggregate-contains-2
-    contains-requires-2
+    (λ c. search needs) (λ c κs. search needs)
     returns-2
     returns-3
     returns-4)

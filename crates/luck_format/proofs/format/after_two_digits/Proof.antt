@@ -12,9 +12,6 @@ use Rattle.luck_format.proofs.format.after_two_digits.Tie as tie
 inside : (c : tie.After-run) → c .before .before .args .at + c .run .result ≤ length (c .before .before .args .text .now)
 inside c = formats.inside _ _ _ isDigit (c .run .ensures) (omega arith)
 
-run-requires : tie.Need-run-requires
-run-requires c κs = search needs
-
 add-result : tie.Need-add-result
 add-result c = omega (arith, inside (c .before))
 
@@ -28,4 +25,4 @@ returns-2 : tie.Need-returns-2
 returns-2 c = formats.fewer-digits _ _ _ (c .before .run .ensures) (c .if1 .left)
 
 pub after-two-digits-spec : {M : Type 1} → statement M
-after-two-digits-spec = tie.close (tie.spec run-requires add-result returns add-result-2 returns-2)
+after-two-digits-spec = tie.close (tie.spec (λ c κs. search needs) add-result returns add-result-2 returns-2)

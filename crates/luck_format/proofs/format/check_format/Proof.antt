@@ -32,14 +32,8 @@ widened c =
 returns : tie.Need-returns
 returns c = formats.no-modifiers _ _ _ (c .if1 .taken)
 
-flags-run-requires : tie.Need-flags-run-requires
-flags-run-requires c κs = search needs
-
 add-flags : tie.Need-add-flags
 add-flags c = omega (arith, flags-in c)
-
-shared-slice-read-if3 : tie.Need-shared-slice-read-if3
-shared-slice-read-if3 c = search needs
 
 returns-2 : tie.Need-returns-2
 returns-2 c =
@@ -50,20 +44,11 @@ returns-2 c =
 after-two-digits-requires : tie.Need-after-two-digits-requires
 after-two-digits-requires c κs = flags-in (c .before)
 
-shared-slice-read-if5 : tie.Need-shared-slice-read-if5
-shared-slice-read-if5 c = search needs
-
 returns-3 : tie.Need-returns-3
 returns-3 c = formats.dot-stays (widened (c .before .before .before .before)) (formats.no-precision-c _ (c .if6 .taken))
 
 returns-4 : tie.Need-returns-4
 returns-4 c = formats.dot-stays (widened (c .before .before .before .before .before)) (formats.no-precision-p _ (c .if7 .taken))
-
-add-after-two-digits : tie.Need-add-after-two-digits
-add-after-two-digits c = search needs
-
-after-two-digits-requires-2 : tie.Need-after-two-digits-requires-2
-after-two-digits-requires-2 c κs = search needs
 
 returns-5 : tie.Need-returns-5
 returns-5 c =
@@ -81,16 +66,15 @@ check-format-spec =
     tie.close
     (tie.spec
     returns
-    flags-run-requires
+    (λ c κs. search needs)
     add-flags
-    shared-slice-read-if3
+    (λ c. search needs)
     returns-2
     after-two-digits-requires
-    shared-slice-read-if5
+    (λ c. search needs)
     returns-3
     returns-4
-    add-after-two-digits
-    after-two-digits-requires-2
+    (λ c. search needs) (λ c κs. search needs)
     returns-5
     returns-6
     returns-7)

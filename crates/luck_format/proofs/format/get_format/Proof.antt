@@ -12,12 +12,6 @@ use Rattle.luck_format.proofs.format.get_format.Tie as tie
 inside : (c : tie.After-run-in) → c .before .before .before .args .at + c .run-in .result ≤ length (c .before .before .before .args .text .now)
 inside c = formats.inside _ _ _ (λ b. among b (ascii "-+ #0123456789.")) (c .run-in .ensures) (omega arith)
 
-slice-aggregate-run-in : tie.Need-slice-aggregate-run-in
-slice-aggregate-run-in c = search needs
-
-run-in-requires : tie.Need-run-in-requires
-run-in-requires c κs = search needs
-
 returns : tie.Need-returns
 returns c = (formats.long-specifier _ _ _ (c .before .run-in .ensures) (c .if1 .taken), tt)
 
@@ -29,4 +23,4 @@ returns-2 c = (formats.short-specifier _ _ _ (c .before .run-in .ensures) (c .if
 
 pub get-format-spec : {M : Type 1} → statement M
 get-format-spec =
-    tie.close (tie.spec slice-aggregate-run-in run-in-requires returns add-t9 returns-2)
+    tie.close (tie.spec (λ c. search needs) (λ c κs. search needs) returns add-t9 returns-2)

@@ -14,20 +14,8 @@ not-plain c = sym (c .before .contains .ensures) ∙ c .if1 .left
 not-hex : (c : tie.Else2) → among (c .before .before .before .before .before .before .args .conversion) (ascii "aA") ≡ false
 not-hex c = sym (c .before .contains2 .ensures) ∙ c .if2 .left
 
-slice-aggregate-contains : tie.Need-slice-aggregate-contains
-slice-aggregate-contains c = search needs
-
-contains-requires : tie.Need-contains-requires
-contains-requires c κs = search needs
-
 returns : tie.Need-returns
 returns c = formats.plain-conversion _ _ (sym (c .before .contains .ensures) ∙ c .if1 .taken)
-
-slice-aggregate-contains-2 : tie.Need-slice-aggregate-contains-2
-slice-aggregate-contains-2 c = search needs
-
-contains-requires-2 : tie.Need-contains-requires-2
-contains-requires-2 c κs = search needs
 
 returns-2 : tie.Need-returns-2
 returns-2 c = formats.hex-float _ _ (not-plain (c .before .before .before)) (sym (c .before .contains2 .ensures) ∙ c .if2 .taken)
@@ -42,11 +30,9 @@ pub is-conversion-spec : {M : Type 1} → statement M
 is-conversion-spec =
     tie.close
     (tie.spec
-    slice-aggregate-contains
-    contains-requires
+    (λ c. search needs) (λ c κs. search needs)
     returns
-    slice-aggregate-contains-2
-    contains-requires-2
+    (λ c. search needs) (λ c κs. search needs)
     returns-2
     returns-3
     returns-4)

@@ -13,15 +13,6 @@ use Rattle.luck_format.proofs.format.scan_format.Tie as tie
 inside : (c : tie.After-run-in) → c .before .before .before .args .at + c .run-in .result ≤ length (c .before .before .before .args .text .now)
 inside c = formats.inside _ _ _ (λ b. among b (ascii "-+ #0")) (c .run-in .ensures) (omega arith)
 
-slice-aggregate-run-in : tie.Need-slice-aggregate-run-in
-slice-aggregate-run-in c = search needs
-
-run-in-requires : tie.Need-run-in-requires
-run-in-requires c κs = search needs
-
-add-sixth : tie.Need-add-sixth
-add-sixth c = search needs
-
 shared-slice-read-t10 : tie.Need-shared-slice-read-t10
 shared-slice-read-t10 c = omega (arith, inside (c .before .before))
 
@@ -49,9 +40,7 @@ pub scan-format-spec : {M : Type 1} → statement M
 scan-format-spec =
     tie.close
     (tie.spec
-    slice-aggregate-run-in
-    run-in-requires
-    add-sixth
+    (λ c. search needs) (λ c κs. search needs) (λ c. search needs)
     shared-slice-read-t10
     cast-t11
     returns

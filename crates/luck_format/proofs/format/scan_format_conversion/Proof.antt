@@ -17,21 +17,6 @@ returns c =
     let a = c .before .before .args in
     (λ count. formats.cut-off (a .rules) (a .text .now) (a .at) (a .end) count (c .if1 .taken), tt)
 
-shared-slice-read-conversion : tie.Need-shared-slice-read-conversion
-shared-slice-read-conversion c = search needs
-
-is-conversion-requires : tie.Need-is-conversion-requires
-is-conversion-requires c κs = search needs
-
-add-check-format : tie.Need-add-check-format
-add-check-format c = search needs
-
-check-format-requires : tie.Need-check-format-requires
-check-format-requires c κs = search needs
-
-shared-slice-read-t18 : tie.Need-shared-slice-read-t18
-shared-slice-read-t18 c = omega arith
-
 cast-t19 : tie.Need-cast-t19
 cast-t19 c = omega (arith, c .shared-slice-known3 .given (c .before .before .check-format .result))
 
@@ -44,12 +29,6 @@ returns-2 c =
     let f = c .before .before .check-format in
     (λ count. formats.bad-modifier (a .rules) (a .text .now) (a .at) (a .end) count (c .before .before .before .before .before .before .before .if1 .left) (sym (c .before .before .before .before .before .is-conversion .ensures) ∙ c .before .before .before .before .if2 .taken) (f .result) (f .ensures) (c .before .before .before .if3 .taken) (c .before .if4 .taken), tt)
 
-add-t22 : tie.Need-add-t22
-add-t22 c = search needs
-
-sub-t23 : tie.Need-sub-t23
-sub-t23 c = search needs
-
 returns-3 : tie.Need-returns-3
 returns-3 c =
     let a = c .before .before .before .before .before .before .args in
@@ -61,9 +40,6 @@ returns-3 c =
       (omega arith, omega arith),
     )
 
-char-at-requires : tie.Need-char-at-requires
-char-at-requires c κs = search needs
-
 returns-4 : tie.Need-returns-4
 returns-4 c =
     let a = c .before .before .before .before .before .before .args in
@@ -74,16 +50,11 @@ scan-format-conversion-spec =
     tie.close
     (tie.spec
     returns
-    shared-slice-read-conversion
-    is-conversion-requires
-    add-check-format
-    check-format-requires
-    shared-slice-read-t18
+    (λ c. search needs) (λ c κs. search needs) (λ c. search needs) (λ c κs. search needs) (λ c. omega arith)
     cast-t19
     cast-t20
     returns-2
-    add-t22
-    sub-t23
+    (λ c. search needs) (λ c. search needs)
     returns-3
-    char-at-requires
+    (λ c κs. search needs)
     returns-4)

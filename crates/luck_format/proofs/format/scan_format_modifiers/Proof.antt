@@ -7,18 +7,12 @@ use Rattle.luck_format.proofs.format.scan_format_modifiers.Statement.{
 }
 use Rattle.luck_format.proofs.format.scan_format_modifiers.Tie as tie
 
-get-format-requires : tie.Need-get-format-requires
-get-format-requires c κs = search needs
-
 returns : tie.Need-returns
 returns c = (c .get-format .ensures .0 ∙ formats.checked-modifiers (c .before .before .before .args .text .now) (c .before .before .before .args .at) (c .before .before .before .args .is-checked) (c .before .if1 .taken), c .get-format .ensures .1)
-
-scan-format-requires : tie.Need-scan-format-requires
-scan-format-requires c κs = search needs
 
 returns-2 : tie.Need-returns-2
 returns-2 c = (c .scan-format .ensures .0 ∙ formats.unchecked-modifiers (c .before .before .before .args .text .now) (c .before .before .before .args .at) (c .before .before .before .args .is-checked) (c .before .if1 .left), c .scan-format .ensures .1)
 
 pub scan-format-modifiers-spec : {M : Type 1} → statement M
 scan-format-modifiers-spec =
-    tie.close (tie.spec get-format-requires returns scan-format-requires returns-2)
+    tie.close (tie.spec (λ c κs. search needs) returns (λ c κs. search needs) returns-2)

@@ -37,9 +37,6 @@ after c e =
     subst (formats.After (a .rules) (a .text .now) (l .at) (l .count) _) e
     (formats.after (a .rules) (a .text .now) (l .at) (l .count) _ (l .inv .2) (c .before .before .before .loop-test .taken) (c .before .if1 .left) (c .scan-specifier .result) (c .scan-specifier .ensures))
 
-add-count : tie.Need-add-count Inv-loop μ-loop
-add-count c = omega arith
-
 add-at-2 : tie.Need-add-at-2 Inv-loop μ-loop
 add-at-2 c = omega (arith, after (c .before .before .before) (c .before .specifier .given .1))
 
@@ -76,8 +73,7 @@ scan-format-string-spec =
     loop-holds
     (λ c. search needs) (λ c. search needs) (λ c. search needs)
     loop-again
-    (λ c κs. search needs) (λ c. search needs)
-    add-count
+    (λ c κs. search needs) (λ c. search needs) (λ c. omega arith)
     add-at-2
     loop-less-2
     loop-again-2

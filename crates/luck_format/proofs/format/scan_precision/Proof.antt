@@ -12,20 +12,8 @@ use Rattle.luck_format.proofs.format.scan_precision.Tie as tie
 inside : (c : tie.After-run) → c .before .before .args .at + 1 + c .run .result ≤ length (c .before .before .args .text .now)
 inside c = formats.inside _ _ _ isDigit (c .run .ensures) (omega arith)
 
-add-run : tie.Need-add-run
-add-run c = search needs
-
-run-requires : tie.Need-run-requires
-run-requires c κs = search needs
-
-add-t7 : tie.Need-add-t7
-add-t7 c = search needs
-
 returns : tie.Need-returns
 returns c = (formats.long-precision _ _ _ (c .before .run .ensures) (c .if1 .taken), tt)
-
-add-t4 : tie.Need-add-t4
-add-t4 c = search needs
 
 add-t9 : tie.Need-add-t9
 add-t9 c = omega (arith, inside (c .before))
@@ -35,4 +23,4 @@ returns-2 c = (formats.short-precision _ _ _ (c .before .run .ensures) (c .if1 .
 
 pub scan-precision-spec : {M : Type 1} → statement M
 scan-precision-spec =
-    tie.close (tie.spec add-run run-requires add-t7 returns add-t4 add-t9 returns-2)
+    tie.close (tie.spec (λ c. search needs) (λ c κs. search needs) (λ c. search needs) returns (λ c. search needs) add-t9 returns-2)

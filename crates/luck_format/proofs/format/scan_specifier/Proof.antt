@@ -29,16 +29,10 @@ seen : (c : tie.After-scan-format-modifiers) {x : Modifiers} → c .scan-format-
     → formats.ModifiersAt (modifiersAt (c .before .before .before .before .before .before .args .rules .«checked_format_modifiers») (c .before .before .before .before .before .before .args .text .now) (c .before .before .before .before .before .before .args .at + 1)) (c .before .before .before .before .before .before .args .at + 1) (length (c .before .before .before .before .before .before .args .text .now)) x
 seen c e = subst (formats.ModifiersAt _ _ _) e (c .scan-format-modifiers .ensures)
 
-add-next : tie.Need-add-next
-add-next c = search needs
-
 returns : tie.Need-returns
 returns c =
     let a = c .before .before .args in
     (λ count. formats.lone-percent (a .rules) (a .text .now) (a .at) count (c .if1 .taken), tt)
-
-shared-slice-read-byte : tie.Need-shared-slice-read-byte
-shared-slice-read-byte c = search needs
 
 returns-2 : tie.Need-returns-2
 returns-2 c =
@@ -50,17 +44,8 @@ returns-3 c =
     let a = c .before .before .before .before .before .before .args in
     (λ count. formats.star (a .rules) (a .text .now) (a .at) count (c .before .before .before .before .if1 .left) (c .before .before .if2 .left) (c .before .if3 .taken) (c .if4 .taken), (omega arith, omega arith))
 
-scan-format-modifiers-requires : tie.Need-scan-format-modifiers-requires
-scan-format-modifiers-requires c κs = search needs
-
-enum-known-modifiers : tie.Need-enum-known-modifiers
-enum-known-modifiers c = search needs
-
 scan-format-conversion-requires : tie.Need-scan-format-conversion-requires
 scan-format-conversion-requires c κs = let s = seen (c .before .before .before) (c .before .modifiers .given .1) in (omega (arith, s .1 .0), s .1 .1)
-
-enum-known-modifiers-2 : tie.Need-enum-known-modifiers-2
-enum-known-modifiers-2 c = search needs
 
 returns-4 : tie.Need-returns-4
 returns-4 c =
@@ -82,14 +67,13 @@ pub scan-specifier-spec : {M : Type 1} → statement M
 scan-specifier-spec =
     tie.close
     (tie.spec
-    add-next
+    (λ c. search needs)
     returns
-    shared-slice-read-byte
+    (λ c. search needs)
     returns-2
     returns-3
-    scan-format-modifiers-requires
-    enum-known-modifiers
+    (λ c κs. search needs) (λ c. search needs)
     scan-format-conversion-requires
-    enum-known-modifiers-2
+    (λ c. search needs)
     returns-4
     returns-5)

@@ -8,20 +8,11 @@ use borrow.Author.Needs.{needs}
 use Rattle.luck_format.proofs.format.scan_width.Statement.{statement}
 use Rattle.luck_format.proofs.format.scan_width.Tie as tie
 
-run-requires : tie.Need-run-requires
-run-requires c κs = search needs
-
 returns : tie.Need-returns
 returns c = (formats.long-width (c .before .before .before .args .text .now) (c .before .before .before .args .at) (c .before .run .result) (c .before .run .ensures) (c .if1 .taken), tt)
 
 add-end : tie.Need-add-end
 add-end c = omega (arith, formats.inside (c .before .before .before .args .text .now) (c .before .before .before .args .at) (c .before .run .result) isDigit (c .before .run .ensures) (omega arith))
-
-shared-slice-read-if3 : tie.Need-shared-slice-read-if3
-shared-slice-read-if3 c = search needs
-
-scan-precision-requires : tie.Need-scan-precision-requires
-scan-precision-requires c κs = search needs
 
 returns-2 : tie.Need-returns-2
 returns-2 c =
@@ -51,11 +42,10 @@ pub scan-width-spec : {M : Type 1} → statement M
 scan-width-spec =
     tie.close
     (tie.spec
-    run-requires
+    (λ c κs. search needs)
     returns
     add-end
-    shared-slice-read-if3
-    scan-precision-requires
+    (λ c. search needs) (λ c κs. search needs)
     returns-2
     returns-3
     returns-4)

@@ -8,32 +8,11 @@ use borrow.Author.Needs.{needs}
 use Rattle.luck_line.proofs.line.two_digits.Statement.{statement}
 use Rattle.luck_line.proofs.line.two_digits.Tie as tie
 
-is-in-requires : tie.Need-is-in-requires
-is-in-requires c κs = search needs
-
-is-in-requires-2 : tie.Need-is-in-requires-2
-is-in-requires-2 c κs = search needs
-
-digit-requires : tie.Need-digit-requires
-digit-requires c κs = search needs
-
-mul-count : tie.Need-mul-count
-mul-count c = search needs
-
-digit-requires-2 : tie.Need-digit-requires-2
-digit-requires-2 c κs = search needs
-
-add-count : tie.Need-add-count
-add-count c = search needs
-
 returns : tie.Need-returns
 returns c = let a = c .before .before .before .before .before .before .before .args in heads.below-ten (a .tens) (a .units) (sym (c .before .before .before .before .before .before .is-in .ensures) ∙ c .before .before .before .before .before .if1 .taken) (sym (c .before .before .before .before .is-in2 .ensures) ∙ c .before .before .before .if2 .taken) (omega (arith, c .if3 .taken, c .before .digit2 .ensures, c .before .before .digit .ensures))
 
 returns-2 : tie.Need-returns-2
 returns-2 c = let a = c .before .before .before .before .before .before .before .before .args in heads.above-32 (a .tens) (a .units) (sym (c .before .before .before .before .before .before .before .is-in .ensures) ∙ c .before .before .before .before .before .before .if1 .taken) (sym (c .before .before .before .before .before .is-in2 .ensures) ∙ c .before .before .before .before .if2 .taken) (omega (arith, c .before .if3 .left, c .before .before .digit2 .ensures, c .before .before .before .digit .ensures)) (omega (arith, c .if4 .taken, c .before .before .digit2 .ensures, c .before .before .before .digit .ensures))
-
-cast-t12 : tie.Need-cast-t12
-cast-t12 c = search needs
 
 returns-3 : tie.Need-returns-3
 returns-3 c = let a = c .before .before .before .before .before .before .before .before .args in
@@ -50,15 +29,11 @@ pub two-digits-spec : {M : Type 1} → statement M
 two-digits-spec =
     tie.close
     (tie.spec
-    is-in-requires
-    is-in-requires-2
-    digit-requires
-    mul-count
-    digit-requires-2
-    add-count
+    (λ c κs. search needs) (λ c κs. search needs) (λ c κs. search needs) (λ c. search needs) (λ c κs. search needs)
+    (λ c. search needs)
     returns
     returns-2
-    cast-t12
+    (λ c. search needs)
     returns-3
     returns-4
     returns-5)

@@ -10,18 +10,9 @@ returns : tie.Need-returns
 unfolding column if_then_else_
 returns c = rw (lt-ltb (c .before .args .n) (c .before .args .power) (c .if1 .taken))
 
-div-result : tie.Need-div-result
-div-result c = search needs
-
-cast-result : tie.Need-cast-result
-cast-result c = search needs
-
-add-result : tie.Need-add-result
-add-result c = search needs
-
 returns-2 : tie.Need-returns-2
 unfolding column if_then_else_
 returns-2 c = rw (le-ltb (c .before .args .n) (c .before .args .power) (c .if1 .left))
 
 pub column-spec : {M : Type 1} → statement M
-column-spec = tie.close (tie.spec returns div-result cast-result add-result returns-2)
+column-spec = tie.close (tie.spec returns (λ c. search needs) (λ c. search needs) (λ c. search needs) returns-2)

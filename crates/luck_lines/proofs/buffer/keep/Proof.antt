@@ -19,36 +19,15 @@ abbrev μ-loop : tie.MeasureT-loop
 loop-holds : tie.Need-loop-holds Inv-loop μ-loop
 loop-holds c = (omega arith, omega arith, omega arith, refl, refl, refl)
 
-same-length : tie.Need-same-length Inv-loop μ-loop
-same-length c = search needs
-
 returns : tie.Need-returns Inv-loop μ-loop
 returns c = let a = c .before .before .before .args in
     let l = c .before .before .loop in
     buffers.kept (a .buffer .now) (l .buffer) (a .at) (l .to) (l .inv .3) (l .inv .4) (l .inv .5) (a .end) (l .inv .2) (buffers.buffer-ends (a .buffer .now) (a .at) (l .to) (a .end) (l .inv .1) (omega (arith, l .inv .0, l .inv .3, c .if1 .taken)))
 
-slice-read-buffer : tie.Need-slice-read-buffer Inv-loop μ-loop
-slice-read-buffer c = search needs
-
-slice-write-buffer : tie.Need-slice-write-buffer Inv-loop μ-loop
-slice-write-buffer c = search needs
-
-add-from : tie.Need-add-from Inv-loop μ-loop
-add-from c = search needs
-
-add-to : tie.Need-add-to Inv-loop μ-loop
-add-to c = search needs
-
-loop-less : tie.Need-loop-less Inv-loop μ-loop
-loop-less c = search needs
-
 loop-again : tie.Need-loop-again Inv-loop μ-loop
 loop-again c = let a = c .before .before .before .before .args in
     let l = c .before .before .before .loop in
     (omega arith, omega arith, omega arith, length-set (l .buffer) (l .to) _ ∙ l .inv .3, buffers.front-more (a .buffer .now) (l .buffer) (a .at) (l .to) (l .inv .3) (l .inv .4) (l .inv .5) (l .from) (l .inv .0) (c .before .if1 .left), buffers.rest-less (a .buffer .now) (l .buffer) (a .at) (l .to) (l .inv .3) (l .inv .4) (l .inv .5) (l .from) (l .inv .0) (c .before .if1 .left))
-
-same-length-2 : tie.Need-same-length-2 Inv-loop μ-loop
-same-length-2 c = search needs
 
 returns-2 : tie.Need-returns-2 Inv-loop μ-loop
 returns-2 c = let a = c .before .before .args in
@@ -62,13 +41,9 @@ keep-spec =
     Inv-loop
     μ-loop
     loop-holds
-    same-length
+    (λ c. search needs)
     returns
-    slice-read-buffer
-    slice-write-buffer
-    add-from
-    add-to
-    loop-less
+    (λ c. search needs) (λ c. search needs) (λ c. search needs) (λ c. search needs) (λ c. search needs)
     loop-again
-    same-length-2
+    (λ c. search needs)
     returns-2)

@@ -21,26 +21,11 @@ abbrev μ-loop : tie.MeasureT-loop
 loop-holds : tie.Need-loop-holds Inv-loop μ-loop
 loop-holds c = (omega arith, omega arith, refl, refl, streams.starts (c .before .before .args .input .now) (length (c .before .before .args .output .now)) (c .before .before .args .long))
 
-line-end-requires : tie.Need-line-end-requires Inv-loop μ-loop
-line-end-requires c κs = search needs
-
-unended-requires : tie.Need-unended-requires Inv-loop μ-loop
-unended-requires c κs = search needs
-
-same-length : tie.Need-same-length Inv-loop μ-loop
-same-length c = search needs
-
 returns : tie.Need-returns Inv-loop μ-loop
 returns c = let a = c .before .before .before .before .before .before .before .args in
     let l = c .before .before .before .before .loop in
     streams.nothing-ends (a .input .now) (a .output .now) (l .output) (l .used) (l .wrote) (a .long) (l .is-long) (l .inv .0) (l .inv .1) (l .inv .2) (l .inv .3) (l .inv .4) _ (c .unended .ensures)
     (streams.no-newline (a .input .now) (length (a .output .now)) (l .used) (feedState (take (l .wrote) (l .output)) (l .is-long)) (c .before .before .before .loop-test .taken) (sym (c .before .before .line-end .ensures) ∙ c .before .if1 .taken))
-
-sub-if2 : tie.Need-sub-if2 Inv-loop μ-loop
-sub-if2 c = search needs
-
-same-length-2 : tie.Need-same-length-2 Inv-loop μ-loop
-same-length-2 c = search needs
 
 returns-2 : tie.Need-returns-2 Inv-loop μ-loop
 returns-2 c = let a = c .before .before .before .before .before .before .before .args in
@@ -48,35 +33,11 @@ returns-2 c = let a = c .before .before .before .before .before .before .before 
     streams.is-full (a .input .now) (a .output .now) (l .output) (l .used) (l .wrote) (a .long) (l .is-long) (l .inv .0) (l .inv .1) (l .inv .2) (l .inv .3) (l .inv .4)
     (streams.no-room (a .input .now) (length (a .output .now)) (l .used) (take (l .wrote) (l .output)) (l .is-long) (c .before .before .before .loop-test .taken) (λ e. c .before .if1 .left (c .before .before .line-end .ensures ∙ e)) (omega (arith, c .if2 .taken, length-take-le (l .wrote) (l .output) (l .inv .1), l .inv .2)))
 
-sub-put-row : tie.Need-sub-put-row Inv-loop μ-loop
-sub-put-row c = search needs
-
-part-put-row-start : tie.Need-part-put-row-start Inv-loop μ-loop
-part-put-row-start c = search needs
-
 part-put-row-end : tie.Need-part-put-row-end Inv-loop μ-loop
 part-put-row-end c = omega (arith, c .before .before .line-end .ensures, streams.line-inside (c .before .before .before .before .before .before .before .args .input .now) (c .before .before .before .before .loop .used) (c .before .before .before .before .loop .inv .0))
 
-sub-put-row-2 : tie.Need-sub-put-row-2 Inv-loop μ-loop
-sub-put-row-2 c = search needs
-
-part-put-row-start-2 : tie.Need-part-put-row-start-2 Inv-loop μ-loop
-part-put-row-start-2 c = search needs
-
-part-put-row-end-2 : tie.Need-part-put-row-end-2 Inv-loop μ-loop
-part-put-row-end-2 c = search needs
-
-put-row-requires : tie.Need-put-row-requires Inv-loop μ-loop
-put-row-requires c κs = search needs
-
 add-used : tie.Need-add-used Inv-loop μ-loop
 add-used c = omega (arith, c .before .before .before .before .before .before .before .line-end .ensures, streams.line-inside (c .before .before .before .before .before .before .before .before .before .before .before .before .args .input .now) (c .before .before .before .before .before .before .before .before .before .loop .used) (c .before .before .before .before .before .before .before .before .before .loop .inv .0))
-
-add-wrote : tie.Need-add-wrote Inv-loop μ-loop
-add-wrote c = search needs
-
-loop-less : tie.Need-loop-less Inv-loop μ-loop
-loop-less c = search needs
 
 loop-again : tie.Need-loop-again Inv-loop μ-loop
 loop-again c = let a = c .before .before .before .before .before .before .before .before .before .before .before .before .args in
@@ -87,12 +48,6 @@ loop-again c = let a = c .before .before .before .before .before .before .before
     let turn-kept = streams.line-kept (a .input .now) (a .output .now) (l .output) (l .used) (l .wrote) (a .long) (l .is-long) (l .inv .0) (l .inv .1) (l .inv .2) (l .inv .3) (l .inv .4) (end .result) (end .ensures) (c .before .before .before .before .before .before .before .before .loop-test .taken) (c .before .before .before .before .before .before .if1 .left) (omega (arith, c .before .before .before .before .before .if2 .left)) (put .last .1 .1 .0) (put .ensures) in
     let inside = streams.line-inside (a .input .now) (l .used) (l .inv .0) in
     (omega (arith, inside, end .ensures, c .before .before .before .before .before .before .if1 .left), search needs, search needs, turn-kept, turn-on)
-
-unended-requires-2 : tie.Need-unended-requires-2 Inv-loop μ-loop
-unended-requires-2 c κs = search needs
-
-same-length-3 : tie.Need-same-length-3 Inv-loop μ-loop
-same-length-3 c = search needs
 
 returns-3 : tie.Need-returns-3 Inv-loop μ-loop
 returns-3 c = let a = c .before .before .before .before .before .args in
@@ -107,24 +62,15 @@ feed-spec =
     Inv-loop
     μ-loop
     loop-holds
-    line-end-requires
-    unended-requires
-    same-length
+    (λ c κs. search needs) (λ c κs. search needs) (λ c. search needs)
     returns
-    sub-if2
-    same-length-2
+    (λ c. search needs) (λ c. search needs)
     returns-2
-    sub-put-row
-    part-put-row-start
+    (λ c. search needs) (λ c. search needs)
     part-put-row-end
-    sub-put-row-2
-    part-put-row-start-2
-    part-put-row-end-2
-    put-row-requires
+    (λ c. search needs) (λ c. search needs) (λ c. search needs) (λ c κs. search needs)
     add-used
-    add-wrote
-    loop-less
+    (λ c. search needs) (λ c. search needs)
     loop-again
-    unended-requires-2
-    same-length-3
+    (λ c κs. search needs) (λ c. search needs)
     returns-3)

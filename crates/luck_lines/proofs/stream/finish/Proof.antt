@@ -11,12 +11,6 @@ use Rattle.luck_lines.proofs.stream.finish.Tie as tie
 returns : tie.Need-returns
 returns c = let a = c .before .before .before .args in let e = streams.finish-full (a .long) (a .left .now) (length (a .output .now)) (c .if1 .taken) in (sym (ap length e), (sym (ap (λ f. inFront f (a .output .now)) e), omega arith))
 
-put-row-requires : tie.Need-put-row-requires
-put-row-requires c κs = search needs
-
-same-length : tie.Need-same-length
-same-length c = search needs
-
 returns-2 : tie.Need-returns-2
 returns-2 c = let a = c .before .before .before .before .before .before .before .before .args in
     let e = streams.finish-long (a .long) (a .left .now) (length (a .output .now)) (c .before .before .before .before .before .if1 .left) (c .before .before .before .before .if2 .taken) in
@@ -25,12 +19,6 @@ returns-2 c = let a = c .before .before .before .before .before .before .before 
 
 returns-3 : tie.Need-returns-3
 returns-3 c = let a = c .before .before .before .before .before .args in let e = streams.finish-empty (a .long) (a .left .now) (length (a .output .now)) (c .before .before .if1 .left) (c .before .if2 .left) (c .if3 .taken) in (sym (ap length e), (sym (ap (λ f. inFront f (a .output .now)) e), omega arith))
-
-put-row-requires-2 : tie.Need-put-row-requires-2
-put-row-requires-2 c κs = search needs
-
-same-length-2 : tie.Need-same-length-2
-same-length-2 c = search needs
 
 returns-4 : tie.Need-returns-4
 returns-4 c = let a = c .before .before .before .before .before .before .before .before .before .args in
@@ -43,10 +31,8 @@ finish-spec =
     tie.close
     (tie.spec
     returns
-    put-row-requires
-    same-length
+    (λ c κs. search needs) (λ c. search needs)
     returns-2
     returns-3
-    put-row-requires-2
-    same-length-2
+    (λ c κs. search needs) (λ c. search needs)
     returns-4)

@@ -15,25 +15,13 @@ Inv-loop input at end₀ end = (at ≤ end) × (end ≤ length input) × (at + l
 abbrev μ-loop : tie.MeasureT-loop
 μ-loop input at end₀ end = length input - end
 
-blocks-end-requires : tie.Need-blocks-end-requires Inv-loop μ-loop
-blocks-end-requires c κs = search needs
-
 loop-holds : tie.Need-loop-holds Inv-loop μ-loop
 loop-holds c =
     let e = c .blocks-end .ensures in
     (e .0, e .1, streams.blocks-passed (c .before .before .args .input .now) (c .before .before .args .at) (c .blocks-end .result) (e .0) (e .1) (e .2))
 
-shared-slice-read-if1 : tie.Need-shared-slice-read-if1 Inv-loop μ-loop
-shared-slice-read-if1 c = search needs
-
 returns : tie.Need-returns Inv-loop μ-loop
 returns c = omega (arith, c .before .before .before .loop .inv .2, streams.line-ends (c .before .before .before .before .before .before .args .input .now) (c .before .before .before .loop .end) (c .before .before .loop-test .taken) (c .if1 .taken))
-
-add-end : tie.Need-add-end Inv-loop μ-loop
-add-end c = search needs
-
-loop-less : tie.Need-loop-less Inv-loop μ-loop
-loop-less c = search needs
 
 loop-again : tie.Need-loop-again Inv-loop μ-loop
 loop-again c = (omega arith, omega arith, omega (arith, c .before .before .before .loop .inv .2, streams.line-more (c .before .before .before .before .before .before .args .input .now) (c .before .before .before .loop .end) (c .before .before .loop-test .taken) (c .if1 .left)))
@@ -47,11 +35,10 @@ line-end-spec =
     (tie.spec
     Inv-loop
     μ-loop
-    blocks-end-requires
+    (λ c κs. search needs)
     loop-holds
-    shared-slice-read-if1
+    (λ c. search needs)
     returns
-    add-end
-    loop-less
+    (λ c. search needs) (λ c. search needs)
     loop-again
     returns-2)

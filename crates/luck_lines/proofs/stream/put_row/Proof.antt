@@ -4,21 +4,9 @@ use borrow.Author.Needs.{needs}
 use Rattle.luck_lines.proofs.stream.put_row.Statement.{statement}
 use Rattle.luck_lines.proofs.stream.put_row.Tie as tie
 
-row-of-requires : tie.Need-row-of-requires
-row-of-requires c κs = search needs
-
-slice-aggregate-copy : tie.Need-slice-aggregate-copy
-slice-aggregate-copy c = search needs
-
-copy-requires : tie.Need-copy-requires
-copy-requires c κs = search needs
-
-same-length : tie.Need-same-length
-same-length c = search needs
-
 returns : tie.Need-returns
 returns c = let a = c .before .before .before .before .before .before .before .before .args in streams.row-put (c .before .before .before .before .before .row-of .result) _ (a .output .now) _ (c .before .before .before .before .before .row-of .ensures) (streams.rowOf-length (a .long) (a .line .now)) (c .before .before .copy .ensures .1)
 
 pub put-row-spec : {M : Type 1} → statement M
 put-row-spec =
-    tie.close (tie.spec row-of-requires slice-aggregate-copy copy-requires same-length returns)
+    tie.close (tie.spec (λ c κs. search needs) (λ c. search needs) (λ c κs. search needs) (λ c. search needs) returns)

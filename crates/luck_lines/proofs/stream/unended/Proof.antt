@@ -10,9 +10,6 @@ returns : tie.Need-returns
 unfolding if_then_else_
 returns c = rw (c .if1 .taken)
 
-sub-if2 : tie.Need-sub-if2
-sub-if2 c = search needs
-
 returns-2 : tie.Need-returns-2
 unfolding if_then_else_
 returns-2 c = let a = c .before .before .args in rw (c .before .if1 .left, lt-ltb 4005 (a .length - a .used) (c .if2 .taken))
@@ -22,4 +19,4 @@ unfolding if_then_else_
 returns-3 c = let a = c .before .before .args in rw (c .before .if1 .left, le-ltb 4005 (a .length - a .used) (c .if2 .left))
 
 pub unended-spec : {M : Type 1} → statement M
-unended-spec = tie.close (tie.spec returns sub-if2 returns-2 returns-3)
+unended-spec = tie.close (tie.spec returns (λ c. search needs) returns-2 returns-3)

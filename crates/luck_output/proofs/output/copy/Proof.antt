@@ -19,20 +19,8 @@ abbrev μ-loop : tie.MeasureT-loop
 loop-holds : tie.Need-loop-holds Inv-loop μ-loop
 loop-holds c = (omega arith, omega arith, omega arith, part-none (c .args .text .now) (c .args .output .now) (c .args .from) (c .args .at))
 
-shared-slice-read-output : tie.Need-shared-slice-read-output Inv-loop μ-loop
-shared-slice-read-output c = omega arith
-
 slice-write-output : tie.Need-slice-write-output Inv-loop μ-loop
 slice-write-output c = omega (arith, ap length (c .before .before .loop .inv .3), length-sets (c .before .before .before .args .output .now) (c .before .before .before .args .at) (part (c .before .before .before .args .text .now) (c .before .before .before .args .from) (c .before .before .loop .i)))
-
-add-i : tie.Need-add-i Inv-loop μ-loop
-add-i c = search needs
-
-add-end : tie.Need-add-end Inv-loop μ-loop
-add-end c = search needs
-
-loop-less : tie.Need-loop-less Inv-loop μ-loop
-loop-less c = search needs
 
 loop-again : tie.Need-loop-again Inv-loop μ-loop
 loop-again c =
@@ -61,11 +49,9 @@ copy-spec =
     Inv-loop
     μ-loop
     loop-holds
-    shared-slice-read-output
+    (λ c. omega arith)
     slice-write-output
-    add-i
-    add-end
-    loop-less
+    (λ c. search needs) (λ c. search needs) (λ c. search needs)
     loop-again
     same-length
     returns)

@@ -6,12 +6,6 @@ use borrow.Author.Needs.{needs}
 use Rattle.luck_output.proofs.output.put_byte.Statement.{statement}
 use Rattle.luck_output.proofs.output.put_byte.Tie as tie
 
-slice-write-output : tie.Need-slice-write-output
-slice-write-output c = search needs
-
-same-length : tie.Need-same-length
-same-length c = search needs
-
 returns : tie.Need-returns
 returns c = stores-fit (c .before .args .output .now) (c .before .args .at) (c .before .args .value ∷ []) (omega arith)
 
@@ -19,4 +13,4 @@ returns-2 : tie.Need-returns-2
 returns-2 c = stores-none (c .before .args .output .now) (c .before .args .at) (c .before .args .value ∷ []) (omega arith)
 
 pub put-byte-spec : {M : Type 1} → statement M
-put-byte-spec = tie.close (tie.spec slice-write-output same-length returns returns-2)
+put-byte-spec = tie.close (tie.spec (λ c. search needs) (λ c. search needs) returns returns-2)

@@ -6,23 +6,14 @@ use borrow.Author.Needs.{needs}
 use Rattle.luck_output.proofs.output.put_char.Statement.{statement}
 use Rattle.luck_output.proofs.output.put_char.Tie as tie
 
-char-width-requires : tie.Need-char-width-requires
-char-width-requires c κs = search needs
-
 returns : tie.Need-returns
 returns c = (c .before .char-width .ensures, stores-none _ _ _ (omega (arith, c .if1 .taken)))
-
-sub-if2 : tie.Need-sub-if2
-sub-if2 c = search needs
 
 returns-2 : tie.Need-returns-2
 returns-2 c = (c .before .before .char-width .ensures, stores-none _ _ _ (omega (arith, c .before .before .char-width .ensures, c .if2 .taken)))
 
 write-char-requires : tie.Need-write-char-requires
 write-char-requires c κs = (c .before .before .before .before .before .pre, omega (arith, c .before .before .before .char-width .ensures, c .before .if2 .left, c .before .before .if1 .left))
-
-same-length : tie.Need-same-length
-same-length c = search needs
 
 returns-3 : tie.Need-returns-3
 returns-3 c =
@@ -33,10 +24,10 @@ pub put-char-spec : {M : Type 1} → statement M
 put-char-spec =
     tie.close
     (tie.spec
-    char-width-requires
+    (λ c κs. search needs)
     returns
-    sub-if2
+    (λ c. search needs)
     returns-2
     write-char-requires
-    same-length
+    (λ c. search needs)
     returns-3)

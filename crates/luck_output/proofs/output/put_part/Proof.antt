@@ -16,24 +16,12 @@ part-long s = part-length (s .args .text .now) (s .args .from) (s .args .to) (s 
 returns : tie.Need-returns
 returns c = stores-none _ _ _ (omega (arith, c .if1 .taken))
 
-sub-if2 : tie.Need-sub-if2
-sub-if2 c = search needs
-
-sub-if2-2 : tie.Need-sub-if2-2
-sub-if2-2 c = search needs
-
 returns-2 : tie.Need-returns-2
 returns-2 c = stores-none _ _ _ (omega (arith, c .if2 .taken, c .before .if1 .left, part-long (c .before .before .before .before)))
-
-copy-requires : tie.Need-copy-requires
-copy-requires c κs = search needs
-
-same-length : tie.Need-same-length
-same-length c = search needs
 
 returns-3 : tie.Need-returns-3
 returns-3 c = c .before .before .copy .ensures ∙ stores-fit _ _ _ (omega (arith, c .before .before .before .before .if2 .left, c .before .before .before .before .before .if1 .left, part-long (c .before .before .before .before .before .before .before .before)))
 
 pub put-part-spec : {M : Type 1} → statement M
 put-part-spec =
-    tie.close (tie.spec returns sub-if2 sub-if2-2 returns-2 copy-requires same-length returns-3)
+    tie.close (tie.spec returns (λ c. search needs) (λ c. search needs) returns-2 (λ c κs. search needs) (λ c. search needs) returns-3)

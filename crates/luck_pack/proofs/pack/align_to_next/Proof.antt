@@ -18,41 +18,8 @@ use Rattle.luck_pack.proofs.pack.align_to_next.Tie as tie
 read : (c : tie.After-scan-pack-option) {x : Read} → c .scan-pack-option .result ≡ x → ReadAt (c .before .before .args .text .now) (c .before .before .args .at + 1) x
 read c e = subst (ReadAt (c .before .before .args .text .now) (c .before .before .args .at + 1)) e (c .scan-pack-option .ensures)
 
-add-scan-pack-option : tie.Need-add-scan-pack-option
-add-scan-pack-option c = search needs
-
-scan-pack-option-requires : tie.Need-scan-pack-option-requires
-scan-pack-option-requires c κs = search needs
-
-enum-known-next : tie.Need-enum-known-next
-enum-known-next c = search needs
-
-alignment-of-requires : tie.Need-alignment-of-requires
-alignment-of-requires c κs = search needs
-
-enum-known-found : tie.Need-enum-known-found
-enum-known-found c = search needs
-
 add-aligned : tie.Need-add-aligned
 add-aligned c = let i = read (c .before .before .before .before .before .before .before) (c .before .before .before .before .before .next .given .1) in omega arith
-
-aligned-requires : tie.Need-aligned-requires
-aligned-requires c κs = search needs
-
-enum-told : tie.Need-enum-told
-enum-told c = search needs
-
-add-char-at : tie.Need-add-char-at
-add-char-at c = search needs
-
-char-at-requires : tie.Need-char-at-requires
-char-at-requires c κs = search needs
-
-add-t15 : tie.Need-add-t15
-add-t15 c = search needs
-
-enum-known-next-2 : tie.Need-enum-known-next-2
-enum-known-next-2 c = search needs
 
 returns : tie.Need-returns
 returns c =
@@ -89,18 +56,10 @@ pub align-to-next-spec : {M : Type 1} → statement M
 align-to-next-spec =
     tie.close
     (tie.spec
-    add-scan-pack-option
-    scan-pack-option-requires
-    enum-known-next
-    alignment-of-requires
-    enum-known-found
+    (λ c. search needs) (λ c κs. search needs) (λ c. search needs) (λ c κs. search needs) (λ c. search needs)
     add-aligned
-    aligned-requires
-    enum-told
-    add-char-at
-    char-at-requires
-    add-t15
-    enum-known-next-2
+    (λ c κs. search needs) (λ c. search needs) (λ c. search needs) (λ c κs. search needs) (λ c. search needs)
+    (λ c. search needs)
     returns
     returns-2
     returns-3)

@@ -7,14 +7,8 @@ use Rattle.luck_pack.proofs.pack.is_misaligned.Tie as tie
 returns : tie.Need-returns
 returns c = one-byte (c .before .args .size) (c .before .args .alignment) (c .if1 .taken)
 
-is-power-of-two-requires : tie.Need-is-power-of-two-requires
-is-power-of-two-requires c κs = search needs
-
 returns-2 : tie.Need-returns-2
 returns-2 c = by-size (c .before .before .before .args .size) (c .before .before .before .args .alignment) (c .before .before .if1 .left) (c .before .if2 .taken) (c .is-power-of-two .result) (c .is-power-of-two .ensures)
-
-is-power-of-two-requires-2 : tie.Need-is-power-of-two-requires-2
-is-power-of-two-requires-2 c κs = search needs
 
 returns-3 : tie.Need-returns-3
 returns-3 c = by-largest (c .before .before .before .args .size) (c .before .before .before .args .alignment) (c .before .before .if1 .left) (c .before .if2 .left) (c .is-power-of-two2 .result) (c .is-power-of-two2 .ensures)
@@ -22,4 +16,4 @@ returns-3 c = by-largest (c .before .before .before .args .size) (c .before .bef
 pub is-misaligned-spec : {M : Type 1} → statement M
 is-misaligned-spec =
     tie.close
-    (tie.spec returns is-power-of-two-requires returns-2 is-power-of-two-requires-2 returns-3)
+    (tie.spec returns (λ c κs. search needs) returns-2 (λ c κs. search needs) returns-3)

@@ -19,18 +19,6 @@ by-kind s e values =
     ap (λ (o : PackOption). keptTurn (s .args .is-packsize) (s .args .text .now) (s .args .at) (packState values (s .args .alignment)) (keeps o (s .args .width)))
     (sym e)
 
-enum-known-option : tie.Need-enum-known-option
-enum-known-option c = search needs
-
-aligned-requires : tie.Need-aligned-requires
-aligned-requires c κs = search needs
-
-enum-known-option-2 : tie.Need-enum-known-option-2
-enum-known-option-2 c = search needs
-
-variable-length-requires : tie.Need-variable-length-requires
-variable-length-requires c κs = search needs
-
 returns : tie.Need-returns
 unfolding keptTurn
 returns c =
@@ -40,15 +28,6 @@ returns c =
       stays (r .result) _ (s .args .at) (length (s .args .text .now)) (r .ensures),
     )
 
-aligned-requires-2 : tie.Need-aligned-requires-2
-aligned-requires-2 c κs = search needs
-
-enum-told : tie.Need-enum-told
-enum-told c = search needs
-
-variable-length-requires-2 : tie.Need-variable-length-requires-2
-variable-length-requires-2 c κs = search needs
-
 returns-2 : tie.Need-returns-2
 unfolding keptTurn
 returns-2 c =
@@ -57,24 +36,6 @@ returns-2 c =
       λ values. refuses (s .args .is-packsize) (s .args .text .now) (s .args .at) (r .result) (r .ensures) (c .before .if2 .taken) values _ ∙ by-kind s (c .before .before .enum-told .given .1) values,
       stays (r .result) _ (s .args .at) (length (s .args .text .now)) (r .ensures),
     )
-
-enum-told-2 : tie.Need-enum-told-2
-enum-told-2 c = search needs
-
-enum-told-3 : tie.Need-enum-told-3
-enum-told-3 c = search needs
-
-enum-told-4 : tie.Need-enum-told-4
-enum-told-4 c = search needs
-
-align-to-next-requires : tie.Need-align-to-next-requires
-align-to-next-requires c κs = search needs
-
-enum-known-option-3 : tie.Need-enum-known-option-3
-enum-known-option-3 c = search needs
-
-enum-told-5 : tie.Need-enum-told-5
-enum-told-5 c = search needs
 
 returns-3 : tie.Need-returns-3
 unfolding keptTurn
@@ -124,21 +85,12 @@ pub option-turn-spec : {M : Type 1} → statement M
 option-turn-spec =
     tie.close
     (tie.spec
-    enum-known-option
-    aligned-requires
-    enum-known-option-2
-    variable-length-requires
+    (λ c. search needs) (λ c κs. search needs) (λ c. search needs) (λ c κs. search needs)
     returns
-    aligned-requires-2
-    enum-told
-    variable-length-requires-2
+    (λ c κs. search needs) (λ c. search needs) (λ c κs. search needs)
     returns-2
-    enum-told-2
-    enum-told-3
-    enum-told-4
-    align-to-next-requires
-    enum-known-option-3
-    enum-told-5
+    (λ c. search needs) (λ c. search needs) (λ c. search needs) (λ c κs. search needs) (λ c. search needs)
+    (λ c. search needs)
     returns-3
     returns-4
     returns-5

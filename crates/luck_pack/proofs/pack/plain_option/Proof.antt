@@ -5,38 +5,14 @@ use borrow.Author.Needs.{needs}
 use Rattle.luck_pack.proofs.pack.plain_option.Statement.{statement}
 use Rattle.luck_pack.proofs.pack.plain_option.Tie as tie
 
-slice-aggregate-contains : tie.Need-slice-aggregate-contains
-slice-aggregate-contains c = search needs
-
-contains-requires : tie.Need-contains-requires
-contains-requires c κs = search needs
-
 returns : tie.Need-returns
 returns c = byte-sized _ (sym (c .before .contains .ensures) ∙ c .if1 .taken)
-
-slice-aggregate-contains-2 : tie.Need-slice-aggregate-contains-2
-slice-aggregate-contains-2 c = search needs
-
-contains-requires-2 : tie.Need-contains-requires-2
-contains-requires-2 c κs = search needs
 
 returns-2 : tie.Need-returns-2
 returns-2 c = short-sized _ (sym (c .before .contains2 .ensures) ∙ c .if2 .taken)
 
-slice-aggregate-contains-3 : tie.Need-slice-aggregate-contains-3
-slice-aggregate-contains-3 c = search needs
-
-contains-requires-3 : tie.Need-contains-requires-3
-contains-requires-3 c κs = search needs
-
 returns-3 : tie.Need-returns-3
 returns-3 c = int-sized _ (sym (c .before .contains3 .ensures) ∙ c .if3 .taken)
-
-slice-aggregate-contains-4 : tie.Need-slice-aggregate-contains-4
-slice-aggregate-contains-4 c = search needs
-
-contains-requires-4 : tie.Need-contains-requires-4
-contains-requires-4 c κs = search needs
 
 returns-4 : tie.Need-returns-4
 returns-4 c = double-sized _ (sym (c .before .contains4 .ensures) ∙ c .if4 .taken)
@@ -50,12 +26,6 @@ returns-6 c = padding _ (c .if6 .taken)
 returns-7 : tie.Need-returns-7
 returns-7 c = aligning _ (c .if7 .taken)
 
-slice-aggregate-contains-5 : tie.Need-slice-aggregate-contains-5
-slice-aggregate-contains-5 c = search needs
-
-contains-requires-5 : tie.Need-contains-requires-5
-contains-requires-5 c κs = search needs
-
 returns-8 : tie.Need-returns-8
 returns-8 c = control _ (sym (c .before .contains5 .ensures) ∙ c .if8 .taken)
 
@@ -66,22 +36,17 @@ pub plain-option-spec : {M : Type 1} → statement M
 plain-option-spec =
     tie.close
     (tie.spec
-    slice-aggregate-contains
-    contains-requires
+    (λ c. search needs) (λ c κs. search needs)
     returns
-    slice-aggregate-contains-2
-    contains-requires-2
+    (λ c. search needs) (λ c κs. search needs)
     returns-2
-    slice-aggregate-contains-3
-    contains-requires-3
+    (λ c. search needs) (λ c κs. search needs)
     returns-3
-    slice-aggregate-contains-4
-    contains-requires-4
+    (λ c. search needs) (λ c κs. search needs)
     returns-4
     returns-5
     returns-6
     returns-7
-    slice-aggregate-contains-5
-    contains-requires-5
+    (λ c. search needs) (λ c κs. search needs)
     returns-8
     returns-9)

@@ -13,9 +13,6 @@ use Rattle.luck_pack.proofs.pack.scan_fixed_string.Tie as tie
 inside : (c : tie.After-run) → c .before .before .args .at + c .run .result ≤ length (c .before .before .args .text .now)
 inside c = omega (arith, c .run .ensures, run-inside isDigit (c .before .before .args .text .now) (c .before .before .args .at) (omega arith))
 
-run-requires : tie.Need-run-requires
-run-requires c κs = search needs
-
 returns : tie.Need-returns
 returns c = (no-fixed-size _ _ _ (c .before .run .ensures) (c .if1 .taken), tt)
 
@@ -26,4 +23,4 @@ returns-2 : tie.Need-returns-2
 returns-2 c = (fixed-size _ _ _ (c .before .run .ensures) (c .if1 .left), (omega arith, omega (arith, inside (c .before))))
 
 pub scan-fixed-string-spec : {M : Type 1} → statement M
-scan-fixed-string-spec = tie.close (tie.spec run-requires returns add-t8 returns-2)
+scan-fixed-string-spec = tie.close (tie.spec (λ c κs. search needs) returns add-t8 returns-2)

@@ -13,17 +13,11 @@ use Rattle.luck_pack.proofs.pack.scan_limited_size.Tie as tie
 inside : (c : tie.After-run) → c .before .before .args .at + c .run .result ≤ length (c .before .before .args .text .now)
 inside c = omega (arith, c .run .ensures, run-inside isDigit (c .before .before .args .text .now) (c .before .before .args .at) (omega arith))
 
-run-requires : tie.Need-run-requires
-run-requires c κs = search needs
-
 returns : tie.Need-returns
 returns c = (λ letter make makes. default-size letter make _ makes _ _ _ (c .before .run .ensures) (c .if1 .taken), (omega arith, omega arith))
 
 add-numeral : tie.Need-add-numeral
 add-numeral c = omega (arith, inside (c .before))
-
-numeral-requires : tie.Need-numeral-requires
-numeral-requires c κs = search needs
 
 returns-2 : tie.Need-returns-2
 returns-2 c = (λ letter make makes. size-too-small letter make _ makes _ _ _ (c .before .before .before .run .ensures) (c .before .before .if1 .left) _ (c .before .numeral .ensures) (omega arith), tt)
@@ -44,10 +38,10 @@ pub scan-limited-size-spec : {M : Type 1} → statement M
 scan-limited-size-spec =
     tie.close
     (tie.spec
-    run-requires
+    (λ c κs. search needs)
     returns
     add-numeral
-    numeral-requires
+    (λ c κs. search needs)
     returns-2
     returns-3
     add-t8

@@ -25,17 +25,8 @@ turns s e values =
     ap (keptTurn (a .is-packsize) (a .text .now) (a .at) (packState values (a .alignment))) e
     ∙ kept-turn (a .is-packsize) (a .text .now) (a .at) (packState values (a .alignment)) (getoption (a .text .now) (a .at))
 
-scan-pack-option-requires : tie.Need-scan-pack-option-requires
-scan-pack-option-requires c κs = search needs
-
-enum-known-read : tie.Need-enum-known-read
-enum-known-read c = search needs
-
 option-turn-requires : tie.Need-option-turn-requires
 option-turn-requires c κs = let i = read (c .before .before .before) (c .before .read .given .1) .1 in (omega arith, i .0, i .1)
-
-enum-known-read-2 : tie.Need-enum-known-read-2
-enum-known-read-2 c = search needs
 
 returns : tie.Need-returns
 returns c = (λ values. c .option-turn .ensures .0 values ∙ turns (c .before .before .before .before .before .before) (read (c .before .before .before .before) (c .before .before .read .given .1) .0) values, c .option-turn .ensures .1)
@@ -48,9 +39,8 @@ pub scan-option-spec : {M : Type 1} → statement M
 scan-option-spec =
     tie.close
     (tie.spec
-    scan-pack-option-requires
-    enum-known-read
+    (λ c κs. search needs) (λ c. search needs)
     option-turn-requires
-    enum-known-read-2
+    (λ c. search needs)
     returns
     returns-2)

@@ -31,9 +31,6 @@ afterwards c e =
 loop-holds : tie.Need-loop-holds Inv-loop μ-loop
 loop-holds c = (omega arith, omega arith, start (c .before .args .is-packsize) (c .before .args .text .now))
 
-add-values : tie.Need-add-values Inv-loop μ-loop
-add-values c = omega arith
-
 add-at : tie.Need-add-at Inv-loop μ-loop
 add-at c = let on = afterwards (c .before .before .before .before) (c .before .before .turn .given .1) in omega arith
 
@@ -68,8 +65,7 @@ scan-pack-format-spec =
     Inv-loop
     μ-loop
     loop-holds
-    (λ c κs. search needs) (λ c. search needs)
-    add-values
+    (λ c κs. search needs) (λ c. search needs) (λ c. omega arith)
     add-at
     loop-less
     loop-again

@@ -10,21 +10,6 @@ use Rattle.luck_pack.proofs.pack.scan_pack_option.Tie as tie
 returns : tie.Need-returns
 returns c = (no-option (c .before .before .args .text .now) (c .before .before .args .at) (c .if1 .taken), tt)
 
-shared-slice-read-plain-option : tie.Need-shared-slice-read-plain-option
-shared-slice-read-plain-option c = search needs
-
-plain-option-requires : tie.Need-plain-option-requires
-plain-option-requires c κs = search needs
-
-enum-known-plain : tie.Need-enum-known-plain
-enum-known-plain c = search needs
-
-enum-told : tie.Need-enum-told
-enum-told c = search needs
-
-scan-sized-option-requires : tie.Need-scan-sized-option-requires
-scan-sized-option-requires c κs = search needs
-
 returns-2 : tie.Need-returns-2
 returns-2 c = (plain-read (c .before .before .before .before .before .before .before .args .text .now) (c .before .before .before .before .before .before .before .args .at) (c .before .before .before .before .before .if1 .left) (c .before .plain .given .0 .0) (ap plainRead (sym (c .before .plain .given .1)) ∙ c .before .before .before .plain-option .ensures), (omega arith, omega arith))
 
@@ -36,10 +21,6 @@ scan-pack-option-spec =
     tie.close
     (tie.spec
     returns
-    shared-slice-read-plain-option
-    plain-option-requires
-    enum-known-plain
-    enum-told
-    scan-sized-option-requires
+    (λ c. search needs) (λ c κs. search needs) (λ c. search needs) (λ c. search needs) (λ c κs. search needs)
     returns-2
     returns-3)

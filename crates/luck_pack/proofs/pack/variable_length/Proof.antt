@@ -7,11 +7,8 @@ use borrow.Author.Needs.{needs}
 use Rattle.luck_pack.proofs.pack.variable_length.Statement.{statement}
 use Rattle.luck_pack.proofs.pack.variable_length.Tie as tie
 
-char-at-requires : tie.Need-char-at-requires
-char-at-requires c κs = search needs
-
 returns : tie.Need-returns
 returns c = ap (λ (x : Char). Fault (VariableLengthPackOption (c .before .before .args .at) (x .code))) (c .char-at .ensures)
 
 pub variable-length-spec : {M : Type 1} → statement M
-variable-length-spec = tie.close (tie.spec char-at-requires returns)
+variable-length-spec = tie.close (tie.spec (λ c κs. search needs) returns)

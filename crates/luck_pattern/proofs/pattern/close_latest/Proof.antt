@@ -17,9 +17,6 @@ returns c = (sym (flags-none _ _ (no-top _ (c .before .fits .word .fits) (c .if1
 sub-t5 : tie.Need-sub-t5
 sub-t5 c = top _ (c .before .fits .word .fits) (c .if1 .left) .zeros
 
-shl-t6 : tie.Need-shl-t6
-shl-t6 c = search needs
-
 sub-t7 : tie.Need-sub-t7
 sub-t7 c =
     let t = top _ (c .before .fits .word .fits) (c .if1 .left) in
@@ -31,4 +28,4 @@ returns-2 c =
     (rw (bit _ (below (c .before .args .word))) (sym (flags-close _ _ _ (c .before .pre) (t .low) (t .high))), omega arith)
 
 pub close-latest-spec : {M : Type 1} → statement M
-close-latest-spec = tie.close (tie.spec returns sub-t5 shl-t6 sub-t7 returns-2)
+close-latest-spec = tie.close (tie.spec returns sub-t5 (λ c. search needs) sub-t7 returns-2)

@@ -9,15 +9,6 @@ use Rattle.luck_pattern.specs.Reading.{firstMember}
 use Rattle.luck_pattern.proofs.pattern.first_member.Statement.{statement}
 use Rattle.luck_pattern.proofs.pattern.first_member.Tie as tie
 
-add-next : tie.Need-add-next
-add-next c = search needs
-
-shared-slice-read-if2 : tie.Need-shared-slice-read-if2
-shared-slice-read-if2 c = search needs
-
-add-result : tie.Need-add-result
-add-result c = search needs
-
 returns : tie.Need-returns
 unfolding firstMember if_then_else_
 returns c = (rw (eq-eqb _ _ (c .if2 .taken)) (omega arith), omega arith, omega arith)
@@ -31,4 +22,4 @@ unfolding firstMember if_then_else_
 returns-3 c = (rw (List·getD-eq-default {A = ℕ} _ 0 (c .if1 .left)), omega arith, omega arith)
 
 pub first-member-spec : {M : Type 1} → statement M
-first-member-spec = tie.close (tie.spec add-next shared-slice-read-if2 add-result returns returns-2 returns-3)
+first-member-spec = tie.close (tie.spec (λ c. search needs) (λ c. search needs) (λ c. search needs) returns returns-2 returns-3)

@@ -28,12 +28,6 @@ returns-2 c =
     let len : length (flagsOfWord (a .count) (a .word)) ≡ a .count = flags-length (a .count) (a .word) in
     rw (List·getD-eq-default {A = Bool} (flagsOfWord (a .count) (a .word)) false {n = a .digit - 1} (omega arith)) (sym (second-false (ltb 0 (a .digit)) false refl))
 
-sub-result : tie.Need-sub-result
-sub-result c = search needs
-
-shr-result : tie.Need-shr-result
-shr-result c = search needs
-
 returns-3 : tie.Need-returns-3
 unfolding isClosed
 returns-3 c =
@@ -42,4 +36,4 @@ returns-3 c =
     rw (lt-ltb 0 (a .digit) pos, flags-at (a .count) (a .word) (a .digit - 1) (omega arith))
 
 pub is-closed-spec : {M : Type 1} → statement M
-is-closed-spec = tie.close (tie.spec returns returns-2 sub-result shr-result returns-3)
+is-closed-spec = tie.close (tie.spec returns returns-2 (λ c. search needs) (λ c. search needs) returns-3)

@@ -10,9 +10,6 @@ use borrow.Author.Needs.{needs}
 use Rattle.luck_pattern.proofs.pattern.opened.Statement.{statement}
 use Rattle.luck_pattern.proofs.pattern.opened.Tie as tie
 
-shl-result : tie.Need-shl-result
-shl-result c = search needs
-
 add-result : tie.Need-add-result
 add-result c =
     let p : 2 ^ (c .args .count) ≤ 2 ^ 31 = pow-mono {i = c .args .count} {j = 31} (omega arith) in
@@ -24,4 +21,4 @@ returns c =
     (rw (bit (c .args .count) (c .pre .0), add-one) (omega arith), rw (bit (c .args .count) (c .pre .0), add-one) (flags-open (c .args .count) (c .args .word) (c .pre .1)))
 
 pub opened-spec : {M : Type 1} → statement M
-opened-spec = tie.close (tie.spec shl-result add-result returns)
+opened-spec = tie.close (tie.spec (λ c. search needs) add-result returns)

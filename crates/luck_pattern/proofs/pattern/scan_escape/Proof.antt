@@ -22,39 +22,15 @@ use borrow.Author.Needs.{needs}
 use Rattle.luck_pattern.proofs.pattern.scan_escape.Statement.{statement}
 use Rattle.luck_pattern.proofs.pattern.scan_escape.Tie as tie
 
-sub-if1 : tie.Need-sub-if1
-sub-if1 c = search needs
-
 returns : tie.Need-returns
 returns c =
     let a = c .before .before .args in
     (escape-end false (a .text .now) (a .start) (flagsOfWord (a .count) (a .word)) (c .if1 .taken), tt)
 
-add-escape-at : tie.Need-add-escape-at
-add-escape-at c = search needs
-
-shared-slice-read-escape : tie.Need-shared-slice-read-escape
-shared-slice-read-escape c = search needs
-
-add-next : tie.Need-add-next
-add-next c = search needs
-
-sub-if2 : tie.Need-sub-if2
-sub-if2 c = search needs
-
 returns-2 : tie.Need-returns-2
 returns-2 c =
     let a = c .before .before .before .before .before .args in
     (escape-balance-cut false (a .text .now) (a .start) (flagsOfWord (a .count) (a .word)) (c .before .before .before .before .before .pre .0) (c .before .before .before .if1 .left) (c .before .match .keys1) (omega arith), tt)
-
-add-t15 : tie.Need-add-t15
-add-t15 c = search needs
-
-shared-slice-read-if4 : tie.Need-shared-slice-read-if4
-shared-slice-read-if4 c = search needs
-
-scan-set-requires : tie.Need-scan-set-requires
-scan-set-requires c κs = search needs
 
 returns-3 : tie.Need-returns-3
 returns-3 c =
@@ -63,12 +39,6 @@ returns-3 c =
       set .ensures .0 ∙ escape-frontier false (a .text .now) (a .start) (flagsOfWord (a .count) (a .word)) (c .before .before .before .before .before .before .before .before .pre .0) (c .before .before .before .before .before .before .if1 .left) (c .before .before .before .before .match .keys2) (c .before .if4 .taken),
       within-from (set .result) (a .start) (a .start + 2) (length (a .text .now)) (omega arith) (set .ensures .1),
     )
-
-cast-is-closed : tie.Need-cast-is-closed
-cast-is-closed c = search needs
-
-is-closed-requires : tie.Need-is-closed-requires
-is-closed-requires c κs = search needs
 
 returns-4 : tie.Need-returns-4
 returns-4 c =
@@ -109,19 +79,13 @@ pub scan-escape-spec : {M : Type 1} → statement M
 scan-escape-spec =
     tie.close
     (tie.spec
-    sub-if1
+    (λ c. search needs)
     returns
-    add-escape-at
-    shared-slice-read-escape
-    add-next
-    sub-if2
+    (λ c. search needs) (λ c. search needs) (λ c. search needs) (λ c. search needs)
     returns-2
-    add-t15
-    shared-slice-read-if4
-    scan-set-requires
+    (λ c. search needs) (λ c. search needs) (λ c κs. search needs)
     returns-3
-    cast-is-closed
-    is-closed-requires
+    (λ c. search needs) (λ c κs. search needs)
     returns-4
     returns-5
     returns-6

@@ -104,9 +104,6 @@ returns-3 c =
     let count = flags-length (l .count) (l .word) in
     turn-full false (c .before .before .before .before .before .before .args .text .now) (l .at) (flagsOfWord (l .count) (l .word)) (c .before .before .before .loop-test .taken) (l .inv .3) (c .before .match .keys3) (omega arith)
 
-loop-less-3 : tie.Need-loop-less-3 Inv-loop μ-loop
-loop-less-3 c = omega arith
-
 loop-again-3 : tie.Need-loop-again-3 Inv-loop μ-loop
 loop-again-3 c =
     let l = c .before .before .before .before .before .loop in
@@ -118,9 +115,6 @@ loop-again-3 c =
       ap (items false text (l .at + 1)) (c .opened .ensures .1)
           ∙ turn-open false text (l .at) (flagsOfWord (l .count) (l .word)) (c .before .before .before .before .loop-test .taken) (l .inv .3) (c .before .before .match .keys3) (omega arith),
     )
-
-loop-less-4 : tie.Need-loop-less-4 Inv-loop μ-loop
-loop-less-4 c = omega arith
 
 loop-again-4 : tie.Need-loop-again-4 Inv-loop μ-loop
 loop-again-4 c =
@@ -139,9 +133,6 @@ returns-4 c =
     let l = c .before .before .before .before .before .before .loop in
     turn-unmatched false (c .before .before .before .before .before .before .before .before .args .text .now) (l .at) (flagsOfWord (l .count) (l .word)) (c .before .before .before .before .before .loop-test .taken) (l .inv .3) (c .before .before .before .match .keys4)
     (sym (ap (closedOf (l .count)) (c .enum-told .given .1)) ∙ c .before .before .close-latest .ensures .0)
-
-loop-less-5 : tie.Need-loop-less-5 Inv-loop μ-loop
-loop-less-5 c = omega arith
 
 loop-again-5 : tie.Need-loop-again-5 Inv-loop μ-loop
 loop-again-5 c =
@@ -183,16 +174,13 @@ scan-pattern-spec =
     (λ c. search needs)
     returns-2
     returns-3
-    (λ c κs. search needs) (λ c. search needs) (λ c. search needs)
-    loop-less-3
+    (λ c κs. search needs) (λ c. search needs) (λ c. search needs) (λ c. omega arith)
     loop-again-3
-    (λ c κs. search needs) (λ c. search needs) (λ c. search needs)
-    loop-less-4
+    (λ c κs. search needs) (λ c. search needs) (λ c. search needs) (λ c. omega arith)
     loop-again-4
     (λ c. search needs)
     returns-4
-    (λ c. search needs)
-    loop-less-5
+    (λ c. search needs) (λ c. omega arith)
     loop-again-5
     (λ c κs. search needs) (λ c. search needs)
     returns-5

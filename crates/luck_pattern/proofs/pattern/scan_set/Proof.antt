@@ -61,9 +61,6 @@ returns-2 c =
     let a = c .before .before .before .before .before .args in
     (set-unclosed (a .text .now) (a .start) (c .before .before .before .first-member .result) (l .at) (l .inv .4) false (l .inv .3) (c .if3 .taken), tt)
 
-members-less : tie.Need-members-less Inv-members μ-members
-members-less c = omega arith
-
 members-again : tie.Need-members-again Inv-members μ-members
 members-again c =
     let l = c .before .before .before .before .members in
@@ -81,9 +78,6 @@ returns-3 c =
     let a = c .before .before .before .before .before .before .before .before .args in
     (set-cut (a .text .now) (a .start) (c .before .before .before .before .before .before .first-member .result) (l .at) (l .inv .4) (c .before .before .before .if3 .left) false (c .before .match .keys2) (c .if5 .taken), tt)
 
-members-less-2 : tie.Need-members-less-2 Inv-members μ-members
-members-less-2 c = omega arith
-
 members-again-2 : tie.Need-members-again-2 Inv-members μ-members
 members-again-2 c =
     let l = c .before .before .before .before .members in
@@ -94,9 +88,6 @@ members-again-2 c =
       l .inv .3,
       set-escaped (a .text .now) (a .start) (c .before .before .before .before .before .before .first-member .result) (l .at) (l .inv .4) (c .before .before .before .if3 .left) (l .inv .0) (c .before .match .keys2) (c .if5 .left),
     )
-
-members-less-3 : tie.Need-members-less-3 Inv-members μ-members
-members-less-3 c = omega arith
 
 members-again-3 : tie.Need-members-again-3 Inv-members μ-members
 members-again-3 c =
@@ -125,15 +116,12 @@ scan-set-spec =
     returns
     members-holds
     returns-2
-    (λ c. search needs) (λ c. search needs) (λ c. search needs)
-    members-less
+    (λ c. search needs) (λ c. search needs) (λ c. search needs) (λ c. omega arith)
     members-again
     (λ c. search needs)
     returns-3
-    (λ c. search needs)
-    members-less-2
+    (λ c. search needs) (λ c. omega arith)
     members-again-2
-    (λ c. search needs)
-    members-less-3
+    (λ c. search needs) (λ c. omega arith)
     members-again-3
     returns-4)

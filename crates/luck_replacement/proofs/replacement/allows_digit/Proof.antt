@@ -8,15 +8,9 @@ use borrow.Author.Needs.{needs}
 use Rattle.luck_replacement.proofs.replacement.allows_digit.Statement.{statement}
 use Rattle.luck_replacement.proofs.replacement.allows_digit.Tie as tie
 
-enum-known-captures : tie.Need-enum-known-captures
-enum-known-captures c = search needs
-
 returns : tie.Need-returns
 unfolding allowsDigit
 returns c = let e : max (c .before .before .captures .given .0 .0) 1 ≡ 1 = omega arith in ap (leb (c .before .before .before .before .args .digit)) (sym e) ∙ ap (λ k. allowsDigit (countOf k) (c .before .before .before .before .args .digit)) (sym (c .before .before .captures .given .1))
-
-enum-told : tie.Need-enum-told
-enum-told c = search needs
 
 returns-2 : tie.Need-returns-2
 unfolding allowsDigit
@@ -27,4 +21,4 @@ unfolding allowsDigit
 returns-3 c = ap (λ k. allowsDigit (countOf k) (c .before .before .args .digit)) (sym (c .enum-told .given .1))
 
 pub allows-digit-spec : {M : Type 1} → statement M
-allows-digit-spec = tie.close (tie.spec enum-known-captures returns enum-told returns-2 returns-3)
+allows-digit-spec = tie.close (tie.spec (λ c. search needs) returns (λ c. search needs) returns-2 returns-3)

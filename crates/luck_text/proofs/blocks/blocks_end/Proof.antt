@@ -20,32 +20,8 @@ abbrev μ-loop : tie.MeasureT-loop
 loop-holds : tie.Need-loop-holds Inv-loop μ-loop
 loop-holds c = (omega arith, omega arith, λ k l m. absurd (omega arith))
 
-sub-loop : tie.Need-sub-loop Inv-loop μ-loop
-sub-loop c = search needs
-
-add-has-either : tie.Need-add-has-either Inv-loop μ-loop
-add-has-either c = search needs
-
-sub-has-either : tie.Need-sub-has-either Inv-loop μ-loop
-sub-has-either c = search needs
-
-part-has-either-start : tie.Need-part-has-either-start Inv-loop μ-loop
-part-has-either-start c = search needs
-
-part-has-either-end : tie.Need-part-has-either-end Inv-loop μ-loop
-part-has-either-end c = search needs
-
-has-either-requires : tie.Need-has-either-requires Inv-loop μ-loop
-has-either-requires c κs = search needs
-
 returns : tie.Need-returns Inv-loop μ-loop
 returns c = c .before .before .before .before .loop .inv
-
-add-end : tie.Need-add-end Inv-loop μ-loop
-add-end c = search needs
-
-loop-less : tie.Need-loop-less Inv-loop μ-loop
-loop-less c = search needs
 
 loop-again : tie.Need-loop-again Inv-loop μ-loop
 loop-again c =
@@ -65,14 +41,9 @@ blocks-end-spec =
     Inv-loop
     μ-loop
     loop-holds
-    sub-loop
-    add-has-either
-    sub-has-either
-    part-has-either-start
-    part-has-either-end
-    has-either-requires
+    (λ c. search needs) (λ c. search needs) (λ c. search needs) (λ c. search needs) (λ c. search needs)
+    (λ c κs. search needs)
     returns
-    add-end
-    loop-less
+    (λ c. search needs) (λ c. search needs)
     loop-again
     returns-2)

@@ -7,9 +7,6 @@ use borrow.Author.Needs.{needs}
 use Rattle.luck_text.proofs.blocks.has_either.Statement.{statement}
 use Rattle.luck_text.proofs.blocks.has_either.Tie as tie
 
-has-byte-requires : tie.Need-has-byte-requires
-has-byte-requires c κs = search needs
-
 returns : tie.Need-returns
 returns c = λ e k l. absurd (true≢false e)
 
@@ -20,9 +17,6 @@ returns-2 c =
     let no = c .before .before .has-byte .ensures (c .before .if1 .left) k l in
     neither-of (a .a) (a .b) (byteAt (a .block .now) k) no (λ is. no (is ∙ sym (c .if2 .taken)))
 
-has-byte-requires-2 : tie.Need-has-byte-requires-2
-has-byte-requires-2 c κs = search needs
-
 returns-3 : tie.Need-returns-3
 returns-3 c =
     let a = c .before .before .before .before .before .args in
@@ -30,4 +24,4 @@ returns-3 c =
     neither-of (a .a) (a .b) (byteAt (a .block .now) k) (c .before .before .before .has-byte .ensures (c .before .before .if1 .left) k l) (c .has-byte2 .ensures e k l)
 
 pub has-either-spec : {M : Type 1} → statement M
-has-either-spec = tie.close (tie.spec has-byte-requires returns returns-2 has-byte-requires-2 returns-3)
+has-either-spec = tie.close (tie.spec (λ c κs. search needs) returns returns-2 (λ c κs. search needs) returns-3)

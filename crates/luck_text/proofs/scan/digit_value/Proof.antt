@@ -8,26 +8,17 @@ use Rattle.luck_text.proofs.scan.digit_value.Tie as tie
 returns : tie.Need-returns
 returns c = digit-none (c .before .args .byte) (omega arith)
 
-sub-result : tie.Need-sub-result
-sub-result c = search needs
-
 returns-2 : tie.Need-returns-2
 returns-2 c = digit-decimal (c .before .before .args .byte) (omega arith) (omega arith)
 
 returns-3 : tie.Need-returns-3
 returns-3 c = digit-between (c .before .before .before .args .byte) (omega arith) (omega arith)
 
-sub-result-2 : tie.Need-sub-result-2
-sub-result-2 c = search needs
-
 returns-4 : tie.Need-returns-4
 returns-4 c = digit-capital (c .before .before .before .before .args .byte) (omega arith) (omega arith)
 
 returns-5 : tie.Need-returns-5
 returns-5 c = digit-above (c .before .before .before .before .before .args .byte) (omega arith) (omega arith)
-
-sub-result-3 : tie.Need-sub-result-3
-sub-result-3 c = search needs
 
 returns-6 : tie.Need-returns-6
 returns-6 c = digit-small-letter (c .before .before .before .before .before .args .byte) (omega arith)
@@ -37,11 +28,11 @@ digit-value-spec =
     tie.close
     (tie.spec
     returns
-    sub-result
+    (λ c. search needs)
     returns-2
     returns-3
-    sub-result-2
+    (λ c. search needs)
     returns-4
     returns-5
-    sub-result-3
+    (λ c. search needs)
     returns-6)

@@ -28,17 +28,8 @@ returns c =
     let l = c .before .before .loop in
     l .inv .1 ∙ ap (λ (n : ℕ). min n most) (sym (bytes.digit-end (c .before .before .before .before .args .base) (c .before .before .before .before .args .text .now) (c .before .before .before .before .args .to) (l .inv .0) (l .at) (inr (c .if1 .taken))) ∙ l .inv .2)
 
-shared-slice-read-with-digit : tie.Need-shared-slice-read-with-digit Inv-loop μ-loop
-shared-slice-read-with-digit c = search needs
-
 with-digit-requires : tie.Need-with-digit-requires Inv-loop μ-loop
 with-digit-requires c κs = omega (arith, c .before .before .before .loop .inv .1)
-
-add-at : tie.Need-add-at Inv-loop μ-loop
-add-at c = search needs
-
-loop-less : tie.Need-loop-less Inv-loop μ-loop
-loop-less c = search needs
 
 loop-again : tie.Need-loop-again Inv-loop μ-loop
 loop-again c =
@@ -67,10 +58,9 @@ numeral-spec =
     loop-holds
     cast-result
     returns
-    shared-slice-read-with-digit
+    (λ c. search needs)
     with-digit-requires
-    add-at
-    loop-less
+    (λ c. search needs) (λ c. search needs)
     loop-again
     cast-result-2
     returns-2)

@@ -14,9 +14,6 @@ product value base h b = let l : base ≤ 0xFFFF_FFFF = omega arith in mul-le-mu
 mul-larger : tie.Need-mul-larger
 mul-larger c = omega (arith, product (c .args .value) (c .args .base) (c .pre) (c .fits .base .fits))
 
-digit-value-requires : tie.Need-digit-value-requires
-digit-value-requires c κs = search needs
-
 add-larger : tie.Need-add-larger
 add-larger c = omega (arith, c .digit-value .ensures, product (c .before .args .value) (c .before .args .base) (c .before .pre) (c .before .fits .base .fits), digit-small (c .before .args .digit) (c .before .fits .digit .fits))
 
@@ -29,4 +26,4 @@ unfolding grown
 returns-2 c = omega (arith, c .before .digit-value .ensures)
 
 pub with-digit-spec : {M : Type 1} → statement M
-with-digit-spec = tie.close (tie.spec mul-larger digit-value-requires add-larger returns returns-2)
+with-digit-spec = tie.close (tie.spec mul-larger (λ c κs. search needs) add-larger returns returns-2)

@@ -5,12 +5,6 @@ use borrow.Author.Needs.{needs}
 use Rattle.luck_token.proofs.string.allows_code_point.Statement.{statement}
 use Rattle.luck_token.proofs.string.allows_code_point.Tie as tie
 
-allows-digits-requires : tie.Need-allows-digits-requires
-allows-digits-requires c κs = search needs
-
-is-char-requires : tie.Need-is-char-requires
-is-char-requires c κs = search needs
-
 returns : tie.Need-returns
 returns c = allowed (c .before .before .before .args .rules) (c .before .before .before .args .value) (c .before .before .before .args .count) (sym (c .before .before .allows-digits .ensures) ∙ c .before .if1 .taken) (c .is-char .result) (sym (c .is-char .ensures))
 
@@ -19,4 +13,4 @@ returns-2 c = not-allowed (c .before .before .args .rules) (c .before .before .a
 
 pub allows-code-point-spec : {M : Type 1} → statement M
 allows-code-point-spec =
-    tie.close (tie.spec allows-digits-requires is-char-requires returns returns-2)
+    tie.close (tie.spec (λ c κs. search needs) (λ c κs. search needs) returns returns-2)

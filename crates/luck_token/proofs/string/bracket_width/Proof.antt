@@ -10,24 +10,12 @@ use borrow.Author.Needs.{needs}
 use Rattle.luck_token.proofs.string.bracket_width.Statement.{statement}
 use Rattle.luck_token.proofs.string.bracket_width.Tie as tie
 
-run-requires : tie.Need-run-requires
-run-requires c κs = search needs
-
 add-width : tie.Need-add-width
 add-width c = omega (arith, c .run .ensures, run-short (eqb 61) (c .before .before .args .raw .now) 1)
 
 returns : tie.Need-returns
 unfolding equals
 returns c = no-room (c .before .before .before .args .raw .now) (c .before .run .result) (c .before .run .ensures) (omega arith)
-
-is-bracket-requires : tie.Need-is-bracket-requires
-is-bracket-requires c κs = omega arith
-
-sub-is-bracket : tie.Need-sub-is-bracket
-sub-is-bracket c = omega arith
-
-is-bracket-requires-2 : tie.Need-is-bracket-requires-2
-is-bracket-requires-2 c κs = omega arith
 
 returns-2 : tie.Need-returns-2
 unfolding equals
@@ -45,12 +33,10 @@ pub bracket-width-spec : {M : Type 1} → statement M
 bracket-width-spec =
     tie.close
     (tie.spec
-    run-requires
+    (λ c κs. search needs)
     add-width
     returns
-    is-bracket-requires
-    sub-is-bracket
-    is-bracket-requires-2
+    (λ c κs. omega arith) (λ c. omega arith) (λ c κs. omega arith)
     returns-2
     returns-3
     returns-4)

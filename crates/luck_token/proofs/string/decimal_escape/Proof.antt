@@ -18,23 +18,11 @@ taken c = ⊎-elim (λ w. omega (arith, c .before .run .ensures)) (λ w. omega (
 inside : (c : tie.Joined1) → c .before .before .before .args .at + 1 + c .before .run .result ≤ length (c .before .before .before .args .body .now)
 inside c = omega (arith, c .before .run .ensures, run-inside isDigit (c .before .before .before .args .body .now) (c .before .before .before .args .at + 1) (omega (arith, c .before .before .before .pre)))
 
-add-from : tie.Need-add-from
-add-from c = search needs
-
-run-requires : tie.Need-run-requires
-run-requires c κs = search needs
-
 add-numeral : tie.Need-add-numeral
 add-numeral c = omega (arith, taken (c .before), inside (c .before))
 
-numeral-requires : tie.Need-numeral-requires
-numeral-requires c κs = search needs
-
 returns : tie.Need-returns
 returns c = record { is = decimal-large (c .before .before .before .before .before .before .args .body .now) (c .before .before .before .before .before .before .args .at) (c .before .before .before .if1 .count) (c .before .numeral .result) (taken (c .before .before .before)) (c .before .numeral .ensures) (c .if2 .taken); inside = tt }
-
-cast-t10 : tie.Need-cast-t10
-cast-t10 c = search needs
 
 add-t9 : tie.Need-add-t9
 add-t9 c = omega (arith, taken (c .before .before .before), inside (c .before .before .before))
@@ -49,4 +37,4 @@ returns-2 c =
 pub decimal-escape-spec : {M : Type 1} → statement M
 decimal-escape-spec =
     tie.close
-    (tie.spec add-from run-requires add-numeral numeral-requires returns cast-t10 add-t9 returns-2)
+    (tie.spec (λ c. search needs) (λ c κs. search needs) add-numeral (λ c κs. search needs) returns (λ c. search needs) add-t9 returns-2)

@@ -14,9 +14,6 @@ use borrow.Author.Needs.{needs}
 use Rattle.luck_token.proofs.string.decode_literal.Statement.{statement}
 use Rattle.luck_token.proofs.string.decode_literal.Tie as tie
 
-is-short-requires : tie.Need-is-short-requires
-is-short-requires c κs = search needs
-
 sub-end : tie.Need-sub-end
 sub-end c = omega (arith, both-quotes (c .before .before .before .before .args .raw .now) (sym (c .before .is-short .ensures) ∙ c .if1 .taken))
 
@@ -29,12 +26,6 @@ part-decode-body-start c = omega (arith, both-quotes (c .before .before .before 
 part-decode-body-end : tie.Need-part-decode-body-end
 part-decode-body-end c = omega (arith, both-quotes (c .before .before .before .before .args .raw .now) (sym (c .before .is-short .ensures) ∙ c .if1 .taken))
 
-decode-body-requires : tie.Need-decode-body-requires
-decode-body-requires c κs = search needs
-
-same-length : tie.Need-same-length
-same-length c = search needs
-
 returns : tie.Need-returns
 returns c =
     let e = values.short-literal (c .before .before .before .before .before .before .before .before .before .args .rules) (c .before .before .before .before .before .before .before .before .before .args .raw .now) (sym (c .before .before .before .before .before .before .is-short .ensures) ∙ c .before .before .before .before .before .if1 .taken) in (
@@ -42,17 +33,8 @@ returns c =
       c .before .before .decode-body .ensures .1 ∙ ap (λ (o : Option (List ℕ)). outputOf (withRoom (length (c .before .before .before .before .before .before .before .before .before .args .output .now)) o) (c .before .before .before .before .before .before .before .before .before .args .output .now)) e,
     )
 
-bracket-width-requires : tie.Need-bracket-width-requires
-bracket-width-requires c κs = search needs
-
 long-string-body-requires : tie.Need-long-string-body-requires
 long-string-body-requires c κs = omega (arith, c .before .bracket-width .ensures, values.twice-in (c .before .before .before .before .before .before .args .rules) (c .before .before .before .before .before .before .args .raw .now) (omega (arith, c .before .bracket-width .ensures)))
-
-decode-body-requires-2 : tie.Need-decode-body-requires-2
-decode-body-requires-2 c κs = search needs
-
-same-length-2 : tie.Need-same-length-2
-same-length-2 c = search needs
 
 returns-2 : tie.Need-returns-2
 returns-2 c =
@@ -68,17 +50,15 @@ pub decode-literal-spec : {M : Type 1} → statement M
 decode-literal-spec =
     tie.close
     (tie.spec
-    is-short-requires
+    (λ c κs. search needs)
     sub-end
     sub-decode-body
     part-decode-body-start
     part-decode-body-end
-    decode-body-requires
-    same-length
+    (λ c κs. search needs) (λ c. search needs)
     returns
-    bracket-width-requires
+    (λ c κs. search needs)
     long-string-body-requires
-    decode-body-requires-2
-    same-length-2
+    (λ c κs. search needs) (λ c. search needs)
     returns-2
     returns-3)

@@ -6,23 +6,8 @@ use borrow.Author.Needs.{needs}
 use Rattle.luck_token.proofs.string.decode_long.Statement.{statement}
 use Rattle.luck_token.proofs.string.decode_long.Tie as tie
 
-write-requires : tie.Need-write-requires
-write-requires c κs = search needs
-
-enum-told : tie.Need-enum-told
-enum-told c = search needs
-
-enum-known-size : tie.Need-enum-known-size
-enum-known-size c = search needs
-
-same-length : tie.Need-same-length
-same-length c = search needs
-
 returns : tie.Need-returns
 returns c = absurd (values.long-value (c .before .before .before .before .before .before .before .before .args .rules) (c .before .before .before .before .before .before .before .before .args .body .now) (c .before .before .before .before .before .before .before .before .args .long) (c .before .before .before .before .before .before .before .before .pre .0) (values.no-size (valueOf (c .before .before .before .before .before .before .before .before .args .long) (c .before .before .before .before .before .before .before .before .args .rules) (c .before .before .before .before .before .before .before .before .args .body .now)) (sym (c .enum-told .given .1) ∙ c .before .before .before .before .write .ensures .0)))
-
-same-length-2 : tie.Need-same-length-2
-same-length-2 c = search needs
 
 returns-2 : tie.Need-returns-2
 returns-2 c =
@@ -35,4 +20,4 @@ returns-2 c =
 pub decode-long-spec : {M : Type 1} → statement M
 decode-long-spec =
     tie.close
-    (tie.spec write-requires enum-told enum-known-size same-length returns same-length-2 returns-2)
+    (tie.spec (λ c κs. search needs) (λ c. search needs) (λ c. search needs) (λ c. search needs) returns (λ c. search needs) returns-2)

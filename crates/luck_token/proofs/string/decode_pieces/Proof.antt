@@ -7,29 +7,11 @@ use borrow.Author.Needs.{needs}
 use Rattle.luck_token.proofs.string.decode_pieces.Statement.{statement}
 use Rattle.luck_token.proofs.string.decode_pieces.Tie as tie
 
-slice-aggregate-write : tie.Need-slice-aggregate-write
-slice-aggregate-write c = search needs
-
-write-requires : tie.Need-write-requires
-write-requires c κs = search needs
-
-enum-told : tie.Need-enum-told
-enum-told c = search needs
-
-enum-known-size : tie.Need-enum-known-size
-enum-known-size c = search needs
-
 returns : tie.Need-returns
 returns c = values.too-short (valueOf (c .before .before .before .before .before .before .before .before .before .args .long) (c .before .before .before .before .before .before .before .before .before .args .rules) (c .before .before .before .before .before .before .before .before .before .args .body .now)) (c .before .before .before .before .before .before .before .before .before .args .output .now) _ (values.has-size (valueOf (c .before .before .before .before .before .before .before .before .before .args .long) (c .before .before .before .before .before .before .before .before .before .args .rules) (c .before .before .before .before .before .before .before .before .before .args .body .now)) (c .before .before .size .given .0 .0) (sym (c .before .before .size .given .1) ∙ c .before .before .before .before .before .write .ensures .0)) (c .if1 .taken)
 
-slice-aggregate-copy : tie.Need-slice-aggregate-copy
-slice-aggregate-copy c = search needs
-
 copy-requires : tie.Need-copy-requires
 copy-requires c κs = (omega arith, omega arith, omega arith)
-
-same-length : tie.Need-same-length
-same-length c = search needs
 
 returns-2 : tie.Need-returns-2
 returns-2 c = (
@@ -37,14 +19,8 @@ returns-2 c = (
   c .before .before .copy .ensures ∙ values.copied-value (valueOf (c .before .before .before .before .before .before .before .before .before .before .before .before .before .before .before .args .long) (c .before .before .before .before .before .before .before .before .before .before .before .before .before .before .before .args .rules) (c .before .before .before .before .before .before .before .before .before .before .before .before .before .before .before .args .body .now)) (c .before .before .before .before .before .before .before .before .before .before .before .before .before .before .before .args .output .now) (c .before .before .before .before .before .before .before .before .size .given .0 .0) (values.has-size (valueOf (c .before .before .before .before .before .before .before .before .before .before .before .before .before .before .before .args .long) (c .before .before .before .before .before .before .before .before .before .before .before .before .before .before .before .args .rules) (c .before .before .before .before .before .before .before .before .before .before .before .before .before .before .before .args .body .now)) (c .before .before .before .before .before .before .before .before .size .given .0 .0) (sym (c .before .before .before .before .before .before .before .before .size .given .1) ∙ c .before .before .before .before .before .before .before .before .before .before .before .write .ensures .0)) _ _ (c .before .before .before .before .before .before .before .before .before .before .before .write .ensures .1 .1) (omega (arith, c .before .before .before .before .before .if2 .taken)) (c .before .before .before .before .before .before .if1 .left),
 )
 
-write-requires-2 : tie.Need-write-requires-2
-write-requires-2 c κs = search needs
-
 returns-3 : tie.Need-returns-3
 returns-3 c = values.undecodable (valueOf (c .before .before .before .before .before .before .before .args .long) (c .before .before .before .before .before .before .before .args .rules) (c .before .before .before .before .before .before .before .args .body .now)) (c .before .before .before .before .before .before .before .args .output .now) (values.no-size (valueOf (c .before .before .before .before .before .before .before .args .long) (c .before .before .before .before .before .before .before .args .rules) (c .before .before .before .before .before .before .before .args .body .now)) (sym (c .enum-told .given .1) ∙ c .before .before .before .write .ensures .0))
-
-same-length-2 : tie.Need-same-length-2
-same-length-2 c = search needs
 
 returns-4 : tie.Need-returns-4
 returns-4 c = (
@@ -56,16 +32,13 @@ pub decode-pieces-spec : {M : Type 1} → statement M
 decode-pieces-spec =
     tie.close
     (tie.spec
-    slice-aggregate-write
-    write-requires
-    enum-told
-    enum-known-size
+    (λ c. search needs) (λ c κs. search needs) (λ c. search needs) (λ c. search needs)
     returns
-    slice-aggregate-copy
+    (λ c. search needs)
     copy-requires
-    same-length
+    (λ c. search needs)
     returns-2
-    write-requires-2
+    (λ c κs. search needs)
     returns-3
-    same-length-2
+    (λ c. search needs)
     returns-4)

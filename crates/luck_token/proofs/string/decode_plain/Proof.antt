@@ -14,9 +14,6 @@ returns c = values.too-short (some (c .before .before .before .args .body .now))
 copy-requires : tie.Need-copy-requires
 copy-requires c κs = (omega arith, omega arith, omega arith)
 
-same-length : tie.Need-same-length
-same-length c = search needs
-
 returns-2 : tie.Need-returns-2
 returns-2 c = (
   values.fits (some (c .before .before .before .before .before .before .before .args .body .now)) (c .before .before .before .before .before .before .before .args .output .now) (length (c .before .before .before .before .before .before .before .args .body .now)) ((c .before .before .before .before .before .before .before .args .body .now), refl, refl) (c .before .before .before .before .if1 .left),
@@ -24,4 +21,4 @@ returns-2 c = (
 )
 
 pub decode-plain-spec : {M : Type 1} → statement M
-decode-plain-spec = tie.close (tie.spec returns copy-requires same-length returns-2)
+decode-plain-spec = tie.close (tie.spec returns copy-requires (λ c. search needs) returns-2)

@@ -10,32 +10,11 @@ use borrow.Author.Needs.{needs}
 use Rattle.luck_token.proofs.string.decode_string.Statement.{statement}
 use Rattle.luck_token.proofs.string.decode_string.Tie as tie
 
-is-version-requires : tie.Need-is-version-requires
-is-version-requires c κs = search needs
-
-validate-requires : tie.Need-validate-requires
-validate-requires c κs = search needs
-
-enum-known-utf8 : tie.Need-enum-known-utf8
-enum-known-utf8 c = search needs
-
-enum-told : tie.Need-enum-told
-enum-told c = search needs
-
-rules-of-requires : tie.Need-rules-of-requires
-rules-of-requires c κs = search needs
-
-decode-literal-requires : tie.Need-decode-literal-requires
-decode-literal-requires c κs = search needs
-
 returns : tie.Need-returns
 unfolding decodingOf numbered outputOf
 returns c =
     let e = values.not-utf8 (c .before .before .before .before .before .before .before .before .args .version) (c .before .before .before .before .before .before .before .before .args .raw .now) (length (c .before .before .before .before .before .before .before .before .args .output .now)) (sym (c .before .before .before .before .before .is-version .ensures) ∙ c .before .before .before .before .if1 .taken) (c .before .utf8 .given .0 .0) (sym (ap placeOf (c .before .utf8 .given .1)) ∙ c .before .before .before .validate .ensures) in
     (ap decodingOf e, ap (λ (o : DecodeOutcome). outputOf o (c .before .before .before .before .before .before .before .before .args .output .now)) e)
-
-same-length : tie.Need-same-length
-same-length c = search needs
 
 returns-2 : tie.Need-returns-2
 returns-2 c =
@@ -52,13 +31,9 @@ pub decode-string-spec : {M : Type 1} → statement M
 decode-string-spec =
     tie.close
     (tie.spec
-    is-version-requires
-    validate-requires
-    enum-known-utf8
-    enum-told
-    rules-of-requires
-    decode-literal-requires
+    (λ c κs. search needs) (λ c κs. search needs) (λ c. search needs) (λ c. search needs) (λ c κs. search needs)
+    (λ c κs. search needs)
     returns
-    same-length
+    (λ c. search needs)
     returns-2
     returns-3)

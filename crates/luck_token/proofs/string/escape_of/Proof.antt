@@ -16,25 +16,13 @@ returns : tie.Need-returns
 unfolding escapeKind if_then_else_ isDigit
 returns c = rw (c .before .match .keys13, c .if1 .taken)
 
-other-escape-requires : tie.Need-other-escape-requires
-other-escape-requires c κs = search needs
-
 returns-2 : tie.Need-returns-2
 unfolding escapeKind if_then_else_ isDigit
 returns-2 c = rw (c .before .match .keys14, c .if2 .taken)
 
-other-escape-requires-2 : tie.Need-other-escape-requires-2
-other-escape-requires-2 c κs = search needs
-
 returns-3 : tie.Need-returns-3
 unfolding escapeKind if_then_else_ isDigit
 returns-3 c = rw (c .before .match .keys15, c .if3 .taken)
-
-other-escape-requires-3 : tie.Need-other-escape-requires-3
-other-escape-requires-3 c κs = search needs
-
-other-escape-requires-4 : tie.Need-other-escape-requires-4
-other-escape-requires-4 c κs = search needs
 
 returns-4 : tie.Need-returns-4
 unfolding escapeKind if_then_else_
@@ -112,12 +100,11 @@ escape-of-spec =
     tie.close
     (tie.spec
     returns
-    other-escape-requires
+    (λ c κs. search needs)
     returns-2
-    other-escape-requires-2
+    (λ c κs. search needs)
     returns-3
-    other-escape-requires-3
-    other-escape-requires-4
+    (λ c κs. search needs) (λ c κs. search needs)
     returns-4
     returns-5
     returns-6

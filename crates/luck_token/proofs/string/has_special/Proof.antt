@@ -7,17 +7,11 @@ use borrow.Author.Needs.{needs}
 use Rattle.luck_token.proofs.string.has_special.Statement.{statement}
 use Rattle.luck_token.proofs.string.has_special.Tie as tie
 
-has-either-requires : tie.Need-has-either-requires
-has-either-requires c κs = search needs
-
 returns : tie.Need-returns
 returns c = λ e k l. ap (λ (t : Bool). plain t (byteAt (c .before .before .before .args .body .now) k)) (c .before .if1 .taken) ∙ c .has-either .ensures e k l
-
-has-either-requires-2 : tie.Need-has-either-requires-2
-has-either-requires-2 c κs = search needs
 
 returns-2 : tie.Need-returns-2
 returns-2 c = λ e k l. ap (λ (t : Bool). plain t (byteAt (c .before .before .before .args .body .now) k)) (c .before .if1 .left) ∙ c .has-either2 .ensures e k l
 
 pub has-special-spec : {M : Type 1} → statement M
-has-special-spec = tie.close (tie.spec has-either-requires returns has-either-requires-2 returns-2)
+has-special-spec = tie.close (tie.spec (λ c κs. search needs) returns (λ c κs. search needs) returns-2)

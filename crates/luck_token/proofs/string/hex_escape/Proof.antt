@@ -12,30 +12,15 @@ use Rattle.luck_token.proofs.string.hex_escape.Tie as tie
 digits : (c : tie.Else1) → 2 ≤ run isXdigit (drop (c .before .before .before .args .at + 2) (c .before .before .before .args .body .now))
 digits c = omega (arith, c .before .run .ensures)
 
-add-run : tie.Need-add-run
-add-run c = search needs
-
-run-requires : tie.Need-run-requires
-run-requires c κs = search needs
-
 returns : tie.Need-returns
 returns c =
     let a = c .before .before .before .args in
     record { is = hex-bad (a .body .now) (a .at) (omega (arith, c .before .run .ensures)); inside = tt }
 
-add-numeral : tie.Need-add-numeral
-add-numeral c = search needs
-
 add-numeral-2 : tie.Need-add-numeral-2
 add-numeral-2 c =
     let a = c .before .before .before .args in
     omega (arith, hex-inside (a .body .now) (a .at) (digits c))
-
-numeral-requires : tie.Need-numeral-requires
-numeral-requires c κs = search needs
-
-cast-t9 : tie.Need-cast-t9
-cast-t9 c = search needs
 
 returns-2 : tie.Need-returns-2
 returns-2 c =
@@ -48,4 +33,4 @@ returns-2 c =
 pub hex-escape-spec : {M : Type 1} → statement M
 hex-escape-spec =
     tie.close
-    (tie.spec add-run run-requires returns add-numeral add-numeral-2 numeral-requires cast-t9 returns-2)
+    (tie.spec (λ c. search needs) (λ c κs. search needs) returns (λ c. search needs) add-numeral-2 (λ c κs. search needs) (λ c. search needs) returns-2)

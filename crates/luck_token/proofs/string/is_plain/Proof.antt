@@ -6,17 +6,11 @@ use borrow.Author.Needs.{needs}
 use Rattle.luck_token.proofs.string.is_plain.Statement.{statement}
 use Rattle.luck_token.proofs.string.is_plain.Tie as tie
 
-neither-requires : tie.Need-neither-requires
-neither-requires c κs = search needs
-
 returns : tie.Need-returns
 returns c = c .neither .ensures ∙ ap (λ (l : Bool). plain l (c .before .before .args .byte)) (sym (c .before .if1 .taken))
-
-neither-requires-2 : tie.Need-neither-requires-2
-neither-requires-2 c κs = search needs
 
 returns-2 : tie.Need-returns-2
 returns-2 c = c .neither2 .ensures ∙ ap (λ (l : Bool). plain l (c .before .before .args .byte)) (sym (c .before .if1 .left))
 
 pub is-plain-spec : {M : Type 1} → statement M
-is-plain-spec = tie.close (tie.spec neither-requires returns neither-requires-2 returns-2)
+is-plain-spec = tie.close (tie.spec (λ c κs. search needs) returns (λ c κs. search needs) returns-2)

@@ -11,15 +11,6 @@ returns : tie.Need-returns
 unfolding isShort
 returns c = rw (lt-leb 2 (length (c .before .args .raw .now)) (c .if1 .taken))
 
-shared-slice-read-first : tie.Need-shared-slice-read-first
-shared-slice-read-first c = search needs
-
-sub-last : tie.Need-sub-last
-sub-last c = search needs
-
-shared-slice-read-last : tie.Need-shared-slice-read-last
-shared-slice-read-last c = search needs
-
 returns-2 : tie.Need-returns-2
 unfolding isShort
 returns-2 c = rw (le-leb 2 (length (c .before .before .before .before .args .raw .now)) (c .before .before .before .if1 .left), c .if2 .taken)
@@ -37,9 +28,7 @@ is-short-spec =
     tie.close
     (tie.spec
     returns
-    shared-slice-read-first
-    sub-last
-    shared-slice-read-last
+    (λ c. search needs) (λ c. search needs) (λ c. search needs)
     returns-2
     returns-3
     returns-4)

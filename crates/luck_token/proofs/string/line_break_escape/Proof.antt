@@ -8,12 +8,6 @@ use borrow.Author.Needs.{needs}
 use Rattle.luck_token.proofs.string.line_break_escape.Statement.{statement}
 use Rattle.luck_token.proofs.string.line_break_escape.Tie as tie
 
-add-line-break : tie.Need-add-line-break
-add-line-break c = search needs
-
-line-break-requires : tie.Need-line-break-requires
-line-break-requires c κs = search needs
-
 returns : tie.Need-returns
 unfolding lineBreakEscape
 returns c = record { is = newline (omega (arith, c .before .line-break .ensures)); inside = (omega arith, omega (arith, c .before .before .before .pre)) }
@@ -27,4 +21,4 @@ returns-2 c = record { is = newline (omega (arith, c .before .line-break .ensure
 
 pub line-break-escape-spec : {M : Type 1} → statement M
 line-break-escape-spec =
-    tie.close (tie.spec add-line-break line-break-requires returns add-t5 returns-2)
+    tie.close (tie.spec (λ c. search needs) (λ c κs. search needs) returns add-t5 returns-2)

@@ -8,12 +8,6 @@ use borrow.Author.Needs.{needs}
 use Rattle.luck_token.proofs.string.long_piece.Statement.{statement}
 use Rattle.luck_token.proofs.string.long_piece.Tie as tie
 
-line-break-requires : tie.Need-line-break-requires
-line-break-requires c κs = search needs
-
-shared-slice-read-t7 : tie.Need-shared-slice-read-t7
-shared-slice-read-t7 c = search needs
-
 returns : tie.Need-returns
 returns c = record { is = long-byte (c .before .before .before .before .args .rules .«lfcr_line_break») (c .before .before .before .before .args .body .now) (c .before .before .before .before .args .at) (sym (c .before .before .line-break .ensures) ∙ c .before .if1 .taken); inside = (omega arith, omega arith) }
 
@@ -21,4 +15,4 @@ returns-2 : tie.Need-returns-2
 returns-2 c = record { is = long-break (c .before .before .before .args .rules .«lfcr_line_break») (c .before .before .before .args .body .now) (c .before .before .before .args .at) (c .before .line-break .result) (c .before .line-break .ensures) (c .if1 .left); inside = (omega arith, omega (arith, c .before .line-break .ensures, break-inside (c .before .before .before .args .rules .«lfcr_line_break») (c .before .before .before .args .body .now) (c .before .before .before .args .at) (omega arith))) }
 
 pub long-piece-spec : {M : Type 1} → statement M
-long-piece-spec = tie.close (tie.spec line-break-requires shared-slice-read-t7 returns returns-2)
+long-piece-spec = tie.close (tie.spec (λ c κs. search needs) (λ c. search needs) returns returns-2)

@@ -9,29 +9,11 @@ use borrow.Author.Needs.{needs}
 use Rattle.luck_token.proofs.string.long_string_body.Statement.{statement}
 use Rattle.luck_token.proofs.string.long_string_body.Tie as tie
 
-sub-end : tie.Need-sub-end
-sub-end c = omega arith
-
-sub-content : tie.Need-sub-content
-sub-content c = omega arith
-
-part-content-start : tie.Need-part-content-start
-part-content-start c = omega arith
-
-part-content-end : tie.Need-part-content-end
-part-content-end c = omega arith
-
-line-break-requires : tie.Need-line-break-requires
-line-break-requires c κs = search needs
-
 sub-result : tie.Need-sub-result
 sub-result c = omega (arith, c .line-break .ensures, break-inside (c .before .before .before .args .lfcr) (part (c .before .before .before .args .raw .now) (c .before .before .before .args .width) (length (c .before .before .before .args .raw .now) - c .before .before .before .args .width)) 0 (omega arith))
 
 part-result-start : tie.Need-part-result-start
 part-result-start c = omega (arith, c .line-break .ensures, break-inside (c .before .before .before .args .lfcr) (part (c .before .before .before .args .raw .now) (c .before .before .before .args .width) (length (c .before .before .before .args .raw .now) - c .before .before .before .args .width)) 0 (omega arith))
-
-part-result-end : tie.Need-part-result-end
-part-result-end c = search needs
 
 returns : tie.Need-returns
 returns c = stripped (c .before .before .before .before .args .lfcr) (part (c .before .before .before .before .args .raw .now) (c .before .before .before .before .args .width) (length (c .before .before .before .before .args .raw .now) - c .before .before .before .before .args .width)) (c .before .line-break .result) (c .before .line-break .ensures)
@@ -40,12 +22,8 @@ pub long-string-body-spec : {M : Type 1} → statement M
 long-string-body-spec =
     tie.close
     (tie.spec
-    sub-end
-    sub-content
-    part-content-start
-    part-content-end
-    line-break-requires
+    (λ c. omega arith) (λ c. omega arith) (λ c. omega arith) (λ c. omega arith) (λ c κs. search needs)
     sub-result
     part-result-start
-    part-result-end
+    (λ c. search needs)
     returns)

@@ -6,17 +6,8 @@ use borrow.Author.Needs.{needs}
 use Rattle.luck_token.proofs.string.piece_at.Statement.{statement}
 use Rattle.luck_token.proofs.string.piece_at.Tie as tie
 
-long-piece-requires : tie.Need-long-piece-requires
-long-piece-requires c κs = search needs
-
 returns : tie.Need-returns
 returns c = as-piece _ _ (piece-long (c .before .before .before .args .rules) (c .before .before .before .args .body .now) (c .before .before .before .args .at) (c .before .before .before .args .long) (c .before .if1 .taken)) (c .long-piece .ensures)
-
-shared-slice-read-value : tie.Need-shared-slice-read-value
-shared-slice-read-value c = search needs
-
-escape-at-requires : tie.Need-escape-at-requires
-escape-at-requires c κs = search needs
 
 returns-2 : tie.Need-returns-2
 returns-2 c = as-piece _ _ (short-escape (c .before .before .before .before .before .args .rules) (c .before .before .before .before .before .args .body .now) (c .before .before .before .before .before .args .at) (c .before .if2 .taken) ∙ piece-short (c .before .before .before .before .before .args .rules) (c .before .before .before .before .before .args .body .now) (c .before .before .before .before .before .args .at) (c .before .before .before .before .before .args .long) (c .before .before .before .if1 .left)) (c .escape-at .ensures)
@@ -28,9 +19,8 @@ pub piece-at-spec : {M : Type 1} → statement M
 piece-at-spec =
     tie.close
     (tie.spec
-    long-piece-requires
+    (λ c κs. search needs)
     returns
-    shared-slice-read-value
-    escape-at-requires
+    (λ c. search needs) (λ c κs. search needs)
     returns-2
     returns-3)

@@ -7,16 +7,10 @@ use borrow.Author.Needs.{needs}
 use Rattle.luck_token.proofs.string.plain_blocks.Statement.{statement}
 use Rattle.luck_token.proofs.string.plain_blocks.Tie as tie
 
-blocks-end-requires : tie.Need-blocks-end-requires
-blocks-end-requires c κs = search needs
-
 returns : tie.Need-returns
 returns c =
     let e = c .blocks-end .ensures in
     (e .0, e .1, λ k l m. ap (λ (t : Bool). plain t (byteAt (c .before .before .before .args .body .now) k)) (c .before .if1 .taken) ∙ e .2 k l m)
-
-blocks-end-requires-2 : tie.Need-blocks-end-requires-2
-blocks-end-requires-2 c κs = search needs
 
 returns-2 : tie.Need-returns-2
 returns-2 c =
@@ -24,4 +18,4 @@ returns-2 c =
     (e .0, e .1, λ k l m. ap (λ (t : Bool). plain t (byteAt (c .before .before .before .args .body .now) k)) (c .before .if1 .left) ∙ e .2 k l m)
 
 pub plain-blocks-spec : {M : Type 1} → statement M
-plain-blocks-spec = tie.close (tie.spec blocks-end-requires returns blocks-end-requires-2 returns-2)
+plain-blocks-spec = tie.close (tie.spec (λ c κs. search needs) returns (λ c κs. search needs) returns-2)

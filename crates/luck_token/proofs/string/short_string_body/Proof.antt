@@ -8,9 +8,6 @@ use borrow.Author.Needs.{needs}
 use Rattle.luck_token.proofs.string.short_string_body.Statement.{statement}
 use Rattle.luck_token.proofs.string.short_string_body.Tie as tie
 
-is-short-requires : tie.Need-is-short-requires
-is-short-requires c κs = search needs
-
 sub-t4 : tie.Need-sub-t4
 sub-t4 c = omega (arith, both-quotes (c .before .before .before .args .raw .now) (sym (c .before .is-short .ensures) ∙ c .if1 .taken))
 
@@ -23,4 +20,4 @@ unfolding shortStringBody
 returns-2 c = sym (if-false _ _ _ (sym (c .before .is-short .ensures) ∙ c .if1 .left))
 
 pub short-string-body-spec : {M : Type 1} → statement M
-short-string-body-spec = tie.close (tie.spec is-short-requires sub-t4 returns returns-2)
+short-string-body-spec = tie.close (tie.spec (λ c κs. search needs) sub-t4 returns returns-2)

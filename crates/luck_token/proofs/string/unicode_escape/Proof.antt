@@ -25,12 +25,6 @@ closed c = sym (c .before .byte-at2 .ensures) ∙ c .if2 .left
 close-inside : (c : tie.Else2) → c .before .before .before .before .before .before .args .at + 3 + c .before .before .run .result < length (c .before .before .before .before .before .before .args .body .now)
 close-inside c = let a = c .before .before .before .before .before .before .args in present (a .body .now) (a .at + 3 + c .before .before .run .result) (omega (arith, closed c))
 
-add-byte-at : tie.Need-add-byte-at
-add-byte-at c = search needs
-
-byte-at-requires : tie.Need-byte-at-requires
-byte-at-requires c κs = search needs
-
 returns : tie.Need-returns
 returns c =
     let a = c .before .before .before .args in
@@ -39,28 +33,16 @@ returns c =
 add-from : tie.Need-add-from
 add-from c = omega (arith, open-inside c)
 
-run-requires : tie.Need-run-requires
-run-requires c κs = search needs
-
 add-close : tie.Need-add-close
 add-close c =
     let a = c .before .before .before .before .args in
     omega (arith, c .run .ensures, run-inside isXdigit (a .body .now) (a .at + 3) (omega (arith, open-inside (c .before))))
-
-byte-at-requires-2 : tie.Need-byte-at-requires-2
-byte-at-requires-2 c κs = search needs
 
 returns-2 : tie.Need-returns-2
 returns-2 c =
     let x = c .before .before in
     let a = x .before .before .before .before .args in
     record { is = no-close (a .rules) (a .body .now) (a .at) (x .run .result) (x .run .ensures) (λ e. c .if2 .taken (c .before .byte-at2 .ensures ∙ e)); inside = tt }
-
-numeral-requires : tie.Need-numeral-requires
-numeral-requires c κs = search needs
-
-allows-code-point-requires : tie.Need-allows-code-point-requires
-allows-code-point-requires c κs = search needs
 
 add-t13 : tie.Need-add-t13
 add-t13 c = omega (arith, close-inside (c .before .before .before))
@@ -92,16 +74,14 @@ pub unicode-escape-spec : {M : Type 1} → statement M
 unicode-escape-spec =
     tie.close
     (tie.spec
-    add-byte-at
-    byte-at-requires
+    (λ c. search needs) (λ c κs. search needs)
     returns
     add-from
-    run-requires
+    (λ c κs. search needs)
     add-close
-    byte-at-requires-2
+    (λ c κs. search needs)
     returns-2
-    numeral-requires
-    allows-code-point-requires
+    (λ c κs. search needs) (λ c κs. search needs)
     add-t13
     returns-3
     returns-4)

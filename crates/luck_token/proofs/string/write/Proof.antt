@@ -39,9 +39,6 @@ seen c e = let a = c .before .before .before .before .before .before .before .be
 
 -- ---- Blocks
 
-plain-blocks-requires : tie.Need-plain-blocks-requires Inv-loop μ-loop
-plain-blocks-requires c κs = omega arith
-
 put-part-requires : tie.Need-put-part-requires Inv-loop μ-loop
 put-part-requires c κs = let e = c .before .plain-blocks .ensures in (e .0, e .1)
 
@@ -68,18 +65,6 @@ loop-again c =
 
 -- ---- Plain bytes
 
-sub-singles : tie.Need-sub-singles Inv-loop μ-loop
-sub-singles c = omega arith
-
-shared-slice-read-byte : tie.Need-shared-slice-read-byte Inv-loop μ-loop
-shared-slice-read-byte c = search needs
-
-is-plain-requires : tie.Need-is-plain-requires Inv-loop μ-loop
-is-plain-requires c κs = search needs
-
-put-byte-requires : tie.Need-put-byte-requires Inv-loop μ-loop
-put-byte-requires c κs = search needs
-
 add-size-2 : tie.Need-add-size-2 Inv-loop μ-loop
 add-size-2 c = omega (arith, c .before .before .before .before .before .before .before .before .before .loop .inv .2, c .before .before .before .before .before .before .before .before .loop-test .taken)
 
@@ -98,15 +83,6 @@ loop-again-2 c =
 
 -- ---- Pieces
 
-piece-at-requires : tie.Need-piece-at-requires Inv-loop μ-loop
-piece-at-requires c κs = search needs
-
-enum-known-piece : tie.Need-enum-known-piece Inv-loop μ-loop
-enum-known-piece c = search needs
-
-put-byte-requires-2 : tie.Need-put-byte-requires-2 Inv-loop μ-loop
-put-byte-requires-2 c κs = search needs
-
 add-size-3 : tie.Need-add-size-3 Inv-loop μ-loop
 add-size-3 c = omega (arith, c .before .before .before .before .before .before .before .before .before .before .before .before .before .loop .inv .2, c .before .before .before .before .before .before .before .before .before .before .before .before .loop-test .taken)
 
@@ -118,9 +94,6 @@ loop-less-3 c = omega (arith, seen (c .before .before .before .before .before .b
 
 loop-again-3 : tie.Need-loop-again-3 Inv-loop μ-loop
 loop-again-3 c = let t = seen (c .before .before .before .before .before .before .before) (c .before .before .before .before .before .piece .given .1) in piece-put (c .before .before .before .before .before .before .before .before .before .before .before .before .before) _ _ _ 1 refl (t .is) (t .inside) (t .inside .0) (c .before .before .put-byte2 .ensures)
-
-enum-known-piece-2 : tie.Need-enum-known-piece-2 Inv-loop μ-loop
-enum-known-piece-2 c = search needs
 
 put-char-requires : tie.Need-put-char-requires Inv-loop μ-loop
 put-char-requires c κs = seen (c .before .before .before .before) (c .before .before .piece2 .given .1) .inside .0
@@ -143,9 +116,6 @@ loop-again-4 c =
     let few = values.four-bytes (c .before .before .before .before .before .piece2 .given .0 .0) in
     piece-put (c .before .before .before .before .before .before .before .before .before .before .before .before .before) _ _ _ _ (put .0) (t .is) (omega (arith, t .inside), t .inside .1 .1) (omega (arith, put .0, few, t .inside)) (put .1)
 
-enum-known-piece-3 : tie.Need-enum-known-piece-3 Inv-loop μ-loop
-enum-known-piece-3 c = search needs
-
 add-at-4 : tie.Need-add-at-4 Inv-loop μ-loop
 add-at-4 c = omega (arith, seen (c .before .before .before) (c .before .piece3 .given .1) .inside)
 
@@ -160,9 +130,6 @@ loop-again-5 c =
     let e : l .loop .size + 0 ≡ l .loop .size = omega arith in
     subst (values.Kept (a .long) (a .rules) (a .body .now) (a .output .now) (l .loop .output) (l .loop .at + c .before .piece3 .given .0 .0)) e
     (piece-put l [] _ _ 0 refl (t .is) (t .inside) (omega arith) (values.stores-nothing (l .loop .output) (l .loop .size) [] refl))
-
-enum-told : tie.Need-enum-told Inv-loop μ-loop
-enum-told c = search needs
 
 same-length : tie.Need-same-length Inv-loop μ-loop
 same-length c = c .before .before .before .before .before .before .before .before .loop .inv .5 .same
@@ -190,38 +157,33 @@ write-spec =
     Inv-loop
     μ-loop
     loop-holds
-    plain-blocks-requires
+    (λ c κs. omega arith)
     put-part-requires
     sub-size
     add-size
     loop-less
     loop-again
-    sub-singles
-    shared-slice-read-byte
-    is-plain-requires
-    put-byte-requires
+    (λ c. omega arith) (λ c. search needs) (λ c κs. search needs) (λ c κs. search needs)
     add-size-2
     add-at
     loop-less-2
     loop-again-2
-    piece-at-requires
-    enum-known-piece
-    put-byte-requires-2
+    (λ c κs. search needs) (λ c. search needs) (λ c κs. search needs)
     add-size-3
     add-at-2
     loop-less-3
     loop-again-3
-    enum-known-piece-2
+    (λ c. search needs)
     put-char-requires
     add-size-4
     add-at-3
     loop-less-4
     loop-again-4
-    enum-known-piece-3
+    (λ c. search needs)
     add-at-4
     loop-less-5
     loop-again-5
-    enum-told
+    (λ c. search needs)
     same-length
     returns
     same-length-2

@@ -69,19 +69,10 @@ returns-2 : tie.Need-returns-2
 unfolding isVersion has rulesOf
 returns-2 c = rw (above 1 6 (c .before .before .args .version) (c .if2 .taken))
 
-sub-row : tie.Need-sub-row
-sub-row c = search needs
-
-mul-result : tie.Need-mul-result
-mul-result c = search needs
-
-array-copy-out-result : tie.Need-array-copy-out-result
-array-copy-out-result c = search needs
-
 returns-3 : tie.Need-returns-3
 unfolding table
 returns-3 c = entry (c .before .before .before .args .version) (omega arith) (omega arith)
 
 pub rules-of-spec : {M : Type 1} → statement M
 rules-of-spec =
-    tie.close (tie.spec returns returns-2 sub-row mul-result array-copy-out-result returns-3)
+    tie.close (tie.spec returns returns-2 (λ c. search needs) (λ c. search needs) (λ c. search needs) returns-3)

@@ -7,17 +7,11 @@ use borrow.Author.Needs.{needs}
 use Rattle.luck_token.proofs.whitespace.line_break.Statement.{statement}
 use Rattle.luck_token.proofs.whitespace.line_break.Tie as tie
 
-byte-at-requires : tie.Need-byte-at-requires
-byte-at-requires c κs = search needs
-
 add-byte-at : tie.Need-add-byte-at
 add-byte-at c =
     let x = c .before in
     let a = x .before .before .args in
     omega (arith, present (a .text .now) (a .at) (omega (arith, x .byte-at .ensures)))
-
-byte-at-requires-2 : tie.Need-byte-at-requires-2
-byte-at-requires-2 c κs = search needs
 
 returns : tie.Need-returns
 returns c =
@@ -44,9 +38,6 @@ add-byte-at-2 c =
     let x = c .before .before .before in
     let a = x .before .before .args in
     omega (arith, present (a .text .now) (a .at) (omega (arith, x .byte-at .ensures)))
-
-byte-at-requires-3 : tie.Need-byte-at-requires-3
-byte-at-requires-3 c κs = search needs
 
 returns-4 : tie.Need-returns-4
 returns-4 c =
@@ -78,14 +69,14 @@ pub line-break-spec : {M : Type 1} → statement M
 line-break-spec =
     tie.close
     (tie.spec
-    byte-at-requires
+    (λ c κs. search needs)
     add-byte-at
-    byte-at-requires-2
+    (λ c κs. search needs)
     returns
     returns-2
     returns-3
     add-byte-at-2
-    byte-at-requires-3
+    (λ c κs. search needs)
     returns-4
     returns-5
     returns-6

@@ -8,20 +8,11 @@ use borrow.Author.Needs.{needs}
 use Rattle.luck_token.proofs.whitespace.strip_line_break.Statement.{statement}
 use Rattle.luck_token.proofs.whitespace.strip_line_break.Tie as tie
 
-rules-of-requires : tie.Need-rules-of-requires
-rules-of-requires c κs = search needs
-
-line-break-requires : tie.Need-line-break-requires
-line-break-requires c κs = search needs
-
 sub-result : tie.Need-sub-result
 sub-result c = omega (arith, c .line-break .ensures, breaks.break-inside (c .before .rules-of .result .«lfcr_line_break») (c .before .before .before .args .text .now) 0 (omega arith))
 
 part-result-start : tie.Need-part-result-start
 part-result-start c = omega (arith, c .line-break .ensures, breaks.break-inside (c .before .rules-of .result .«lfcr_line_break») (c .before .before .before .args .text .now) 0 (omega arith))
-
-part-result-end : tie.Need-part-result-end
-part-result-end c = search needs
 
 returns : tie.Need-returns
 returns c = stripped _ (c .before .before .before .before .args .text .now) (c .before .line-break .result) (c .before .line-break .ensures) ∙ ap (λ r. stripLineBreak (r .«lfcr_line_break») (c .before .before .before .before .args .text .now)) (c .before .before .rules-of .ensures)
@@ -30,9 +21,8 @@ pub strip-line-break-spec : {M : Type 1} → statement M
 strip-line-break-spec =
     tie.close
     (tie.spec
-    rules-of-requires
-    line-break-requires
+    (λ c κs. search needs) (λ c κs. search needs)
     sub-result
     part-result-start
-    part-result-end
+    (λ c. search needs)
     returns)

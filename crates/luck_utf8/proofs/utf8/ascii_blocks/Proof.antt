@@ -18,32 +18,8 @@ abbrev μ-loop : tie.MeasureT-loop
 loop-holds : tie.Need-loop-holds Inv-loop μ-loop
 loop-holds c = (omega arith, omega arith, λ k l m. absurd (omega arith))
 
-sub-loop : tie.Need-sub-loop Inv-loop μ-loop
-sub-loop c = search needs
-
-add-highest : tie.Need-add-highest Inv-loop μ-loop
-add-highest c = search needs
-
-sub-highest : tie.Need-sub-highest Inv-loop μ-loop
-sub-highest c = search needs
-
-part-highest-start : tie.Need-part-highest-start Inv-loop μ-loop
-part-highest-start c = search needs
-
-part-highest-end : tie.Need-part-highest-end Inv-loop μ-loop
-part-highest-end c = search needs
-
-highest-requires : tie.Need-highest-requires Inv-loop μ-loop
-highest-requires c κs = search needs
-
 returns : tie.Need-returns Inv-loop μ-loop
 returns c = c .before .before .before .before .loop .inv
-
-add-at : tie.Need-add-at Inv-loop μ-loop
-add-at c = search needs
-
-loop-less : tie.Need-loop-less Inv-loop μ-loop
-loop-less c = search needs
 
 loop-again : tie.Need-loop-again Inv-loop μ-loop
 loop-again c =
@@ -62,14 +38,9 @@ ascii-blocks-spec =
     Inv-loop
     μ-loop
     loop-holds
-    sub-loop
-    add-highest
-    sub-highest
-    part-highest-start
-    part-highest-end
-    highest-requires
+    (λ c. search needs) (λ c. search needs) (λ c. search needs) (λ c. search needs) (λ c. search needs)
+    (λ c κs. search needs)
     returns
-    add-at
-    loop-less
+    (λ c. search needs) (λ c. search needs)
     loop-again
     returns-2)

@@ -7,9 +7,6 @@ use Rattle.luck_utf8.proofs.Sequences.{Formed, formed, first-of, first-
 use Rattle.luck_utf8.proofs.utf8.char_at.Statement.{statement}
 use Rattle.luck_utf8.proofs.utf8.char_at.Tie as tie
 
-sequence-requires : tie.Need-sequence-requires
-sequence-requires c κs = search needs
-
 returns : tie.Need-returns
 returns c =
     let s = c .before .before .before in
@@ -125,7 +122,7 @@ pub char-at-spec : {M : Type 1} → statement M
 char-at-spec =
     tie.close
     (tie.spec
-    sequence-requires
+    (λ c κs. search needs)
     returns
     shared-slice-read-lead
     cast-lead

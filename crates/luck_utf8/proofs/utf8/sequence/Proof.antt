@@ -8,31 +8,10 @@ use Rattle.luck_utf8.proofs.utf8.sequence.Tie as tie
 returns : tie.Need-returns
 returns c = let s = c .before .before in sym (sequence-past (s .args .text .now) (s .args .at) (c .if1 .taken))
 
-shared-slice-read-lead : tie.Need-shared-slice-read-lead
-shared-slice-read-lead c = search needs
-
 returns-2 : tie.Need-returns-2
 returns-2 c =
     let s = c .before .before .before .before in
     sym (sequence-ascii (s .args .text .now) (s .args .at) (c .before .before .if1 .left) (c .if2 .taken))
-
-two-requires : tie.Need-two-requires
-two-requires c κs = search needs
-
-returns-3 : tie.Need-returns-3
-returns-3 c = search needs
-
-three-requires : tie.Need-three-requires
-three-requires c κs = search needs
-
-returns-4 : tie.Need-returns-4
-returns-4 c = search needs
-
-four-requires : tie.Need-four-requires
-four-requires c κs = search needs
-
-returns-5 : tie.Need-returns-5
-returns-5 c = search needs
 
 returns-6 : tie.Need-returns-6
 returns-6 c =
@@ -44,12 +23,8 @@ sequence-spec =
     tie.close
     (tie.spec
     returns
-    shared-slice-read-lead
+    (λ c. search needs)
     returns-2
-    two-requires
-    returns-3
-    three-requires
-    returns-4
-    four-requires
-    returns-5
+    (λ c κs. search needs) (λ c. search needs) (λ c κs. search needs) (λ c. search needs) (λ c κs. search needs)
+    (λ c. search needs)
     returns-6)

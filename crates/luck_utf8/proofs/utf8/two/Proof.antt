@@ -15,9 +15,6 @@ use Rattle.luck_utf8.proofs.utf8.two.Tie as tie
 second-due : (s : tie.Start) → 0xC2 ≤ byteAt (s .args .text .now) (s .args .at) → Left (s .args .text .now) (s .args .at) 1 2 (tail ∷ [])
 second-due s l = left-row (s .pre .0) (row-two (byteAt (s .args .text .now) (s .args .at)) l (s .pre .2))
 
-sub-if1 : tie.Need-sub-if1
-sub-if1 c = search needs
-
 returns : tie.Need-returns
 returns c =
     let s = c .before .before in
@@ -26,24 +23,12 @@ returns c =
     ⊎-elim (λ l. sym (sequence-none text at (s .pre .0) (no-row-low (byteAt text at) (s .pre .1) l)))
     (λ l. left-short (second-due s l) (omega arith)) (order (byteAt text at) 0xC2)
 
-shared-slice-read-lead : tie.Need-shared-slice-read-lead
-shared-slice-read-lead c = search needs
-
-add-second : tie.Need-add-second
-add-second c = search needs
-
-shared-slice-read-second : tie.Need-shared-slice-read-second
-shared-slice-read-second c = search needs
-
 returns-2 : tie.Need-returns-2
 returns-2 c =
     let s = c .before .before .before .before .before in
     let text = s .args .text .now in
     let at = s .args .at in
     sym (sequence-none text at (s .pre .0) (no-row-low (byteAt text at) (s .pre .1) (omega arith)))
-
-within-requires : tie.Need-within-requires
-within-requires c κs = search needs
 
 returns-3 : tie.Need-returns-3
 returns-3 c = left-out (second-due (c .before .before .before .before .before .before .before) (omega arith)) (c .before .within .ensures) (c .if3 .taken)
@@ -55,12 +40,10 @@ pub two-spec : {M : Type 1} → statement M
 two-spec =
     tie.close
     (tie.spec
-    sub-if1
+    (λ c. search needs)
     returns
-    shared-slice-read-lead
-    add-second
-    shared-slice-read-second
+    (λ c. search needs) (λ c. search needs) (λ c. search needs)
     returns-2
-    within-requires
+    (λ c κs. search needs)
     returns-3
     returns-4)

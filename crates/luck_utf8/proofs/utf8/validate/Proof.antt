@@ -24,33 +24,6 @@ loop-holds : tie.Need-loop-holds Inv-loop μ-loop
 unfolding illFormed
 loop-holds c = (omega arith, refl)
 
-sub-if1 : tie.Need-sub-if1 Inv-loop μ-loop
-sub-if1 c = search needs
-
-add-highest : tie.Need-add-highest Inv-loop μ-loop
-add-highest c = search needs
-
-sub-highest : tie.Need-sub-highest Inv-loop μ-loop
-sub-highest c = search needs
-
-part-highest-start : tie.Need-part-highest-start Inv-loop μ-loop
-part-highest-start c = search needs
-
-part-highest-end : tie.Need-part-highest-end Inv-loop μ-loop
-part-highest-end c = search needs
-
-highest-requires : tie.Need-highest-requires Inv-loop μ-loop
-highest-requires c κs = search needs
-
-add-ascii-blocks : tie.Need-add-ascii-blocks Inv-loop μ-loop
-add-ascii-blocks c = search needs
-
-ascii-blocks-requires : tie.Need-ascii-blocks-requires Inv-loop μ-loop
-ascii-blocks-requires c κs = omega arith
-
-loop-less : tie.Need-loop-less Inv-loop μ-loop
-loop-less c = omega arith
-
 loop-again : tie.Need-loop-again Inv-loop μ-loop
 loop-again c =
     let l = c .before .before .before .before .before .before .loop in
@@ -60,9 +33,6 @@ loop-again c =
     let block = part-low text (l .at) 32 (high .result) (omega arith) (high .ensures) (c .before .if2 .taken) in
     let low = all-between (λ (k : ℕ). byteAt text k < 0x80) (l .at) (l .at + 32) (on .result) block (on .ensures .2) in
     (on .ensures .1, sym (walk-ascii text (l .at) (on .result) (omega arith) (on .ensures .1) low) ∙ l .inv .1)
-
-add-stop : tie.Need-add-stop Inv-loop μ-loop
-add-stop c = search needs
 
 -- where the two ways meet, `stop` is a place behind `at` in the text
 ahead : (c : tie.Joined1 Inv-loop μ-loop)
@@ -100,17 +70,10 @@ validate-spec =
     Inv-loop
     μ-loop
     loop-holds
-    sub-if1
-    add-highest
-    sub-highest
-    part-highest-start
-    part-highest-end
-    highest-requires
-    add-ascii-blocks
-    ascii-blocks-requires
-    loop-less
+    (λ c. search needs) (λ c. search needs) (λ c. search needs) (λ c. search needs) (λ c. search needs)
+    (λ c κs. search needs) (λ c. search needs) (λ c κs. omega arith) (λ c. omega arith)
     loop-again
-    add-stop
+    (λ c. search needs)
     sequences-requires
     returns
     loop-less-2

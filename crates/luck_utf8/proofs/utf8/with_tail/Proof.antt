@@ -5,17 +5,11 @@ use Rattle.luck_text.proofs.Cases.{present}
 use Rattle.luck_utf8.proofs.utf8.with_tail.Statement.{statement}
 use Rattle.luck_utf8.proofs.utf8.with_tail.Tie as tie
 
-mul-result : tie.Need-mul-result
-mul-result c = search needs
-
 shared-slice-read-result : tie.Need-shared-slice-read-result
 shared-slice-read-result c = let s = c .before in present (s .args .text .now) (s .args .at) (omega arith)
 
 cast-result : tie.Need-cast-result
 cast-result c = omega (arith, c .shared-slice-known .given (c .before .args .at))
-
-sub-result : tie.Need-sub-result
-sub-result c = search needs
 
 add-result : tie.Need-add-result
 add-result c = omega (arith, c .shared-slice-known .given (c .before .args .at))
@@ -27,9 +21,9 @@ pub with-tail-spec : {M : Type 1} → statement M
 with-tail-spec =
     tie.close
     (tie.spec
-    mul-result
+    (λ c. search needs)
     shared-slice-read-result
     cast-result
-    sub-result
+    (λ c. search needs)
     add-result
     returns)

@@ -15,18 +15,6 @@ Inv-loop output₀ to byte i₀ output i = (i ≤ to) × (length output ≡ leng
 abbrev μ-loop : tie.MeasureT-loop
 μ-loop output₀ to byte i₀ output i = to - i
 
-loop-holds : tie.Need-loop-holds Inv-loop μ-loop
-loop-holds c = search needs
-
-slice-write-output : tie.Need-slice-write-output Inv-loop μ-loop
-slice-write-output c = search needs
-
-add-i : tie.Need-add-i Inv-loop μ-loop
-add-i c = search needs
-
-loop-less : tie.Need-loop-less Inv-loop μ-loop
-loop-less c = search needs
-
 loop-again : tie.Need-loop-again Inv-loop μ-loop
 loop-again c =
     let l = c .before .loop in
@@ -35,9 +23,6 @@ loop-again c =
       length-set (l .output) (l .i) (a .byte) ∙ l .inv .1,
       ap (λ (o : List ℕ). set o (l .i) (a .byte)) (l .inv .2) ∙ fill-more (l .i) (a .byte) (a .output .now) (omega arith),
     )
-
-same-length : tie.Need-same-length Inv-loop μ-loop
-same-length c = search needs
 
 returns : tie.Need-returns Inv-loop μ-loop
 returns c =
@@ -52,10 +37,7 @@ fill-spec =
     (tie.spec
     Inv-loop
     μ-loop
-    loop-holds
-    slice-write-output
-    add-i
-    loop-less
+    (λ c. search needs) (λ c. search needs) (λ c. search needs) (λ c. search needs)
     loop-again
-    same-length
+    (λ c. search needs)
     returns)

@@ -6,14 +6,8 @@ use borrow.Author.Needs.{needs}
 use Rattle.stored_records.proofs.bytes.is_filled.Statement.{statement}
 use Rattle.stored_records.proofs.bytes.is_filled.Tie as tie
 
-sub-result : tie.Need-sub-result
-sub-result c = search needs
-
-run-requires : tie.Need-run-requires
-run-requires c κs = search needs
-
 returns : tie.Need-returns
 returns c = ap (λ (n : ℕ). leb (c .before .before .args .to - c .before .before .args .from) n) (c .run .ensures)
 
 pub is-filled-spec : {M : Type 1} → statement M
-is-filled-spec = tie.close (tie.spec sub-result run-requires returns)
+is-filled-spec = tie.close (tie.spec (λ c. search needs) (λ c κs. search needs) returns)

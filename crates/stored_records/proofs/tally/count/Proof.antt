@@ -7,9 +7,6 @@ use borrow.Author.Needs.{needs}
 use Rattle.stored_records.proofs.tally.count.Statement.{statement}
 use Rattle.stored_records.proofs.tally.count.Tie as tie
 
-add-t4 : tie.Need-add-t4
-add-t4 c = search needs
-
 returns : tie.Need-returns
 returns c =
     let t = c .before .before .args .tally in
@@ -19,15 +16,6 @@ returns c =
       omega arith,
       sym (ap (λ (b : Bool). firstAfter b t) (c .before .if1 .taken)),
     )
-
-add-t5 : tie.Need-add-t5
-add-t5 c = search needs
-
-add-t6 : tie.Need-add-t6
-add-t6 c = search needs
-
-first-differing-requires : tie.Need-first-differing-requires
-first-differing-requires c κs = search needs
 
 returns-2 : tie.Need-returns-2
 returns-2 c =
@@ -40,4 +28,4 @@ returns-2 c =
     )
 
 pub count-spec : {M : Type 1} → statement M
-count-spec = tie.close (tie.spec add-t4 returns add-t5 add-t6 first-differing-requires returns-2)
+count-spec = tie.close (tie.spec (λ c. search needs) returns (λ c. search needs) (λ c. search needs) (λ c κs. search needs) returns-2)

@@ -6,9 +6,6 @@ use borrow.Author.Needs.{needs}
 use Rattle.luck_linter.proofs.rules.format_string.is_numeric_escape.Statement.{statement}
 use Rattle.luck_linter.proofs.rules.format_string.is_numeric_escape.Tie as tie
 
-is-in-requires : tie.Need-is-in-requires
-is-in-requires c κs = search needs
-
 returns : tie.Need-returns
 unfolding isNumericEscape
 returns c = rw (sym (c .before .is-in .ensures) ∙ c .if1 .taken)
@@ -22,4 +19,4 @@ unfolding isNumericEscape
 returns-3 c = rw ((sym (c .before .before .is-in .ensures) ∙ c .before .if1 .left), ne-eqb (c .before .before .before .args .byte) 120 (c .if2 .left))
 
 pub is-numeric-escape-spec : {M : Type 1} → statement M
-is-numeric-escape-spec = tie.close (tie.spec is-in-requires returns returns-2 returns-3)
+is-numeric-escape-spec = tie.close (tie.spec (λ c κs. search needs) returns returns-2 returns-3)

@@ -11,21 +11,6 @@ use borrow.Author.Needs.{needs}
 use Rattle.luck_linter.proofs.rules.format_string.span_at.Statement.{statement}
 use Rattle.luck_linter.proofs.rules.format_string.span_at.Tie as tie
 
-char-at-requires : tie.Need-char-at-requires
-char-at-requires c κs = search needs
-
-saturating-add-requires : tie.Need-saturating-add-requires
-saturating-add-requires c κs = search needs
-
-from-indices-requires : tie.Need-from-indices-requires
-from-indices-requires c κs = search needs
-
-one-later-requires : tie.Need-one-later-requires
-one-later-requires c κs = search needs
-
-shifted-requires : tie.Need-shifted-requires
-shifted-requires c κs = search needs
-
 returns : tie.Need-returns
 unfolding spanAt
 returns c =
@@ -37,9 +22,5 @@ pub span-at-spec : {M : Type 1} → statement M
 span-at-spec =
     tie.close
     (tie.spec
-    char-at-requires
-    saturating-add-requires
-    from-indices-requires
-    one-later-requires
-    shifted-requires
+    (λ c κs. search needs) (λ c κs. search needs) (λ c κs. search needs) (λ c κs. search needs) (λ c κs. search needs)
     returns)

@@ -4,16 +4,10 @@ use borrow.Author.Needs.{needs}
 use Rattle.luck_token.proofs.span.Span.from_indices.Statement.{statement}
 use Rattle.luck_token.proofs.span.Span.from_indices.Tie as tie
 
-index-to-offset-requires : tie.Need-index-to-offset-requires
-index-to-offset-requires c κs = search needs
-
-index-to-offset-requires-2 : tie.Need-index-to-offset-requires-2
-index-to-offset-requires-2 c κs = search needs
-
 returns : tie.Need-returns
 unfolding spanOf
 returns c = cc (c .before .index-to-offset .ensures, c .index-to-offset2 .ensures)
 
 pub from-indices-spec : {M : Type 1} → statement M
 from-indices-spec =
-    tie.close (tie.spec index-to-offset-requires index-to-offset-requires-2 returns)
+    tie.close (tie.spec (λ c κs. search needs) (λ c κs. search needs) returns)
