@@ -15,7 +15,7 @@ use Rattle.luck_text.proofs.Cases.{by-test, if-true, if-false, both-true, first
 use Rattle.luck_text.proofs.Bytes.{within, below, above}
 use Rattle.luck_text.proofs.Walk.{walk-end}
 use Rattle.luck_pattern.specs.Reading.{Head, at-open, at-close, at-percent, at-set, at-other, headOf, Escape, esc-digit, esc-balance, esc-frontier, esc-other, esc-end, escapeOf, escapeAt, SetEnd, closes-at, cut-at, unclosed, firstMember, setEnd, memberTurn, membersEnd}
-use Rattle.luck_pattern.specs.Pattern.{Read as Scanned, past, fault, closedAs, reversedOf, setAs, setRead}
+use Rattle.luck_pattern.specs.Pattern.{Scanned, past, fault, closedAs, reversedOf, setAs, setRead}
 use Rattle.luck_pattern.specs.Items.{
   setOf,
   Single,

@@ -18,7 +18,7 @@ use Rattle.luck_text.proofs.Walk.{walk-end, walk-stop, walk-goes}
 use Rattle.luck_answer.specs.Answer.{Answer, accepted, refused, refusedWith, afterVersion, afterUtf8, checkText}
 use Rattle.luck_pattern.specs.Captures.{latestOpen, closeAt, closeLatest, isClosed, allClosed}
 use Rattle.luck_pattern.specs.Reading.{Head, at-open, at-close, at-percent, at-set, at-other, headOf, Escape, esc-digit, esc-balance, esc-frontier, esc-other, esc-end, escapeAt, SetEnd, closes-at, cut-at, unclosed, firstMember, setEnd}
-use Rattle.luck_pattern.specs.Pattern.{isEmptySet, Read as Found, past, fault, closedAs, reversedOf, setAs, setRead, escapeAs, escapeRead, onward, afterClose, headTurn, patternTurn, patternEnd, patternWalk, checkPatternAs}
+use Rattle.luck_pattern.specs.Pattern.{isEmptySet, Scanned as Found, past, fault, closedAs, reversedOf, setAs, setRead, escapeAs, escapeRead, onward, afterClose, headTurn, patternTurn, patternEnd, patternWalk, checkPatternAs}
 use Rattle.luck_pattern.specs.Items.{
   Single,
   any,

@@ -18,12 +18,12 @@ use Rattle.luck_answer.proofs.Answers.{Stops, walk-every}
 use Rattle.luck_linter.proofs.Counts.{Counts, walk-counts, isWalked, Walked}
 use Rattle.luck_pattern.specs.Captures.{latestOpen, closeAt, closeLatest, isClosed, allClosed}
 use Rattle.luck_pattern.specs.Reading.{Head, at-open, at-close, at-percent, at-set, at-other, headOf, Escape, esc-digit, esc-balance, esc-frontier, esc-other, esc-end, escapeAt, Member, closing-bracket, escaped-member, cut-escape, byte-member, memberAt, SetEnd, closes-at, cut-at, unclosed, memberBy, memberTurn, membersEnd, firstMember, setEnd}
-use Rattle.luck_pattern.specs.Pattern.{isEmptySet, Read, past, fault, closedAs, reversedOf, setAs, setRead, escapeAs, escapeRead, onward, afterClose, headTurn, patternTurn, patternEnd, patternWalk}
+use Rattle.luck_pattern.specs.Pattern.{isEmptySet, Scanned, past, fault, closedAs, reversedOf, setAs, setRead, escapeAs, escapeRead, onward, afterClose, headTurn, patternTurn, patternEnd, patternWalk}
 
 abbrev AnswerIn : ℕ → Answer → Type 0
 AnswerIn len answer = Walked len (numbers pattern) answer
 
-abbrev ReadIn : ℕ → Read → Type 0
+abbrev ReadIn : ℕ → Scanned → Type 0
 ReadIn len (past q) = Unit {0}
 ReadIn len (fault answer) = AnswerIn len answer
 
@@ -97,7 +97,7 @@ module _ (text : List ℕ) where
     abbrev TurnIn : Turn (List Bool) Answer → Type 0
     TurnIn turn = Counts length (AnswerIn (length text)) (length captures) turn
 
-    onward-in : (r : Read) → ReadIn (length text) r → TurnIn (onward p captures r)
+    onward-in : (r : Scanned) → ReadIn (length text) r → TurnIn (onward p captures r)
     unfolding onward
     onward-in (past q) h = omega arith
     onward-in (fault answer) h = h

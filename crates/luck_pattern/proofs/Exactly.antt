@@ -21,7 +21,7 @@ use Rattle.luck_utf8.specs.Utf8.{illFormed}
 use Rattle.luck_answer.specs.Answer.{Answer, accepted, refused, refusedWith, afterVersion, afterUtf8, checkText}
 use Rattle.luck_pattern.specs.Captures.{closeLatest, isClosed, allClosed}
 use Rattle.luck_pattern.specs.Reading.{Head, at-open, at-close, at-percent, at-set, at-other, headOf, Escape, esc-digit, esc-balance, esc-frontier, esc-other, esc-end, escapeAt, SetEnd, closes-at, cut-at, unclosed, firstMember, setEnd}
-use Rattle.luck_pattern.specs.Pattern.{isEmptySet, Read, past, fault, onward, afterClose, patternEnd, closedAs, reversedOf, setAs, setRead, escapeAs, escapeRead, headTurn, patternTurn, patternWalk, checkPatternAs, itemReversed, tested}
+use Rattle.luck_pattern.specs.Pattern.{isEmptySet, Scanned, past, fault, onward, afterClose, patternEnd, closedAs, reversedOf, setAs, setRead, escapeAs, escapeRead, headTurn, patternTurn, patternWalk, checkPatternAs, itemReversed, tested}
 use Rattle.luck_pattern.proofs.Places.{ClosesFrom, first-behind, set-closes}
 use Rattle.luck_pattern.proofs.Ranges.{turn-tested, Reversed, walk-or-39}
 
@@ -66,14 +66,14 @@ module _ (pat : List ℕ) where
   unfolding escapeAs setRead
   sane-escape p captures esc-end f = sane-fault p captures (refused 1 p) (omega arith)
   sane-escape p captures (esc-digit d) f =
-      by-test (λ (r : Read). Sane p (onward p captures r)) (isClosed captures d) _ _
+      by-test (λ (r : Scanned). Sane p (onward p captures r)) (isClosed captures d) _ _
       (λ t. sane-past p captures (p + 2) (omega arith) (omega (arith, escape-there (p + 1) (esc-digit d) f tt)))
       (λ t. sane-fault p captures (refused 13 (p + 1)) (omega arith))
   sane-escape p captures esc-balance f =
-      by-test (λ (r : Read). Sane p (onward p captures r)) (ltb (p + 3) (length pat)) _ _
+      by-test (λ (r : Scanned). Sane p (onward p captures r)) (ltb (p + 3) (length pat)) _ _
       (λ t. sane-past p captures (p + 4) (omega arith) (omega (arith, ltb-true (p + 3) (length pat) t))) (λ t. sane-fault p captures (refused 1 p) (omega arith))
   sane-escape p captures esc-frontier f =
-      by-test (λ (r : Read). Sane p (onward p captures r)) (eqb (byteAt pat (p + 2)) 91) _ _
+      by-test (λ (r : Scanned). Sane p (onward p captures r)) (eqb (byteAt pat (p + 2)) 91) _ _
       (λ t. sane-set p (p + 2) captures (omega arith) (setEnd pat (p + 2)) (set-closes pat (p + 2))) (λ t. sane-fault p captures (refusedWith 10 p 102) (omega arith))
   sane-escape p captures esc-other f = sane-past p captures (p + 2) (omega arith) (omega (arith, escape-there (p + 1) esc-other f tt))
 

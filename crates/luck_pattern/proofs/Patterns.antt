@@ -18,7 +18,7 @@ use Rattle.luck_answer.specs.Answer.{Answer, accepted, refused, refusedWith, re
 use Rattle.luck_pattern.specs.Elements.{firstReversed}
 use Rattle.luck_pattern.specs.Captures.{closeLatest, isClosed, allClosed}
 use Rattle.luck_pattern.specs.Reading.{Head, at-open, at-close, at-percent, at-set, at-other, headOf, Escape, esc-digit, esc-balance, esc-frontier, esc-other, esc-end, escapeOf, escapeAt, memberAt, SetEnd, closes-at, cut-at, unclosed, memberBy, memberTurn, membersEnd, firstMember, setEnd}
-use Rattle.luck_pattern.specs.Pattern.{isEmptySet, Read, past, fault, closedAs, reversedOf, setAs, setRead, escapeAs, escapeRead, onward, afterClose, headTurn, patternTurn, patternEnd, patternWalk}
+use Rattle.luck_pattern.specs.Pattern.{isEmptySet, Scanned, past, fault, closedAs, reversedOf, setAs, setRead, escapeAs, escapeRead, onward, afterClose, headTurn, patternTurn, patternEnd, patternWalk}
 use Rattle.luck_pattern.specs.Inner.{readOf, ScanWithin}
 use Rattle.luck_answer.specs.declared.format_pattern.PatternError.{PatternError}
 use Rattle.luck_pattern.specs.declared.pattern.Scan.{Scan}
@@ -284,7 +284,7 @@ module _ (ranges : Bool) (text : List ℕ) (p : ℕ) (captures : List Bool) wher
     turn-unmatched e h = stops (refused 11 p) (item-as at-close (of-close (byteAt text p) e) ∙ ap (afterClose p) (sym h))
 
     -- what a scan found takes the walk on to the place after it, or ends it
-    module _ (r : Scan) (read : Read) (told : readOf r ≡ read) (here : patternTurn ranges text p captures ≡ onward p captures read) where
+    module _ (r : Scan) (read : Scanned) (told : readOf r ≡ read) (here : patternTurn ranges text p captures ≡ onward p captures read) where
       pub turn-past : (q : ℕ) → r ≡ Past q → ScanWithin r p (length text) → items ranges text q captures ≡ patternWalk ranges text
       unfolding onward
       turn-past q e w =

@@ -6,7 +6,7 @@ use mathlib.Core.List.{List, [], _∷_}
 use mathlib.Core.Option.{Option, none, some}
 use lib.Dec.{eqb}
 use Rattle.luck_answer.specs.Answer.{refusal}
-use Rattle.luck_pattern.specs.Pattern.{Read, past, fault}
+use Rattle.luck_pattern.specs.Pattern.{Scanned, past, fault}
 use Rattle.luck_pattern.specs.declared.pattern.Scan.{Scan}
 use Rattle.luck_pattern.specs.declared.pattern.Scan.the-variants as scan
 use Rattle.luck_pattern.specs.declared.pattern.Closing.{Closing}
@@ -17,7 +17,7 @@ unfoldable pub flagsOfWord : ℕ → ℕ → List Bool
 flagsOfWord zero word = []
 flagsOfWord (suc count) word = eqb (word % 2) 0 ∷ flagsOfWord count (word / 2)
 
-abbrev pub readOf : Scan → Read
+abbrev pub readOf : Scan → Scanned
 readOf (scan.Past q) = past q
 readOf (scan.Fault e) = fault (refusal e)
 

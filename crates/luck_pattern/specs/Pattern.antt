@@ -22,11 +22,11 @@ unfoldable pub isEmptySet : List ℕ → ℕ → Bool
 isEmptySet pat p = let first = firstMember pat p in eqb (byteAt pat first) (code "]") && eqb (first + 1) (length pat)
 
 -- an escape or a set was read, and the next item starts at a place; or a fault was found
-pub data Read : Type 0 where
-  past : ℕ → Read
-  fault : Answer → Read
+pub data Scanned : Type 0 where
+  past : ℕ → Scanned
+  fault : Answer → Scanned
 
-unfoldable pub onward : ℕ → List Bool → Read → Turn (List Bool) Answer
+unfoldable pub onward : ℕ → List Bool → Scanned → Turn (List Bool) Answer
 onward p captures (past q) = goes (q - p) captures
 onward p captures (fault answer) = stop answer
 
@@ -38,7 +38,7 @@ unfoldable pub patternEnd : List ℕ → ℕ → List Bool → Answer
 patternEnd pat p captures = if allClosed captures then accepted (length captures) else refused 11 (length pat)
 
 -- a set that closes at place e is passed over, unless it has a reversed range
-unfoldable pub closedAs : ℕ → Option ℕ → Read
+unfoldable pub closedAs : ℕ → Option ℕ → Scanned
 closedAs e none = past (e + 1)
 closedAs e (some left) = fault (refused 39 left)
 
@@ -47,17 +47,17 @@ module _ (ranges : Bool) (pat : List ℕ) where
   unfoldable pub reversedOf : ℕ → ℕ → Option ℕ
   reversedOf p e = if ranges then firstReversed pat e (firstMember pat p) else none
 
-  unfoldable pub setAs : ℕ → SetEnd → Read
+  unfoldable pub setAs : ℕ → SetEnd → Scanned
   setAs p (closes-at e) = closedAs e (reversedOf p e)
   setAs p (cut-at e) = fault (refused 1 e)
   setAs p unclosed = fault (refused (if isEmptySet pat p then 9 else 8) p)
 
   -- the set whose `[` stands at p
-  unfoldable pub setRead : ℕ → Read
+  unfoldable pub setRead : ℕ → Scanned
   setRead p = setAs p (setEnd pat p)
 
   -- the escape whose `%` stands at p, after these captures
-  unfoldable pub escapeAs : ℕ → List Bool → Escape → Read
+  unfoldable pub escapeAs : ℕ → List Bool → Escape → Scanned
   escapeAs p captures esc-end = fault (refused 1 p)
   escapeAs p captures (esc-digit d) = if isClosed captures d then past (p + 2) else fault (refused 13 (p + 1))
   escapeAs p captures esc-balance = if ltb (p + 3) (length pat) then past (p + 4) else fault (refused 1 p)
@@ -66,7 +66,7 @@ module _ (ranges : Bool) (pat : List ℕ) where
       if eqb (byteAt pat (p + 2)) (code "[") then set else fault (refusedWith 10 p (code "f"))
   escapeAs p captures esc-other = past (p + 2)
 
-  unfoldable pub escapeRead : ℕ → List Bool → Read
+  unfoldable pub escapeRead : ℕ → List Bool → Scanned
   escapeRead p captures = escapeAs p captures (escapeAt pat (p + 1))
 
   -- the item at place p, after these captures
