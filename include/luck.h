@@ -34,7 +34,7 @@
  *    3  BAD_FLAG              the sixth flag of a specifier; at that flag; carries it (versions 1, 2, 3 and 6)
  *    4  BAD_WIDTH             a width of more than two digits; at its first (versions 1, 2, 3 and 6)
  *    5  BAD_PRECISION         a precision of more than two digits; at its first (versions 1, 2, 3 and 6)
- *    6  BAD_MODIFIER          a flag, a third digit, a `.` or a precision that the conversion does not take; at that
+ *    6  BAD_MODIFIER          a flag, a digit or a `.` that the conversion does not take, or not in that place; at that
  *                             byte; carries it, and the conversion (versions 4 and 5)
  *    7  LONG_SPECIFIER        21 or more modifiers; at the first (versions 4 and 5)
  *    pattern

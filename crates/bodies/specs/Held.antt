@@ -20,6 +20,8 @@ Unended bytes room = (lineLength bytes ≡ length bytes) × (length bytes < room
 abbrev pub heldIn : Held → List ℕ → List ℕ
 heldIn held buffer = part buffer (held .at) (held .end)
 
--- where there is more to do: these bytes are held, and perhaps others after them, and whether their line is too long already is as it was
+-- where there is more to do: these bytes are held, and perhaps others after them, and whether their line is too long
+-- already is as it was
 abbrev pub HeldGoesOn : List ℕ → Bool → Held → List ℕ → Type 0
-HeldGoesOn bytes long held buffer = held .more ≡ true → (held .long ≡ long) × (take (length bytes) (heldIn held buffer) ≡ bytes)
+HeldGoesOn bytes long held buffer =
+    held .more ≡ true → (held .long ≡ long) × (take (length bytes) (heldIn held buffer) ≡ bytes)

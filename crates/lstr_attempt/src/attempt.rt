@@ -147,8 +147,8 @@ fn last_repeat(
     outcome::matched(reach.end, 0, reach.steps + 1)
 }
 
-// An attempt: a loop over the items, as do_match's, up to the first capture, or to an item that asks for a new level that can fail. Such an item is
-// begun again by do_match, with the steps from before it.
+// An attempt: a loop over the items, as do_match's, up to the first capture, or to an item that is left to do_match: `)`, `%b`, `%f`, a back-reference, an
+// error, a repeat whose rest can fail. Such an item is begun again there, with the steps from before it.
 pub fn attempt(
     classes: &[u8; 512],
     subject: &[u8],

@@ -9,7 +9,7 @@ use lstr_item::item::Item;
 
 // What every attempt of a pattern tests first, and how an attempt goes on from that test.
 pub struct Lead {
-    // the single that is tested first, and the steps of an attempt that fails by it; no steps where the pattern begins otherwise
+    // the single that is tested first, and the steps until it has failed, which ends the attempt unless it is skipped; no steps where nothing is known
     pub first: Ahead,
     // where it fits, a single without a repeat is passed, and the attempt goes on behind it
     pub goes_on: bool,
@@ -21,7 +21,7 @@ pub struct Lead {
     pub is_captured: bool,
 }
 
-// The lead of a pattern, read once for all its attempts. A position is no start of a capture.
+// The lead of a pattern, read once for all its attempts. `is_captured` is set by `(` and not by `()`.
 pub fn lead_of(pattern: &[u8]) -> Lead
     ensures { λ r. ⌜ LeadIn (now (pattern .entry)) r ⌝ }
 {

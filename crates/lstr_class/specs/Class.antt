@@ -56,6 +56,6 @@ classBy (some inside) cl c = if isUpper cl then not inside else inside
 unfoldable pub matchClass : ℕ → ℕ → Bool
 matchClass cl c = classBy (classTest (toLower cl) c) cl c
 
--- the class test of a version's trials: that of 5.4 in every version
+-- the class test of a version's trials: document 01 has the matching rules of 5.4 in every version
 unfoldable pub classOf : ℕ → ℕ → ℕ → Bool
 classOf version = matchClass

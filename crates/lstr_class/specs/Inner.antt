@@ -1,4 +1,5 @@
--- What the code of classes and of the subject promises the matching. This crate is for the trial only, and no contract of `gsub` rests on these.
+-- What the code of classes and of the subject promises the matching. This crate is for the trial only, and no contract
+-- of `gsub` rests on these.
 -- Assumes nothing.
 use Prim.Native.Nat.{ℕ, _+_, _<_, _≤_}
 use Prim.Native.Char.{code}
@@ -46,7 +47,8 @@ bit n false = 0
 -- the mask of a byte
 unfoldable pub maskOf : ℕ → ℕ
 maskOf c =
-    bit cntrl (isCntrl c) + bit digit (isDigit c) + bit lower (isLower c) + bit punct (isPunct c) + bit space (isLuaWhitespace c) + bit upper (isUpper c)
+    bit cntrl (isCntrl c) + bit digit (isDigit c) + bit lower (isLower c) + bit punct (isPunct c)
+    + bit space (isLuaWhitespace c) + bit upper (isUpper c)
     + bit xdigit (isXdigit c) + bit zeroByte (eqb c 0)
 
 -- the bits of the class that a small letter names, 0 where it names none
@@ -68,8 +70,10 @@ classBits letter =
 unfoldable pub bitsOf : ℕ → ℕ
 bitsOf cl = classBits (toLower cl)
 
--- ---- The table of classes that is lent: the masks of the 256 bytes, then the bits of the class that each of them names
+-- ---- The table of classes that is lent
 
+-- it has the masks of the 256 bytes, then the bits of the class that each of them names. Numbers of 256 and more are no
+-- bytes: without the test they would read the second half as masks. Past the table bitsIn reads 0
 abbrev pub maskIn : List ℕ → ℕ → ℕ
 maskIn table c = if ltb c 256 then byteAt table c else 0
 

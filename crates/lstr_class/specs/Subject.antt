@@ -1,5 +1,5 @@
--- Tests of the subject's bytes that need no pattern: equal parts, balanced pairs and the byte before a place (match_capture, matchbalance and `%f` of lstrlib.c 5.4;
--- document 01, "The trial").
+-- Tests of the subject's bytes that need no pattern: equal parts, balanced pairs and the byte before a place
+-- (match_capture, matchbalance and `%f` of lstrlib.c 5.4; document 01, "The trial").
 -- In what follows s is a place of the subject.
 -- Assumes nothing.
 use Prim.Native.Nat.{ℕ, zero, suc, _+_, _-_}

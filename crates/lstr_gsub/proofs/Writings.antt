@@ -13,7 +13,8 @@ use borrow.Author.Tests.{eqb-false, leb-true, leb-false}
 use Rattle.luck_text.specs.Bytes.{if_then_else_, part, among}
 use Rattle.luck_token.specs.Version.{isVersion, versions, has, rulesOf}
 use Rattle.luck_text.proofs.Cases.{by-test, and-left, and-right}
-use Rattle.luck_answer.specs.Answer.{Answer, accepted, refused, afterVersion, checkText}
+use Rattle.luck_token.specs.Text.{afterVersion, afterUtf8, afterText}
+use Rattle.luck_answer.specs.Answer.{Answer, accepted, refused, checkText}
 use Rattle.luck_pattern.specs.Captures.{allClosed}
 use Rattle.luck_replacement.specs.Replacement.{
   isStrict,
@@ -50,7 +51,7 @@ strict-of (suc (suc (suc (suc (suc (suc zero)))))) v n = refl
 strict-of (suc (suc (suc (suc (suc (suc (suc k))))))) v n = absurd (omega (arith, leb-true (suc (suc (suc (suc (suc (suc (suc k))))))) 6 (and-right (leb 1 (suc (suc (suc (suc (suc (suc (suc k)))))))) _ v)))
 
 version-accepted : (version : ℕ) (text : List ℕ) (walked : Answer) (k : ℕ) → checkText version text walked ≡ accepted k → isVersion version ≡ true
-unfolding checkText afterVersion
+unfolding checkText afterText afterVersion
 version-accepted version text walked k e = if-passed (isVersion version) _ 25 0 k (omega arith) e .0
 
 module _ (version : ℕ) (count : Option ℕ) (rep : List ℕ) (k : ℕ) (ok : checkReplacement version count rep ≡ accepted k) where

@@ -1,4 +1,5 @@
--- The trial of gsub (str_gsub of lstrlib.c 5.4, and document 01, "The trial"), within a budget of steps and into an output of a given room.
+-- The trial of gsub (str_gsub of lstrlib.c 5.4, and document 01, "The trial"), within a budget of steps and into an
+-- output of a given room.
 -- Assumes nothing.
 use Prim.Native.Nat.{ℕ, zero, suc, _+_, _-_}
 use Prim.Native.Char.{code}
@@ -36,7 +37,14 @@ pub record Report : Type 0 where
   pub steps : ℕ
 
 abbrev pub report : TrialResult → Report
-report a = record { number = a .number; kind = a .kind; written = length (a .written); replacements = a .replacements; steps = a .steps }
+report a =
+    record {
+      number = a .number;
+      kind = a .kind;
+      written = length (a .written);
+      replacements = a .replacements;
+      steps = a .steps;
+    }
 
 -- the lent output at exit
 abbrev pub outputAfter : List ℕ → TrialResult → List ℕ
@@ -88,11 +96,12 @@ module _ (sub : List ℕ) (room : ℕ) where
     anchoredRound (matched e cs u) = andWrote (write 0 e cs []) 1 u (λ now. copyRest e now 1 u)
 
 module _ (inClass : ℕ → ℕ → Bool) (sub : List ℕ) (budget room : ℕ) (write : Writer) where
-  -- an attempt starts at level 1 and takes a step at least, or ends the trial by 27: there are no more rounds than steps left, and one more, so the first case is never
-  -- reached from `rounds` (`one-round` of proofs/Rounds.antt)
+  -- an attempt starts at level 1 and takes a step at least, or ends the trial by 27: there are no more rounds than
+  -- steps left, and one more, so the first case is never reached from `rounds` (`one-round` of proofs/Rounds.antt)
   unfoldable pub roundsFrom : List Item → ℕ → Rounds
   roundsFrom is zero s last out n u = result 0 0 out n u
-  roundsFrom is (suc fuel) s last out n u = round sub room write (roundsFrom is fuel) (match inClass sub budget is s 1 [] u) s last out n
+  roundsFrom is (suc fuel) s last out n u =
+      round sub room write (roundsFrom is fuel) (match inClass sub budget is s 1 [] u) s last out n
 
   unfoldable pub rounds : List Item → Rounds
   rounds is s last out n u = roundsFrom is (suc (budget - u)) s last out n u
@@ -116,4 +125,11 @@ gsub version pat rep sub budget room =
 
 -- the code's answer
 abbrev pub reportOf : Trial → Report
-reportOf r = record { number = r .number; kind = r .kind; written = r .written; replacements = r .replacements; steps = r .steps }
+reportOf r =
+    record {
+      number = r .number;
+      kind = r .kind;
+      written = r .written;
+      replacements = r .replacements;
+      steps = r .steps;
+    }

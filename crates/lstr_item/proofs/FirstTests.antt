@@ -27,7 +27,7 @@ module _ (pat : List ℕ) (p e : ℕ) where
       }
 
 pub nothing-ahead : (pat : List ℕ) (p n : ℕ) (a : Ahead) → a .steps ≡ 0 → SingleAhead pat p n a
-nothing-ahead pat p n a z = record { at = λ h. absurd (omega arith); steps = λ h. absurd (omega arith); fits = λ h. absurd (omega arith) }
+nothing-ahead pat p n a z = record { at = λ h. absurd (omega arith); steps = λ h. absurd (omega arith); must = λ h. absurd (omega arith) }
 
 -- what the code says of a single that was read
 abbrev Required : ℕ → ℕ → Repeat → ℕ → Ahead → Type 0
@@ -35,7 +35,7 @@ Required p e k n a = 0 < a .steps → (hasToFit k ≡ true) × (a .steps ≡ n) 
 
 pub single-ahead : (pat : List ℕ) (p e : ℕ) (k : Repeat) (n : ℕ) (a : Ahead) → Single-then pat p e k → Required p e k n a → SingleAhead pat p n a
 single-ahead pat p e k n a i f =
-    record { at = λ h. f h .2; steps = λ h. f h .1; fits = λ h. rw (f h .3) (must-fit pat p e k (f h .0) i) }
+    record { at = λ h. f h .2; steps = λ h. f h .1; must = λ h. rw (f h .3) (must-fit pat p e k (f h .0) i) }
 
 -- ---- At a new level
 
@@ -75,7 +75,7 @@ module _ (count : ℕ) (isOpen : Bool) where
     pub sure-one : l < 200 → SingleAhead pat next 1 a → 0 < a .steps → Sure pat next l count isOpen a
     sure-one h b z =
         let p = b .at z in
-        let m = b .fits z in
+        let m = b .must z in
         record {
           single = rw p (m .single);
           fails = λ inClass sub budget s cs u n o g f.
@@ -88,7 +88,7 @@ module _ (count : ℕ) (isOpen : Bool) where
         → Sure pat next l count isOpen a
     sure-two i after opens h t b z =
         let p = b .at z in
-        let m = b .fits z in
+        let m = b .must z in
         record {
           single = rw p (m .single);
           fails = λ inClass sub budget s cs u n o g f.

@@ -1,4 +1,5 @@
--- What the functions that look ahead promise each other, the matching and the attempts. This crate is for the trial only, and no contract of `gsub` rests on these.
+-- What the functions that look ahead promise each other, the matching and the attempts. This crate is for the trial
+-- only, and no contract of `gsub` rests on these.
 -- Assumes nothing.
 use Prim.Native.Nat.{ℕ, _+_, _<_, _≤_}
 use mathlib.Core.Path.{_≡_}
@@ -15,15 +16,17 @@ use Rattle.lstr_item.specs.Inner.{singleOf, SingleIn}
 pub record MustFit (pat : List ℕ) (p e : ℕ) : Type 0 where
   pub single : SingleIn pat p e
   pub fails : (inClass : ℕ → ℕ → Bool) (sub : List ℕ) (budget s l : ℕ) (cs : List Capture) (u : ℕ) → u < budget
-      → fitsAt inClass sub (singleOf pat p e) s ≡ false → failed (u + 1) ≡ match inClass sub budget (items pat p) s l cs u
+      → fitsAt inClass sub (singleOf pat p e) s ≡ false
+      → failed (u + 1) ≡ match inClass sub budget (items pat p) s l cs u
 
 -- nothing is known, or such a single stands at place p, whose failure is the last of n steps
 pub record SingleAhead (pat : List ℕ) (p n : ℕ) (a : Ahead) : Type 0 where
   pub at : 0 < a .steps → a .at ≡ p
   pub steps : 0 < a .steps → a .steps ≡ n
-  pub fits : 0 < a .steps → MustFit pat p (a .suffix)
+  pub must : 0 < a .steps → MustFit pat p (a .suffix)
 
--- the items from place `next` on, at a new level and behind at most so many captures, fail with these steps where the single ahead does not fit
+-- the items from place `next` on, at a new level above l, behind at most `count` captures, one of them open where
+-- `isOpen`, fail with these steps where the single ahead does not fit
 pub record Sure (pat : List ℕ) (next l count : ℕ) (isOpen : Bool) (a : Ahead) : Type 0 where
   pub single : SingleIn pat (a .at) (a .suffix)
   pub fails : (inClass : ℕ → ℕ → Bool) (sub : List ℕ) (budget s : ℕ) (cs : List Capture) (u : ℕ)

@@ -1,4 +1,5 @@
--- What the code of items, singles and captures promises the matching and the writing of a match. This crate is for the trial only, and no contract of `gsub` rests on these.
+-- What the code of items, singles and captures promises the matching and the writing of a match. This crate is for the
+-- trial only, and no contract of `gsub` rests on these.
 -- Assumes nothing.
 use Prim.Native.Nat.{ℕ, zero, suc, _+_, _-_, _<_, _≤_}
 use Prim.Native.Char.{code}
@@ -10,8 +11,45 @@ use lib.ListN.{length, getD}
 use lib.Dec.{eqb}
 use Rattle.luck_text.specs.Bytes.{if_then_else_, byteAt}
 use Rattle.luck_pattern.specs.Reading.{SetEnd, closes-at, cut-at, unclosed}
-use Rattle.luck_pattern.specs.Items.{Single, any, class, among-set, byte, Repeat, once, optional, star, plus, minus, Item, start-capture, position-capture, end-capture, end-anchor, balance, frontier, back-reference, single, raises, setOf, repeatWidth, items}
-use Rattle.lstr_item.specs.Match.{Capture, opened, position, closed, failed, raised, Rest, Reach, reached, spent, reach}
+use Rattle.luck_pattern.specs.Items.{
+  Single,
+  any,
+  class,
+  among-set,
+  byte,
+  Repeat,
+  once,
+  optional,
+  star,
+  plus,
+  minus,
+  Item,
+  start-capture,
+  position-capture,
+  end-capture,
+  end-anchor,
+  balance,
+  frontier,
+  back-reference,
+  single,
+  raises,
+  setOf,
+  repeatWidth,
+  items,
+}
+use Rattle.lstr_item.specs.Match.{
+  Capture,
+  opened,
+  position,
+  closed,
+  failed,
+  raised,
+  Rest,
+  Reach,
+  reached,
+  spent,
+  reach,
+}
 use Rattle.lstr_class.specs.declared.subject.Found.{Found}
 use Rattle.lstr_class.specs.declared.subject.Found.the-variants as found
 use Rattle.lstr_item.specs.declared.single.Reached.{Reached}

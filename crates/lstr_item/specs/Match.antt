@@ -1,6 +1,8 @@
--- Matching: what each item of a pattern does at a place of the subject, as `match` of lstrlib.c 5.4 (document 01, "The trial", calls it do_match). A step is due when
--- an item is begun and for each test that a repeat makes after its single's own.
--- In what follows s is a place of the subject, l the level, cs the captures in the order of their `(`, u the steps used.
+-- Matching: what each item of a pattern does at a place of the subject, as `match` of lstrlib.c 5.4 (document 01, "The
+-- trial", calls it do_match). A step is due when an item is begun and for each test that a repeat makes after its
+-- single's own.
+-- In what follows s is a place of the subject, l the level, cs the captures in the order of their `(`, u the steps
+-- used.
 -- Assumes nothing.
 use Prim.Native.Nat.{ℕ, zero, suc, _+_, _-_}
 use mathlib.Core.Bool.{Bool, true, false, not, _&&_}
@@ -62,10 +64,11 @@ captureToClose cs = latestOpen (flagsOf cs)
 
 -- ---- Outcomes
 
--- of an attempt: the match's end, its captures and the steps used; no match; or what stopped it, by number and kind (0 unless the number is 29).
--- The kinds of 29, by lstrlib.c's message: 1 pattern ends with '%'; 2 missing ']'; 3 missing '[' after '%f'; 4 missing arguments to '%b'; 5 invalid
--- pattern capture; 6 unfinished capture; 7 invalid capture index in the pattern; 8 too many captures; 9 invalid use of '%' in the replacement;
--- 10 invalid capture index in the replacement
+-- of an attempt: the match's end, its captures and the steps used; no match; or what stopped it, by number and kind (0
+-- unless the number is 29).
+-- The kinds of 29, by lstrlib.c's message: 1 pattern ends with '%'; 2 missing ']'; 3 missing '[' after '%f'; 4 missing
+-- arguments to '%b'; 5 invalid pattern capture; 6 unfinished capture; 7 invalid capture index in the pattern; 8 too
+-- many captures; 9 invalid use of '%' in the replacement; 10 invalid capture index in the replacement
 pub data Outcome : Type 0 where
   matched : ℕ → List Capture → ℕ → Outcome
   failed : ℕ → Outcome
@@ -98,7 +101,8 @@ orElse (stopped number kind u) k = stopped number kind u
 
 -- ---- Items
 
--- start_capture: raises 8 where there are `maxCaptures` already; a failing level takes the capture back, since the captures are handed on by value
+-- start_capture: raises 8 where there are `maxCaptures` already; a failing level takes the capture back, since the
+-- captures are handed on by value
 unfoldable pub startCapture : Capture → Rest → ℕ → ℕ → List Capture → ℕ → Outcome
 startCapture c rest s l cs u =
     let on = newLevel l u (λ m. rest s m (cs ++ (c ∷ [])) u) in
@@ -162,7 +166,8 @@ unfoldable pub fitsAt : (ℕ → ℕ → Bool) → List ℕ → Single → ℕ �
 fitsAt inClass sub x s = ltb s (length sub) && fits inClass x (byteAt sub s)
 
 module _ (inClass : ℕ → ℕ → Bool) (sub : List ℕ) (budget : ℕ) where
-  -- max_expand's first loop, from s on: a step for each test, the failing one and one at the subject's end included. n bytes are left
+  -- max_expand's first loop, from s on: a step for each test, the failing one and one at the subject's end included. n
+  -- bytes are left
   unfoldable pub reach : Single → ℕ → ℕ → ℕ → Reach
   reach x zero s u = if ltb u budget then reached s (u + 1) else spent u
   reach x (suc n) s u =
@@ -170,7 +175,8 @@ module _ (inClass : ℕ → ℕ → Bool) (sub : List ℕ) (budget : ℕ) where
       let tested = if fitsAt inClass sub x s then more else reached s (u + 1) in
       if ltb u budget then tested else spent u
 
-  -- min_expand, once the rest has failed at s: one more byte is tested, with a step, and the rest tried after it. n bytes are left
+  -- min_expand, once the rest has failed at s: one more byte is tested, with a step, and the rest tried after it. n
+  -- bytes are left
   unfoldable pub minExpand : Single → Rest → ℕ → ℕ → ℕ → List Capture → ℕ → Outcome
   minExpand x rest zero s l cs u = due budget u (λ v. failed v)
   minExpand x rest (suc n) s l cs u =

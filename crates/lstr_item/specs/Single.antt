@@ -1,4 +1,5 @@
--- Which bytes a single takes (matchbracketclass and singlematch of lstrlib.c 5.4; document 01, "The trial"), over a test for classes such as matchClass.
+-- Which bytes a single takes (matchbracketclass and singlematch of lstrlib.c 5.4; document 01, "The trial"), over a
+-- test for classes such as matchClass.
 -- Assumes nothing.
 use Prim.Native.Nat.{ℕ}
 use mathlib.Core.Bool.{Bool, true, false, not, _||_}

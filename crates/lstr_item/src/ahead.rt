@@ -12,6 +12,9 @@ use crate::item::Item;
 use crate::item::Repeat;
 use crate::single;
 
+// The level above which two more can't be opened: MAXCCALLS of lstrlib.c is 200.
+const LAST_BUT_ONE: u32 = 199;
+
 // The single from `at` up to its suffix fails the rest of a pattern where it does not fit, after so many steps; with no steps nothing is known. Neighbours are of
 // different widths, as in Attempt.
 pub struct Ahead {
@@ -56,8 +59,8 @@ pub fn single_at(pattern: &[u8], at: usize, steps: u32) -> Ahead
 pub fn first_test(pattern: &[u8], next: usize, level: u32, count: usize, is_open: bool) -> Ahead
     ensures { λ r. ⌜ (0 < r .steps → Sure (now (pattern .entry)) next level count «is_open» r) ⌝ }
 {
-    // what stands before the single opens a second level
-    if 199 <= level {
+    // one level for the rest, and one more for a capture before its single
+    if LAST_BUT_ONE <= level {
         return nothing();
     }
     let item = item::read(pattern, next);

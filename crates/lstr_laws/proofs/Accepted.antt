@@ -15,7 +15,8 @@ use Rattle.luck_utf8.specs.Utf8.{illFormed}
 use Rattle.luck_token.specs.Version.{isVersion}
 use Rattle.luck_text.proofs.Cases.{by-test, present, and-right}
 use Rattle.luck_text.proofs.Walk.{walk-end, walk-stop, walk-goes}
-use Rattle.luck_answer.specs.Answer.{Answer, accepted, refused, refusedWith, afterVersion, afterUtf8, checkText}
+use Rattle.luck_token.specs.Text.{afterVersion, afterUtf8, afterText}
+use Rattle.luck_answer.specs.Answer.{Answer, accepted, refused, refusedWith, checkText}
 use Rattle.luck_pattern.specs.Captures.{latestOpen, closeAt, closeLatest, isClosed, allClosed}
 use Rattle.luck_pattern.specs.Reading.{Head, at-open, at-close, at-percent, at-set, at-other, headOf, Escape, esc-digit, esc-balance, esc-frontier, esc-other, esc-end, escapeAt, SetEnd, closes-at, cut-at, unclosed, firstMember, setEnd}
 use Rattle.luck_pattern.specs.Pattern.{isEmptySet, Scanned as Found, past, fault, closedAs, reversedOf, setAs, setRead, escapeAs, escapeRead, onward, afterClose, headTurn, patternTurn, patternEnd, patternWalk, checkPatternAs}
@@ -289,16 +290,16 @@ module _ (pat : List ℕ) (c : ℕ) where
 
 -- ---- The check
 
-after-utf8 : (place : Option ℕ) (walked : Answer) (c : ℕ) → afterUtf8 place walked ≡ accepted c → walked ≡ accepted c
+after-utf8 : (place : Option ℕ) (walked : Answer) (c : ℕ) → afterUtf8 refused place walked ≡ accepted c → walked ≡ accepted c
 unfolding afterUtf8
 after-utf8 none walked c e = e
 after-utf8 (some place) walked c e = refused-accepted (refused 23 place) c e (omega arith)
 
 -- an accepted text is accepted by its walk
 pub text-accepted : (version : ℕ) (text : List ℕ) (walked : Answer) (c : ℕ) → checkText version text walked ≡ accepted c → walked ≡ accepted c
-unfolding checkText afterVersion
+unfolding checkText afterText afterVersion
 text-accepted version text walked c e =
-    after-utf8 (illFormed text) walked c (if-passed (isVersion version) (afterUtf8 (illFormed text) walked) 25 0 c (omega arith) e .1)
+    after-utf8 (illFormed text) walked c (if-passed (isVersion version) (afterUtf8 refused (illFormed text) walked) 25 0 c (omega arith) e .1)
 
 -- with or without its test of ranges
 module _ (ranges : Bool) (version : ℕ) (pat : List ℕ) (c : ℕ) (ok : checkPatternAs ranges version pat ≡ accepted c) where

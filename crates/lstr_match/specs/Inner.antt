@@ -1,4 +1,5 @@
--- What the functions of the matching promise each other and the trial. This crate is for the trial only, and no contract of `gsub` rests on these.
+-- What the functions of the matching promise each other and the trial. This crate is for the trial only, and no
+-- contract of `gsub` rests on these.
 -- Assumes nothing.
 use Prim.Native.Nat.{ℕ, _≤_}
 use mathlib.Core.Path.{_≡_}

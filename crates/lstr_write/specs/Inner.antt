@@ -1,4 +1,4 @@
--- What the functions that write promise each other and the trial. No public contract rests on these.
+-- What the functions that write promise each other and the trial. No contract of `gsub` rests on these.
 -- Assumes nothing.
 use Prim.Native.Nat.{ℕ, _≤_}
 use mathlib.Core.Path.{_≡_}

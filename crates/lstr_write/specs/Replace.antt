@@ -1,5 +1,5 @@
--- What is written for a match (add_s and get_onecapture of lstrlib.c 5.4, and add_s of 5.1 for version 1; document 01, "Writing"), byte by byte into an
--- output of a given room.
+-- What is written for a match (add_s and get_onecapture of lstrlib.c 5.4, and add_s of 5.1 for version 1; document 01,
+-- "Writing"), byte by byte into an output of a given room.
 -- Assumes nothing.
 use Prim.Native.Nat.{ℕ, zero, suc, _+_, _-_, _/_, _%_}
 use Prim.Native.Char.{code}
@@ -23,7 +23,9 @@ andThen (ended number kind out) k = ended number kind out
 -- bytes are appended in order: 26 where one is due and the output is full
 unfoldable pub append : ℕ → List ℕ → List ℕ → Wrote
 append room [] out = wrote out
-append room (b ∷ more) out = let on = append room more (out ++ (b ∷ [])) in if ltb (length out) room then on else ended 26 0 out
+append room (b ∷ more) out =
+    let on = append room more (out ++ (b ∷ [])) in
+    if ltb (length out) room then on else ended 26 0 out
 
 -- a number in decimal; n is more than its digits (`decimal-large` takes it away)
 unfoldable pub decimalFrom : ℕ → ℕ → List ℕ
@@ -52,8 +54,8 @@ module _ (sub : List ℕ) (room s e : ℕ) (cs : List Capture) where
       else if leb d (length cs) then capture
       else if eqb d 1 then whole else ended 29 10 out
 
-  -- by document 01's row "strict replacement, checked date": 5.1, which is not strict, writes the byte after a `%`, and C's closing zero byte
-  -- for a final `%`
+  -- by document 01's row "strict replacement, checked date": 5.1, which is not strict, writes the byte after a `%`, and
+  -- C's closing zero byte for a final `%`
   unfoldable pub addPiece : Bool → Piece → List ℕ → Wrote
   addPiece strict (literal b) out = append room (b ∷ []) out
   addPiece strict (digit d) out = addDigit d out

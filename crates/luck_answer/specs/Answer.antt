@@ -2,8 +2,7 @@
 -- Assumes nothing.
 use Prim.Native.Nat.{ℕ}
 use mathlib.Core.List.{List}
-use mathlib.Core.Option.{Option}
-use Rattle.luck_token.specs.Text as before
+use Rattle.luck_token.specs.Text.{afterText}
 use Rattle.luck_answer.specs.declared.answer.Answer.{Answer as AnswerStruct}
 use Rattle.luck_answer.specs.declared.format_pattern.PatternError.{PatternError}
 use Rattle.luck_answer.specs.declared.format_pattern.PatternError.the-variants as error
@@ -12,9 +11,15 @@ use Rattle.luck_answer.specs.declared.format_pattern.Text.the-variants a
 use Rattle.luck_answer.specs.declared.format_pattern.Walked.{Walked}
 use Rattle.luck_answer.specs.declared.format_pattern.Walked.the-variants as walked
 use Rattle.luck_answer.specs.declared.format_pattern.Checked.{Checked}
-use Rattle.luck_answer.specs.declared.format_pattern.Checked.the-variants.{Accepted, Refused, NotUtf8, UnknownVersion}
+use Rattle.luck_answer.specs.declared.format_pattern.Checked.the-variants.{
+  Accepted,
+  Refused,
+  NotUtf8,
+  UnknownVersion,
+}
 
--- number 0: accepted, with the count; else the refusal's number, its byte offset, and as code points the characters that it carries, 0 for none
+-- number 0: accepted, with the count; else the refusal's number, its byte offset, and as code points the characters
+-- that it carries, 0 for none
 pub record Answer : Type 0 where
   pub number : ℕ
   pub offset : ℕ
@@ -31,7 +36,8 @@ abbrev pub accepted : ℕ → Answer
 accepted n = record { number = 0; offset = 0; first = 0; second = 0; count = n }
 
 abbrev pub refusedBoth : ℕ → ℕ → ℕ → ℕ → Answer
-refusedBoth number offset first second = record { number = number; offset = offset; first = first; second = second; count = 0 }
+refusedBoth number offset first second =
+    record { number = number; offset = offset; first = first; second = second; count = 0 }
 
 abbrev pub refusedWith : ℕ → ℕ → ℕ → Answer
 refusedWith number offset character = refusedBoth number offset character 0
@@ -41,17 +47,7 @@ refused number offset = refusedWith number offset 0
 
 -- 25, then 23, then the walk, whose first fault is the answer
 unfoldable pub checkText : ℕ → List ℕ → Answer → Answer
-unfolding before.afterText before.afterUtf8
-checkText = before.afterText refused
-
--- its two tests
-unfoldable abbrev pub afterVersion : ℕ → Answer → Answer
-unfolding before.afterVersion
-afterVersion = before.afterVersion refused
-
-unfoldable abbrev pub afterUtf8 : Option ℕ → Answer → Answer
-unfolding before.afterUtf8
-afterUtf8 = before.afterUtf8 refused
+checkText version text walked = afterText refused version text walked
 
 -- the code's faults and answers in those numbers
 abbrev pub refusal : PatternError → Answer

@@ -5,5 +5,5 @@ use Rattle.luck_answer.specs.Answer
 unfoldable pub computed : Unit {0}
 unfolding
     Rattle.luck_token.specs.Computed.computed
-    Answer.afterVersion Answer.afterUtf8 Answer.checkText
+    Answer.checkText
 computed = tt

@@ -1,5 +1,5 @@
--- Which formats of os.date are accepted (validate_os_date of luck, after checkoption of loslib.c): document 01, "Checks that the trial does not need", and
--- point 6 of document 03.
+-- Which formats of os.date are accepted (validate_os_date of luck, after checkoption of loslib.c): document 01, "Checks
+-- that the trial does not need", and point 6 of document 03.
 -- Assumes nothing.
 use Prim.Native.Nat.{ℕ, _+_}
 use Prim.Native.Char.{code}
@@ -20,7 +20,8 @@ checksDates rules = rules .«strict_gsub_replacement»
 abbrev pub hasDateOptions : Rules → Bool
 hasDateOptions rules = rules .«date_format_options»
 
--- luck's lists, each the union over the platforms: the conversions that every checked version has, and those of the versions with options
+-- luck's lists, each the union over the platforms: the conversions that every checked version has, and those of the
+-- versions with options
 abbrev pub everywhere : List ℕ
 everywhere = ascii "aAbBcdHIjmMpSUwWxXyYzZ%"
 
@@ -78,4 +79,5 @@ dateWalk checked options text =
     if not checked || isTable text then accepted 0 else walk
 
 unfoldable pub checkDate : ℕ → List ℕ → Answer
-checkDate version text = checkText version text (dateWalk (checksDates (rulesOf version)) (hasDateOptions (rulesOf version)) text)
+checkDate version text =
+    checkText version text (dateWalk (checksDates (rulesOf version)) (hasDateOptions (rulesOf version)) text)

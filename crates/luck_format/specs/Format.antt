@@ -1,5 +1,5 @@
--- How a format of string.format is read (scanformat of 5.1 to 5.3 and Luau, getformat and checkformat of 5.4 and 5.5, in lstrlib.c), and
--- which are accepted (validate_format of luck): document 01, "Checks that the trial does not need".
+-- How a format of string.format is read (scanformat of 5.1 to 5.3 and Luau, getformat and checkformat of 5.4 and 5.5,
+-- in lstrlib.c), and which are accepted (validate_format of luck): document 01, "Checks that the trial does not need".
 -- Assumes nothing.
 use Prim.Native.Nat.{ℕ, _+_, _-_, min}
 use Prim.Native.Char.{code}
@@ -14,7 +14,8 @@ use Rattle.luck_text.specs.Walk.{Turn, stop, goes, walkFrom}
 use Rattle.luck_token.specs.declared.version.Rules.{Rules}
 use Rattle.luck_answer.specs.Answer.{Answer, accepted, refused, refusedWith, refusedBoth, checkText}
 
--- the row "`%p`, checked modifiers" of document 01: getformat and checkformat read a specifier, and `%p` is a conversion
+-- the row "`%p`, checked modifiers" of document 01: getformat and checkformat read a specifier, and `%p` is a
+-- conversion
 abbrev pub checksModifiers : Rules → Bool
 checksModifiers rules = rules .«checked_format_modifiers»
 
@@ -36,18 +37,23 @@ pub data Modifiers : Type 0 where
 
 -- getformat: at most 20 bytes, whatever they are
 unfoldable pub getFormat : List ℕ → ℕ → Modifiers
-getFormat text p = let count = run isModifier (drop p text) in if leb 21 count then fault (refused 7 p) else end-at (p + count)
+getFormat text p =
+    let count = run isModifier (drop p text) in
+    if leb 21 count then fault (refused 7 p) else end-at (p + count)
 
 -- a precision of at most two digits, its dot at p
 unfoldable pub scanPrecision : List ℕ → ℕ → Modifiers
-scanPrecision text p = let count = run isDigit (drop (p + 1) text) in if ltb 2 count then fault (refused 5 (p + 1)) else end-at (p + 1 + count)
+scanPrecision text p =
+    let count = run isDigit (drop (p + 1) text) in
+    if ltb 2 count then fault (refused 5 (p + 1)) else end-at (p + 1 + count)
 
 -- a width of at most two digits at p, and a precision
 unfoldable pub scanWidth : List ℕ → ℕ → Modifiers
 scanWidth text p =
     let count = run isDigit (drop p text) in
     let precision = scanPrecision text (p + count) in
-    if ltb 2 count then fault (refused 4 p) else if eqb (byteAt text (p + count)) (code ".") then precision else end-at (p + count)
+    if ltb 2 count then fault (refused 4 p) else if eqb (byteAt text (p + count)) (code ".") then precision
+    else end-at (p + count)
 
 -- scanformat: at most five flags, a width and a precision
 unfoldable pub scanFormat : List ℕ → ℕ → Modifiers
@@ -64,7 +70,8 @@ modifiersAt false text p = scanFormat text p
 
 unfoldable pub isConversion : Rules → ℕ → Bool
 isConversion rules b =
-    among b (ascii "cdiouxXeEfgGqs") || (among b (ascii "aA") && rules .«hex_float_format») || (eqb b (code "p") && hasPointer rules)
+    among b (ascii "cdiouxXeEfgGqs") || (among b (ascii "aA") && rules .«hex_float_format»)
+    || (eqb b (code "p") && hasPointer rules)
 
 -- what str_format hands checkformat for a conversion: the flags that it takes, and whether a precision
 unfoldable pub flagsFor : ℕ → List ℕ
@@ -84,7 +91,8 @@ takesPrecision b = not (among b (ascii "cp"))
 unfoldable pub afterTwoDigits : List ℕ → ℕ → ℕ
 afterTwoDigits text p = p + min 2 (run isDigit (drop p text))
 
--- the place after the modifiers at p that checkformat accepts before this conversion; a width does not start with 0, and `%q` takes none
+-- the place after the modifiers at p that checkformat accepts before this conversion; a width does not start with 0,
+-- and `%q` takes none
 unfoldable pub goodModifiers : ℕ → List ℕ → ℕ → ℕ
 goodModifiers conversion text p =
     let flags = p + flagsRun conversion text p in
@@ -103,7 +111,8 @@ conversionTurn rules text p count e =
     let good = goodModifiers conversion text (p + 1) in
     if leb (length text) e then stop (refused 1 p)
     else if not (isConversion rules conversion) then stop (refusedWith 2 e (charAt text e .code))
-    else if checksModifiers rules && ltb good e then stop (refusedBoth 6 good (byteAt text good) conversion) else goes (e + 1 - p) (count + 1)
+    else if checksModifiers rules && ltb good e then stop (refusedBoth 6 good (byteAt text good) conversion)
+    else goes (e + 1 - p) (count + 1)
 
 unfoldable pub specifierTurn : Rules → List ℕ → ℕ → ℕ → Modifiers → Turn ℕ Answer
 specifierTurn rules text p count (end-at e) = conversionTurn rules text p count e

@@ -1,4 +1,4 @@
--- What inner functions promise. No public contract rests on it.
+-- What is promised of the columns of captures. No public contract rests on it.
 -- Assumes nothing.
 use Prim.Native.Nat.{ℕ}
 use mathlib.Core.Option.{Option, none, some}

@@ -1,4 +1,5 @@
--- What a line of the program `bodies` asks for, and what is answered (document 01): kind, version digit, two columns of captures, a space, the body.
+-- What a line of the program `bodies` asks for, and what is answered (document 01): kind, version digit, two columns of
+-- captures, a space, the body.
 -- Assumes nothing.
 use Prim.Native.Nat.{ℕ, _+_, _*_, _-_}
 use Prim.Native.Char.{code}
@@ -29,7 +30,8 @@ twoDigits tens units =
     let count = decimalDigit tens * 10 + decimalDigit units in
     if isDigit tens && isDigit units && leb 10 count && leb count maxCaptures then some (some count) else none
 
--- the captures of a replacement in their two columns, right-justified, blank where their count is not known; `none` where they do not fit
+-- the captures of a replacement in their two columns, right-justified, blank where their count is not known; `none`
+-- where they do not fit
 unfoldable pub captureColumns : ℕ → ℕ → Option (Option ℕ)
 captureColumns tens units =
     if isBlank tens && isBlank units then some none
@@ -59,6 +61,9 @@ lineAnswer line =
     let body = bodyAnswer (headCheck line) (decimalDigit (byteAt line 1)) (drop 5 line) in
     if ltb longest (length line) then refused 31 0 else body
 
--- the numbers of these answers: 31, 30, and those of the checks; packsize has all of a pack format's, and a replacement without captures all of the others'
+-- the numbers of these answers: 31, 30, and those of the checks; packsize has all of a pack format's, and a replacement
+-- without captures all of the others'
 abbrev pub lineNumbers : List ℕ
-lineNumbers = 31 ∷ 30 ∷ (numbers format ++ numbers pattern ++ numbers (pack true) ++ numbers (replacement (some 0)) ++ numbers date)
+lineNumbers =
+    31 ∷ 30
+    ∷ (numbers format ++ numbers pattern ++ numbers (pack true) ++ numbers (replacement (some 0)) ++ numbers date)

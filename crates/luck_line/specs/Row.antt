@@ -1,4 +1,5 @@
--- A row of the listing (document 01): number, offset and count in 4, 7 and 7 columns, right-justified, with no bytes between, and a newline.
+-- A row of the listing (document 01): number, offset and count in 4, 7 and 7 columns, right-justified, with no bytes
+-- between, and a newline.
 -- Assumes nothing.
 use Prim.Native.Nat.{ℕ, _+_, _/_, _%_}
 use Prim.Native.Char.{code}
@@ -15,8 +16,8 @@ newline = code "\n"
 unfoldable pub column : ℕ → ℕ → ℕ
 column power n = if ltb n power then code " " else code "0" + n / power % 10
 
--- n right-justified in one column more than there are powers; a number with more digits would lose its first ones. In a row none has:
--- its offset and its count are at most 4,000 (`row-fits` of proofs/Answers.antt)
+-- n right-justified in one column more than there are powers; a number with more digits would lose its first ones. In a
+-- row none has: its offset and its count are at most 4,000 (`row-fits` of proofs/Answers.antt)
 unfoldable pub justified : List ℕ → ℕ → List ℕ
 justified [] n = (code "0" + n % 10) ∷ []
 justified (power ∷ powers) n = column power n ∷ justified powers n

@@ -15,7 +15,9 @@ use Rattle.luck_lines.specs.Lines.{lastLine, linesFrom, lines, rows, lis
 
 -- what is computed
 unfoldable pub computed : Unit {0}
-unfolding checksComputed twoDigits captureColumns checkWith headCheck bodyAnswer lineAnswer column justified fourColumns sevenColumns listingRow lastLine linesFrom lines rows listing
+unfolding
+    checksComputed twoDigits captureColumns checkWith headCheck bodyAnswer lineAnswer column justified fourColumns
+    sevenColumns listingRow lastLine linesFrom lines rows listing
 computed = tt
 
 abbrev line : List ℕ → List ℕ → List ℕ
@@ -31,12 +33,17 @@ pub none-and-empty : (listing [] ≡ []) × (listing (line [] []) ≡ line (asci
 unfolding computed
 none-and-empty = (refl, refl)
 
--- heads: `F7 1 x` and `00` are 30, ` 0`, `32` and the blank are accepted, `33` is 30, version 7 is 25; CR and NUL are bytes of the body; the last line lacks its newline
+-- heads: `F7 1 x` and `00` are 30, ` 0`, `32` and the blank are accepted, `33` is 30, version 7 is 25; CR and NUL are
+-- bytes of the body; the last line lacks its newline
 pub heads : listing
-    (line (ascii "F7 1 x") (line (ascii "G4 0 x") (line (ascii "G400 x") (line (ascii "G432 x") (line (ascii "G433 x") (line (ascii "G4   %9")
+    (line (ascii "F7 1 x") (line (ascii "G4 0 x") (line (ascii "G400 x") (line (ascii "G432 x")
+    (line (ascii "G433 x") (line (ascii "G4   %9")
     (line (ascii "F1   %" ++ (code "\r" ∷ [])) (line (ascii "K3   b" ++ (0 ∷ [])) (ascii "F7   x")))))))))
-    ≡ line (ascii "  30      0      0") (line (ascii "   0      0      0") (line (ascii "  30      0      0") (line (ascii "   0      0      0")
-    (line (ascii "  30      0      0") (line (ascii "   0      0      0") (line (ascii "   2      1      0") (line (ascii "  14      1      0") (line (ascii "  25      0      0") []))))))))
+    ≡ line (ascii "  30      0      0") (line (ascii "   0      0      0")
+    (line (ascii "  30      0      0") (line (ascii "   0      0      0")
+    (line (ascii "  30      0      0") (line (ascii "   0      0      0")
+    (line (ascii "   2      1      0") (line (ascii "  14      1      0")
+    (line (ascii "  25      0      0") []))))))))
 unfolding computed
 heads = refl
 

@@ -1,4 +1,4 @@
--- What inner functions promise. No public contract rests on it.
+-- What the inner functions of `feed` promise. No public contract rests on it.
 -- Assumes nothing.
 use Prim.Native.Nat.{ℕ, _-_}
 use mathlib.Core.Bool.{Bool, true, false, _||_}
@@ -10,4 +10,9 @@ use Rattle.luck_lines.specs.declared.stream.Fed.{Fed}
 -- `unended` of an input of this length
 abbrev pub unendedAt : ℕ → ℕ → ℕ → Bool → Fed
 unendedAt len p wrote long =
-    if long || ltb longest (len - p) then record { used = len; wrote = wrote; long = true } else record { used = p; wrote = wrote; long = false }
+    if long || ltb longest (len - p) then record {
+      used =
+          len;
+      wrote = wrote;
+      long = true;
+    } else record { used = p; wrote = wrote; long = false }

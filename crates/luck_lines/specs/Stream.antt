@@ -1,5 +1,6 @@
--- The listing (document 01, the program `bodies`) made piece by piece: what one call takes of the bytes that are there, and what it writes. What comes of it all is the listing of the whole
--- input, however it was cut (proofs/Promises.antt).
+-- The listing (document 01, the program `bodies`) made piece by piece: what one call takes of the bytes that are there,
+-- and what it writes. What comes of it all is the listing of the whole input, however it was cut
+-- (proofs/Promises.antt).
 -- Assumes nothing.
 use Prim.Native.Nat.{ℕ, _+_, _-_, _≤_}
 use mathlib.Core.Path.{_≡_}
@@ -47,7 +48,8 @@ feedState written long = record { written = written; long = long }
 -- no newline is left after place p: what there is stays for the next call, unless the line is too long already
 unfoldable pub unended : List ℕ → ℕ → FeedState → Taken
 unended input p s =
-    if s .long || ltb longest (length input - p) then taken (length input) (s .written) true else taken p (s .written) false
+    if s .long || ltb longest (length input - p) then taken (length input) (s .written) true
+    else taken p (s .written) false
 
 module _ (input : List ℕ) (room : ℕ) where
   -- a line of n bytes, which ends in the input: it is taken if there is room for its row
@@ -65,7 +67,8 @@ module _ (input : List ℕ) (room : ℕ) where
   unfoldable pub feed : Bool → Taken
   feed long = walkFrom feedTurn (unended input) (length input) 0 (feedState [] long)
 
--- the end of the input: what is left, with no newline in it, is a last line that lacks its newline; its row is written if there is anything and room for it
+-- the end of the input: what is left, with no newline in it, is a last line that lacks its newline; its row is written
+-- if there is anything and room for it
 unfoldable pub finish : Bool → List ℕ → ℕ → List ℕ
 finish long left room =
     if ltb room rowLength then [] else if long || not (eqb (length left) 0) then rowOf long left else []
@@ -74,7 +77,8 @@ finish long left room =
 abbrev pub fedOf : Taken → Fed
 fedOf t = record { used = t .used; wrote = length (t .written); long = t .long }
 
--- what was taken of a line and is not kept: nothing, or too many bytes; which ones makes no difference, so that zeros stand for them
+-- what was taken of a line and is not kept: nothing, or too many bytes; which ones makes no difference, so that zeros
+-- stand for them
 unfoldable pub passed : Bool → List ℕ
 passed false = []
 passed true = replicate (longest + 1) 0
@@ -83,10 +87,15 @@ passed true = replicate (longest + 1) 0
 unfoldable pub rowsAfter : Bool → List ℕ → List ℕ
 rowsAfter long input = rows (linesFrom (passed long) input)
 
--- a run of a program. `Run long held input written`: with `held` read and not taken, and `input` still to come, the rest of the run writes `written`.
--- Bytes come in pieces; whole lines are taken whenever it likes, with any room; at the end of the input, when no newline is held, the last line is taken
+-- a run of a program. `Run long held input written`: with `held` read and not taken, and `input` still to come, the
+-- rest of the run writes `written`.
+-- Bytes come in pieces; whole lines are taken whenever it likes, with any room; at the end of the input, when no
+-- newline is held, the last line is taken
 pub data Run : Bool → List ℕ → List ℕ → List ℕ → Type 0 where
-  reads : (long : Bool) (held piece input written : List ℕ) → Run long (held ++ piece) input written → Run long held (piece ++ input) written
+  reads : (long : Bool) (held piece input written : List ℕ)
+      → Run long (held ++ piece) input written → Run long held (piece ++ input) written
   takes : (long : Bool) (held input written : List ℕ) (room : ℕ)
-      → Run (feed held room long .long) (drop (feed held room long .used) held) input written → Run long held input (feed held room long .written ++ written)
-  ends : (long : Bool) (held : List ℕ) (room : ℕ) → lineLength held ≡ length held → rowLength ≤ room → Run long held [] (finish long held room)
+      → Run (feed held room long .long) (drop (feed held room long .used) held) input written
+      → Run long held input (feed held room long .written ++ written)
+  ends : (long : Bool) (held : List ℕ) (room : ℕ)
+      → lineLength held ≡ length held → rowLength ≤ room → Run long held [] (finish long held room)

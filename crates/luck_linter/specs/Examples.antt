@@ -1,4 +1,5 @@
--- A text for every number in the list of each check, with the counts below, most of them from document 01's table of refusals: the lists name no number that their check never answers.
+-- A text for every number in the list of each check, with the counts below, most of them from document 01's table of
+-- refusals: the lists name no number that their check never answers.
 -- Assumes nothing.
 use Prim.Native.Nat.{ℕ}
 use Prim.Native.Char.{code}
@@ -8,7 +9,18 @@ use mathlib.Core.List.{List, [], _∷_, _++_}
 use mathlib.Core.Option.{Option, none, some}
 use Rattle.luck_text.specs.Bytes.{ascii}
 use Rattle.luck_answer.specs.Answer.{Answer}
-use Rattle.luck_linter.specs.Checks.{Check, pattern, format, date, replacement, pack, checkOf, answer, numbers, namedNumbers}
+use Rattle.luck_linter.specs.Checks.{
+  Check,
+  pattern,
+  format,
+  date,
+  replacement,
+  pack,
+  checkOf,
+  answer,
+  numbers,
+  namedNumbers,
+}
 use Rattle.luck_linter.specs.StringLiteral.{checkLiteral}
 use Rattle.luck_linter.specs.Computed.{computed}
 
@@ -58,7 +70,8 @@ oneCapture = replacements ++ (gives 2 (ascii "%2") 21 ∷ [])
 
 abbrev packs : List Example → List Example
 packs more =
-    gives 1 (ascii "!5j") 0 ∷ gives 1 (ascii "b1") 14 ∷ gives 1 (ascii "c") 15 ∷ gives 1 (ascii "i17") 16 ∷ gives 1 (ascii "!8i3") 17 ∷ more
+    gives 1 (ascii "!5j") 0 ∷ gives 1 (ascii "b1") 14 ∷ gives 1 (ascii "c") 15 ∷ gives 1 (ascii "i17") 16
+    ∷ gives 1 (ascii "!8i3") 17 ∷ more
 
 abbrev packsizes : List Example
 packsizes = packs (gives 1 (ascii "bz") 18 ∷ unread)

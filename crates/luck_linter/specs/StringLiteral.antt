@@ -1,5 +1,5 @@
--- The check of a literal in a source (checkable_body and literal_error of luck's rule format_string), by one of the kind
--- letters of document 01, in the order of point 9 of document 03.
+-- The check of a literal in a source (checkable_body and literal_error of luck's rule format_string), by one of the
+-- kind letters of document 01, in the order of point 9 of document 03.
 -- Assumes nothing.
 use Prim.Native.Nat.{ℕ, _+_, _-_}
 use Prim.Native.Char.{code}
@@ -44,7 +44,8 @@ literalAnswer l =
     record {
       skipped = l .skipped;
       spanned = l .spanned;
-      answer = record { number = l .number; offset = l .offset; first = l .first; second = l .second; count = l .count };
+      answer =
+          record { number = l .number; offset = l .offset; first = l .first; second = l .second; count = l .count };
       span = record { start = l .start; end = l .end };
     }
 

@@ -1,4 +1,5 @@
--- What no answer of the check shows of an option, computed: the kind of each letter, the number that a `c` keeps, and which letters have no size.
+-- What no answer of the check shows of an option, computed: the kind of each letter, the number that a `c` keeps, and
+-- which letters have no size.
 -- Assumes nothing.
 use Prim.Native.Nat.{ℕ}
 use Prim.Native.Char.{code}
@@ -6,7 +7,20 @@ use mathlib.Core.Path.{_≡_, refl}
 use mathlib.Core.List.{List, [], _∷_}
 use mathlib.Core.Option.{some}
 use Rattle.luck_text.specs.Bytes.{ascii}
-use Rattle.luck_pack.specs.Pack.{KOption, Kint, Kuint, Kfloat, Knumber, Kdouble, Kchar, Kstring, Kzstr, Kpadding, Kpaddalign, Knop}
+use Rattle.luck_pack.specs.Pack.{
+  KOption,
+  Kint,
+  Kuint,
+  Kfloat,
+  Knumber,
+  Kdouble,
+  Kchar,
+  Kstring,
+  Kzstr,
+  Kpadding,
+  Kpaddalign,
+  Knop,
+}
 use Rattle.luck_pack.specs.Pack.{packOption, option, getoption, kindOf, luckSizeof}
 use Rattle.luck_pack.specs.Computed.{computed}
 
@@ -18,7 +32,8 @@ abbrev pub sizes : List ℕ → List ℕ
 sizes [] = []
 sizes (letter ∷ letters) = luckSizeof letter ∷ sizes letters
 
-pub whole-numbers : kinds (ascii "bhljiBHLJTI") ≡ Kint ∷ Kint ∷ Kint ∷ Kint ∷ Kint ∷ Kuint ∷ Kuint ∷ Kuint ∷ Kuint ∷ Kuint ∷ Kuint ∷ []
+pub whole-numbers : kinds (ascii "bhljiBHLJTI")
+    ≡ Kint ∷ Kint ∷ Kint ∷ Kint ∷ Kint ∷ Kuint ∷ Kuint ∷ Kuint ∷ Kuint ∷ Kuint ∷ Kuint ∷ []
 unfolding computed
 whole-numbers = refl
 

@@ -36,7 +36,8 @@ keptAs pack.Kstring o = option.Counted (pack.luckSize o)
 keptAs pack.Kzstr o = option.ZeroTerminated
 keptAs pack.Kpadding o = option.Padding
 keptAs pack.Kpaddalign o = option.AlignToNext
-keptAs pack.Knop o = if eqb (o .letter) (code "!") then option.SetMaxAlignment (pack.numberOr 8 (o .number)) else option.Control
+keptAs pack.Knop o =
+    if eqb (o .letter) (code "!") then option.SetMaxAlignment (pack.numberOr 8 (o .number)) else option.Control
 
 unfoldable pub kept : pack.PackOption → PackOption
 kept o = keptAs (pack.kindOf (o .letter)) o
@@ -63,18 +64,22 @@ keptAlignment option.Control = none
 
 unfoldable pub keptTurn : Bool → List ℕ → ℕ → pack.PackState → Kept → Turn pack.PackState Answer
 keptTurn packsize text p s (keeps (option.Sized n) width) = pack.aligned p width n s (pack.oneMore s)
-keptTurn packsize text p s (keeps (option.Counted n) width) = pack.variable packsize text p (pack.aligned p width n s (pack.oneMore s))
-keptTurn packsize text p s (keeps option.ZeroTerminated width) = pack.variable packsize text p (goes width (pack.oneMore s))
+keptTurn packsize text p s (keeps (option.Counted n) width) =
+    pack.variable packsize text p (pack.aligned p width n s (pack.oneMore s))
+keptTurn packsize text p s (keeps option.ZeroTerminated width) =
+    pack.variable packsize text p (goes width (pack.oneMore s))
 keptTurn packsize text p s (keeps option.FixedString width) = goes width (pack.oneMore s)
 keptTurn packsize text p s (keeps option.Padding width) = goes width s
-keptTurn packsize text p s (keeps option.AlignToNext width) = pack.alignToNext pack.luckSize text p s (pack.getoption text (p + 1))
+keptTurn packsize text p s (keeps option.AlignToNext width) =
+    pack.alignToNext pack.luckSize text p s (pack.getoption text (p + 1))
 keptTurn packsize text p s (keeps (option.SetMaxAlignment n) width) = goes width (pack.packState (s .values) n)
 keptTurn packsize text p s (keeps option.Control width) = goes width s
 keptTurn packsize text p s (faults answer) = stop answer
 
 -- a size for an option that is made from it: the options of a letter with each number, the default standing for none
 abbrev pub Makes : (ℕ → PackOption) → ℕ → ℕ → Type 0
-Makes make default letter = (number : Option ℕ) → make (pack.numberOr default number) ≡ kept (pack.packOption letter number)
+Makes make default letter =
+    (number : Option ℕ) → make (pack.numberOr default number) ≡ kept (pack.packOption letter number)
 
 abbrev pub sizeRead : (ℕ → PackOption) → Size → Kept
 sizeRead make (size.Of n width) = keeps (make n) width

@@ -1,7 +1,8 @@
--- How a format of string.pack is read (getoption of lstrlib.c), and which are accepted (validate_pack_format of luck): document 01, "Checks that the trial does
--- not need", and point 7 of document 03. An option is read with its
--- letter and its number, and judged by its kind and size. Sizes that the build decides are luck's: `h` is 2, `d` and `n` are 8 and the
--- others 4, so that `!5j` is accepted and `!5n` refused. `c` takes any number, where getnum of lstrlib.c stops at the largest int.
+-- How a format of string.pack is read (getoption of lstrlib.c), and which are accepted (validate_pack_format of luck):
+-- document 01, "Checks that the trial does not need", and point 7 of document 03. An option is read with its letter and
+-- its number, and judged by its kind and size. Sizes that the build decides are luck's: `h` is 2, `d` and `n` are 8 and
+-- the others 4, so that `!5j` is accepted and `!5n` refused. `c` takes any number, where getnum of lstrlib.c stops at
+-- the largest int.
 -- Assumes nothing.
 use Prim.Native.Nat.{ℕ, zero, suc, _+_, _-_, min}
 use Prim.Native.Char.{code}
@@ -68,8 +69,9 @@ getoption text p =
 
 -- ---- Kind and size
 
--- KOption of lstrlib.c: whole numbers, signed and not; a float, a number of Lua's, a double; strings of a fixed length, behind their length (`s`) and
--- up to a zero byte; `x`; `X`; and what takes no value and no room (a space, an endianness, `!`)
+-- KOption of lstrlib.c: whole numbers, signed and not; a float, a number of Lua's, a double; strings of a fixed length,
+-- behind their length (`s`) and up to a zero byte; `x`; `X`; and what takes no value and no room (a space, an
+-- endianness, `!`)
 pub data KOption : Type 0 where
   Kint Kuint Kfloat Knumber Kdouble Kchar Kstring Kzstr Kpadding Kpaddalign Knop : KOption
 
@@ -129,7 +131,8 @@ isMisaligned size alignment = ltb 1 size && not (isPowerOfTwo (min size alignmen
 
 -- the option at p, of this width and size
 unfoldable pub aligned : ℕ → ℕ → ℕ → PackState → PackState → Turn PackState Answer
-aligned p width size before after = if isMisaligned size (before .alignment) then stop (refused 17 p) else goes width after
+aligned p width size before after =
+    if isMisaligned size (before .alignment) then stop (refused 17 p) else goes width after
 
 -- packsize takes no option of variable length; luck tests this before the alignment, str_packsize after it
 unfoldable pub variable : Bool → List ℕ → ℕ → Turn PackState Answer → Turn PackState Answer
@@ -204,10 +207,11 @@ placedOption place read = record { place = place; read = read }
 -- the options from p on, at most this many; the first fault ends the list, as the end of the text does
 unfoldable pub optionsUpTo : ℕ → List ℕ → ℕ → List PlacedOption
 optionsUpTo zero text p = []
-optionsUpTo (suc n) text p = elim (getoption text p) [ option o width ↦ placedOption p o ∷ optionsUpTo n text (p + width) | fault answer ↦ [] ]
+optionsUpTo (suc n) text p =
+    elim (getoption text p) [ option o width ↦ placedOption p o ∷ optionsUpTo n text (p + width) | fault answer ↦ [] ]
 
--- all of them, from p on; the option that an `X` reads stands behind it. The count of an accepted format is that of the options
--- in this list that have a value and are not read by an `X` (`counts-values` of proofs/PackOptions.antt)
+-- all of them, from p on; the option that an `X` reads stands behind it. The count of an accepted format is that of the
+-- options in this list that have a value and are not read by an `X` (`counts-values` of proofs/PackOptions.antt)
 unfoldable pub optionsFrom : List ℕ → ℕ → List PlacedOption
 optionsFrom text p = optionsUpTo (length text - p) text p
 

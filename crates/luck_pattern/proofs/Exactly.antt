@@ -18,7 +18,8 @@ use Rattle.luck_text.proofs.Cases.{by-test, order}
 use Rattle.luck_text.proofs.Walk.{walk-end, walk-stop, walk-goes}
 use Rattle.luck_token.specs.Version.{isVersion}
 use Rattle.luck_utf8.specs.Utf8.{illFormed}
-use Rattle.luck_answer.specs.Answer.{Answer, accepted, refused, refusedWith, afterVersion, afterUtf8, checkText}
+use Rattle.luck_token.specs.Text.{afterVersion, afterUtf8, afterText}
+use Rattle.luck_answer.specs.Answer.{Answer, accepted, refused, refusedWith, checkText}
 use Rattle.luck_pattern.specs.Captures.{closeLatest, isClosed, allClosed}
 use Rattle.luck_pattern.specs.Reading.{Head, at-open, at-close, at-percent, at-set, at-other, headOf, Escape, esc-digit, esc-balance, esc-frontier, esc-other, esc-end, escapeAt, SetEnd, closes-at, cut-at, unclosed, firstMember, setEnd}
 use Rattle.luck_pattern.specs.Pattern.{isEmptySet, Scanned, past, fault, onward, afterClose, patternEnd, closedAs, reversedOf, setAs, setRead, escapeAs, escapeRead, headTurn, patternTurn, patternWalk, checkPatternAs, itemReversed, tested}
@@ -268,14 +269,14 @@ module _ (version : ℕ) (pat : List ℕ) where
   -- what the check of a text says of its walk, where the answer is neither 25 nor 23
   text-gives : (walked a : Answer) → (a .number ≡ 25 → ⊥) → (a .number ≡ 23 → ⊥)
       → (checkText version pat walked ≡ a) ↔ ((isVersion version ≡ true) × (illFormed pat ≡ none) × (walked ≡ a))
-  unfolding checkText afterVersion afterUtf8 if_then_else_
+  unfolding checkText afterText afterVersion afterUtf8 if_then_else_
   text-gives walked a n25 n23 = (
     λ e. there (isVersion version) (illFormed pat) refl refl e,
     λ y. rw (y .0, y .1) (y .2),
   )
     where
       there : (v : Bool) (o : Option ℕ) → isVersion version ≡ v → illFormed pat ≡ o
-          → (if v then afterUtf8 o walked else refused 25 0) ≡ a
+          → (if v then afterUtf8 refused o walked else refused 25 0) ≡ a
           → (isVersion version ≡ true) × (illFormed pat ≡ none) × (walked ≡ a)
       there true none e f g = (e, f, g)
       there true (some place) e f g = absurd (n23 (sym (ap (λ (x : Answer). x .number) g)))

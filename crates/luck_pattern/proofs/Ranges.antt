@@ -16,7 +16,8 @@ use Rattle.luck_text.specs.Bytes.{if_then_else_, byteAt}
 use Rattle.luck_text.specs.Walk.{Turn, stop, goes, walk, walkFrom}
 use Rattle.luck_token.specs.Version.{isVersion}
 use Rattle.luck_utf8.specs.Utf8.{illFormed}
-use Rattle.luck_answer.specs.Answer.{Answer, accepted, refused, afterVersion, afterUtf8, checkText}
+use Rattle.luck_token.specs.Text.{afterVersion, afterUtf8, afterText}
+use Rattle.luck_answer.specs.Answer.{Answer, accepted, refused, checkText}
 use Rattle.luck_pattern.specs.Reading.{Head, at-open, at-close, at-percent, at-set, at-other, headOf, Escape, esc-digit, esc-balance, esc-frontier, esc-other, esc-end, escapeAt, SetEnd, closes-at, cut-at, unclosed, firstMember, setEnd, escapeSet, headSet, itemSet}
 use Rattle.luck_pattern.specs.Pattern.{Scanned, past, fault, onward, patternEnd, closedAs, reversedOf, setAs, setRead, escapeAs, escapeRead, headTurn, patternTurn, patternWalk, checkPatternAs, reversedBefore, reversedSet, itemReversed, tested}
 use Rattle.luck_pattern.proofs.Places.{ClosesFrom, set-closes}
@@ -147,12 +148,12 @@ module _ (pat : List ℕ) where
 module _ (version : ℕ) (pat : List ℕ) where
   text-or : (a b : Answer) → (a ≡ b) ⊎ Reversed pat a
       → (checkText version pat a ≡ checkText version pat b) ⊎ Reversed pat (checkText version pat a)
-  unfolding checkText afterVersion afterUtf8 if_then_else_
+  unfolding checkText afterText afterVersion afterUtf8 if_then_else_
   text-or a b (inl e) = inl (ap (checkText version pat) e)
   text-or a b (inr y) = go (isVersion version) (illFormed pat)
     where
       go : (v : Bool) (o : Option ℕ)
-          → ((if v then afterUtf8 o a else refused 25 0) ≡ (if v then afterUtf8 o b else refused 25 0)) ⊎ Reversed pat (if v then afterUtf8 o a else refused 25 0)
+          → ((if v then afterUtf8 refused o a else refused 25 0) ≡ (if v then afterUtf8 refused o b else refused 25 0)) ⊎ Reversed pat (if v then afterUtf8 refused o a else refused 25 0)
       go false o = inl refl
       go true none = inr y
       go true (some place) = inl refl

@@ -1,4 +1,5 @@
--- The captures of a pattern so far: an entry for each, true once its `)` has been read (the Vec<bool> of luck's validate_lua_pattern).
+-- The captures of a pattern so far: an entry for each, true once its `)` has been read (the Vec<bool> of luck's
+-- validate_lua_pattern).
 -- Assumes nothing.
 use Prim.Native.Nat.{ℕ, suc, _-_}
 use mathlib.Core.Bool.{Bool, true, false, _&&_}

@@ -12,7 +12,8 @@ use Rattle.luck_pattern.specs.declared.pattern.Scan.the-variants as scan
 use Rattle.luck_pattern.specs.declared.pattern.Closing.{Closing}
 use Rattle.luck_pattern.specs.declared.pattern.Closing.the-variants.{Open, Unmatched}
 
--- the captures that a count and the code's word of open captures stand for: bit k is set while capture k, counted from 0, is open
+-- the captures that a count and the code's word of open captures stand for: bit k is set while capture k, counted from
+-- 0, is open
 unfoldable pub flagsOfWord : ℕ → ℕ → List Bool
 flagsOfWord zero word = []
 flagsOfWord (suc count) word = eqb (word % 2) 0 ∷ flagsOfWord count (word / 2)

@@ -1,5 +1,6 @@
--- The items of a pattern, as `match`, classEnd and matchbracketclass of lstrlib.c 5.4 read them (document 01, "The trial"):
--- what the trial runs. The check walks over the same pattern, and both go by Reading.antt for what stands at a place.
+-- The items of a pattern, as `match`, classEnd and matchbracketclass of lstrlib.c 5.4 read them (document 01, "The
+-- trial"): what the trial runs. The check walks over the same pattern, and both go by Reading.antt for what stands at a
+-- place.
 -- Assumes nothing.
 use Prim.Native.Nat.{ℕ, zero, suc, _+_, _-_}
 use Prim.Native.Char.{code}
@@ -9,7 +10,28 @@ use lib.ListN.{length}
 use lib.Dec.{eqb, leb, ltb}
 use Rattle.luck_text.specs.Bytes.{if_then_else_, byteAt}
 use Rattle.luck_pattern.specs.Elements.{Element, elementsOf}
-use Rattle.luck_pattern.specs.Reading.{Head, at-open, at-close, at-percent, at-set, at-other, headOf, Escape, esc-digit, esc-balance, esc-frontier, esc-other, esc-end, escapeAt, SetEnd, closes-at, cut-at, unclosed, firstMember, setEnd}
+use Rattle.luck_pattern.specs.Reading.{
+  Head,
+  at-open,
+  at-close,
+  at-percent,
+  at-set,
+  at-other,
+  headOf,
+  Escape,
+  esc-digit,
+  esc-balance,
+  esc-frontier,
+  esc-other,
+  esc-end,
+  escapeAt,
+  SetEnd,
+  closes-at,
+  cut-at,
+  unclosed,
+  firstMember,
+  setEnd,
+}
 
 -- ---- Sets
 
@@ -19,7 +41,8 @@ pub record Set : Type 0 where
 
 -- the set from its `[` at place p to its closing `]` at place e
 unfoldable pub setOf : List ℕ → ℕ → ℕ → Set
-setOf pat p e = record { complement = eqb (byteAt pat (p + 1)) (code "^"); elements = elementsOf pat e (firstMember pat p) }
+setOf pat p e =
+    record { complement = eqb (byteAt pat (p + 1)) (code "^"); elements = elementsOf pat e (firstMember pat p) }
 
 -- ---- Items
 
@@ -86,7 +109,8 @@ unfoldable pub readEscape : List ℕ → ℕ → Escape → Read
 readEscape pat p esc-end = last (raises 1)
 readEscape pat p (esc-digit d) = item (back-reference d) (p + 2)
 readEscape pat p esc-balance =
-    if ltb (p + 3) (length pat) then item (balance (byteAt pat (p + 2)) (byteAt pat (p + 3))) (p + 4) else last (raises 4)
+    if ltb (p + 3) (length pat) then item (balance (byteAt pat (p + 2)) (byteAt pat (p + 3))) (p + 4)
+    else last (raises 4)
 readEscape pat p esc-frontier =
     if eqb (byteAt pat (p + 2)) (code "[") then readFrontier pat (p + 2) (setEnd pat (p + 2)) else last (raises 3)
 readEscape pat p esc-other = readSingle pat (class (byteAt pat (p + 1))) (p + 2)
@@ -98,7 +122,8 @@ readByte pat p =
     else if eqb b (code ".") then readSingle pat any (p + 1) else readSingle pat (byte b) (p + 1)
 
 unfoldable pub readHead : List ℕ → ℕ → Head → Read
-readHead pat p at-open = if eqb (byteAt pat (p + 1)) (code ")") then item position-capture (p + 2) else item start-capture (p + 1)
+readHead pat p at-open =
+    if eqb (byteAt pat (p + 1)) (code ")") then item position-capture (p + 2) else item start-capture (p + 1)
 readHead pat p at-close = item end-capture (p + 1)
 readHead pat p at-percent = readEscape pat p (escapeAt pat (p + 1))
 readHead pat p at-set = readSet pat p (setEnd pat p)
@@ -115,7 +140,9 @@ thenItems rest (item i q) = i ∷ rest q
 -- the items from place p on; n is at least the bytes left (`items-at` of lstr_item takes it away)
 unfoldable pub itemsFrom : List ℕ → ℕ → ℕ → List Item
 itemsFrom pat zero p = []
-itemsFrom pat (suc n) p = let here = thenItems (itemsFrom pat n) (readItem pat p) in if leb (length pat) p then [] else here
+itemsFrom pat (suc n) p =
+    let here = thenItems (itemsFrom pat n) (readItem pat p) in
+    if leb (length pat) p then [] else here
 
 unfoldable pub items : List ℕ → ℕ → List Item
 items pat p = itemsFrom pat (length pat - p) p

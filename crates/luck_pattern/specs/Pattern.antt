@@ -1,7 +1,7 @@
 -- Which patterns are accepted (validate_lua_pattern, scan_escape and scan_set of luck; document 01, "Pattern, then
--- replacement"), by what stands at each place (Reading.antt). luck passes over a whole UTF-8 character where this passes over
--- one byte: the bytes after a character's first are 128 or more, so none of them is a byte that is tested for here, and the
--- two read the same items.
+-- replacement"), by what stands at each place (Reading.antt). luck passes over a whole UTF-8 character where this
+-- passes over one byte: the bytes after a character's first are 128 or more, so none of them is a byte that is tested
+-- for here, and the two read the same items.
 -- Assumes nothing.
 use Prim.Native.Nat.{ℕ, _+_, _-_}
 use Prim.Native.Char.{code}
@@ -13,7 +13,29 @@ use lib.Dec.{eqb, ltb}
 use Rattle.luck_text.specs.Bytes.{if_then_else_, byteAt}
 use Rattle.luck_text.specs.Walk.{Turn, stop, goes, walkFrom}
 use Rattle.luck_answer.specs.Answer.{Answer, accepted, refused, refusedWith, checkText}
-use Rattle.luck_pattern.specs.Reading.{Head, at-open, at-close, at-percent, at-set, at-other, headOf, Escape, esc-digit, esc-balance, esc-frontier, esc-other, esc-end, escapeAt, SetEnd, closes-at, cut-at, unclosed, firstMember, setEnd, itemSet}
+use Rattle.luck_pattern.specs.Reading.{
+  Head,
+  at-open,
+  at-close,
+  at-percent,
+  at-set,
+  at-other,
+  headOf,
+  Escape,
+  esc-digit,
+  esc-balance,
+  esc-frontier,
+  esc-other,
+  esc-end,
+  escapeAt,
+  SetEnd,
+  closes-at,
+  cut-at,
+  unclosed,
+  firstMember,
+  setEnd,
+  itemSet,
+}
 use Rattle.luck_pattern.specs.Elements.{firstReversed}
 use Rattle.luck_pattern.specs.Captures.{maxCaptures, closeLatest, isClosed, allClosed}
 

@@ -1,4 +1,5 @@
--- What stands at a place of a pattern, as `match` (document 01 calls it do_match) and classEnd of lstrlib.c 5.4 read it: the byte there, the byte after a `%`, the members of a set and where it ends. The check (Pattern.antt) and the
+-- What stands at a place of a pattern, as `match` (document 01 calls it do_match) and classEnd of lstrlib.c 5.4 read
+-- it: the byte there, the byte after a `%`, the members of a set and where it ends. The check (Pattern.antt) and the
 -- items that a trial runs (Items.antt) both go by it; the elements of a set are in Elements.antt.
 -- Assumes nothing.
 use Prim.Native.Nat.{ℕ, _+_, _-_}
@@ -36,7 +37,8 @@ escapeOf b =
 unfoldable pub escapeAt : List ℕ → ℕ → Escape
 escapeAt pat p = if ltb p (length pat) then escapeOf (byteAt pat p) else esc-end
 
--- the switch on the byte at a place of a set: the first member is taken even if it is a `]`, and `%` takes one more byte
+-- the switch on the byte at a place of a set: the first member is taken even if it is a `]`, and `%` takes one more
+-- byte
 pub data Member : Type 0 where
   closing-bracket escaped-member cut-escape byte-member : Member
 

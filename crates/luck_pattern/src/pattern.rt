@@ -155,7 +155,7 @@ fn scan_escape(text: &[u8], start: usize, count: u32, word: u32) -> Scan
             }
             Scan::Fault(PatternError::BadEscape {
                 offset: start,
-                character: 102,
+                character: b'f' as u32,
             })
         }
         // A class or a literal.

@@ -14,7 +14,8 @@ use Rattle.luck_text.specs.Bytes.{if_then_else_}
 use Rattle.luck_text.proofs.Cases.{by-test, if-true, if-false, and-left, and-right, both-true, order}
 use Rattle.luck_token.specs.Version.{isVersion, rulesOf}
 use Rattle.luck_utf8.specs.Utf8.{illFormed}
-use Rattle.luck_answer.specs.Answer.{Answer, accepted, refused, afterVersion, afterUtf8, checkText}
+use Rattle.luck_token.specs.Text.{afterVersion, afterUtf8, afterText}
+use Rattle.luck_answer.specs.Answer.{Answer, accepted, refused, checkText}
 use Rattle.luck_answer.proofs.Texts.{text-ill-formed, text-unknown-version, in-any-case}
 use Rattle.luck_replacement.specs.Replacement.{isStrict, Piece, literal, digit, percent, other, lone, pieces, allowsDigit, piecesWalk, checkReplacement}
 use Rattle.luck_replacement.specs.Counts.{
@@ -324,21 +325,21 @@ walked strict count (lone ∷ ps) p = by-test Walked strict _ _ (λ t. (λ a. ab
 module _ (version : ℕ) (text : List ℕ) where
   text-up : (a b : Answer) → (Accepted a → Accepted b) → Accepted (checkText version text a)
       → Accepted (checkText version text b)
-  unfolding checkText afterVersion afterUtf8 isAccepted if_then_else_
+  unfolding checkText afterText afterVersion afterUtf8 isAccepted if_then_else_
   text-up a b f = go (isVersion version) (illFormed text)
     where
-      go : (v : Bool) (o : Option ℕ) → Accepted (if v then afterUtf8 o a else refused 25 0)
-          → Accepted (if v then afterUtf8 o b else refused 25 0)
+      go : (v : Bool) (o : Option ℕ) → Accepted (if v then afterUtf8 refused o a else refused 25 0)
+          → Accepted (if v then afterUtf8 refused o b else refused 25 0)
       go true none t = f t
       go true (some place) t = t
       go false o t = t
 
   text-walk : (a : Answer) → Accepted (checkText version text a) → Accepted a × (checkText version text a ≡ a)
-  unfolding checkText afterVersion afterUtf8 isAccepted if_then_else_
+  unfolding checkText afterText afterVersion afterUtf8 isAccepted if_then_else_
   text-walk a = go (isVersion version) (illFormed text)
     where
-      go : (v : Bool) (o : Option ℕ) → Accepted (if v then afterUtf8 o a else refused 25 0)
-          → Accepted a × ((if v then afterUtf8 o a else refused 25 0) ≡ a)
+      go : (v : Bool) (o : Option ℕ) → Accepted (if v then afterUtf8 refused o a else refused 25 0)
+          → Accepted a × ((if v then afterUtf8 refused o a else refused 25 0) ≡ a)
       go true none t = (t, refl)
       go true (some place) t = absurd (true≢false (sym t))
       go false o t = absurd (true≢false (sym t))

@@ -13,7 +13,8 @@ use Rattle.luck_text.specs.Bytes.{if_then_else_, isDigit, among}
 use Rattle.luck_text.proofs.Cases.{by-test, if-true, and-left, and-right}
 use Rattle.luck_token.specs.Version.{isVersion, versions, has, rulesOf}
 use Rattle.luck_utf8.specs.Utf8.{illFormed}
-use Rattle.luck_answer.specs.Answer.{Answer, accepted, afterVersion, afterUtf8, checkText}
+use Rattle.luck_token.specs.Text.{afterVersion, afterUtf8, afterText}
+use Rattle.luck_answer.specs.Answer.{Answer, accepted, checkText}
 use Rattle.luck_replacement.specs.Replacement.{isStrict, Piece, literal, digit, percent, other, lone, escaped, pieces, allowsDigit, piecesWalk, checkReplacement}
 use Rattle.luck_replacement.specs.Counts.{from-to, for-every, checkRanged, largestDigit}
 use Rattle.luck_replacement.proofs.Counts.{accepted-for-every}
@@ -83,4 +84,4 @@ check-range low high text h upwards e =
     accepted-for-every 1 low high text upwards .1 (λ c i. check-known c text (omega (arith, i .0)) ∙ fine)
   where
     fine : checkText 1 text (accepted 0) ≡ accepted 0
-    fine = unfold checkText afterVersion afterUtf8 isVersion if_then_else_ in rw e
+    fine = unfold checkText afterText afterVersion afterUtf8 isVersion if_then_else_ in rw e

@@ -1,4 +1,5 @@
--- How a gsub replacement is read (add_s of lstrlib.c), and which are accepted (validate_gsub_replacement of luck; document 01, "Pattern, then replacement").
+-- How a gsub replacement is read (add_s of lstrlib.c), and which are accepted (validate_gsub_replacement of luck;
+-- document 01, "Pattern, then replacement").
 -- Assumes nothing.
 use Prim.Native.Nat.{ℕ, _+_, _-_, max}
 use Prim.Native.Char.{code}
@@ -61,4 +62,5 @@ piecesWalk strict count (lone ∷ more) p =
     if strict then refused 19 p else on
 
 unfoldable pub checkReplacement : ℕ → Option ℕ → List ℕ → Answer
-checkReplacement version count text = checkText version text (piecesWalk (isStrict (rulesOf version)) count (pieces text) 0)
+checkReplacement version count text =
+    checkText version text (piecesWalk (isStrict (rulesOf version)) count (pieces text) 0)

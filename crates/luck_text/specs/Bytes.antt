@@ -1,5 +1,5 @@
--- Texts and bytes, on which all other definitions stand. A text is a list of bytes and a byte a number. A place past the end of
--- a text reads as 0, as C's closing zero byte. Here and everywhere `-` on numbers stops at 0: 2 - 3 is 0.
+-- Texts and bytes, on which all other definitions stand. A text is a list of bytes and a byte a number. A place past
+-- the end of a text reads as 0, as C's closing zero byte. Here and everywhere `-` on numbers stops at 0: 2 - 3 is 0.
 -- Assumes nothing.
 use Prim.Native.Nat.{ℕ, suc, _+_, _*_, _-_}
 use Prim.Native.Char.{code}

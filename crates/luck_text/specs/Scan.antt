@@ -17,7 +17,8 @@ inClass (Byte c) b = eqb c b
 unfoldable pub neither : ℕ → ℕ → ℕ → Bool
 neither a b x = not (eqb x a || eqb x b)
 
--- 80000000 (hexadecimal) is larger than every limit of a check or an escape, of which 7FFFFFFF is the largest: numbers from here on are not told apart
+-- 80000000 (hexadecimal) is larger than every limit of a check or an escape, of which 7FFFFFFF is the largest: numbers
+-- from here on are not told apart
 abbrev pub most : ℕ
 most = 0x8000_0000
 

@@ -1,5 +1,6 @@
--- Decoding a literal into a lent output, as document 01 says under the refusals: 25, 23, 24 and 26 are tested in this order, 24 and 26
--- at offset 0; refused, the output is untouched, else only the value's bytes are written, from the front.
+-- Decoding a literal into a lent output, as document 01 says under the refusals: 25, 23, 24 and 26 are tested in this
+-- order, 24 and 26 at offset 0; refused, the output is untouched, else only the value's bytes are written, from the
+-- front.
 -- Assumes nothing.
 use Prim.Native.Nat.{ℕ}
 use mathlib.Core.List.{List}
@@ -11,7 +12,13 @@ use Rattle.luck_token.specs.Version.{rulesOf}
 use Rattle.luck_token.specs.Text.{afterText}
 use Rattle.luck_token.specs.Literal.{literalValue}
 use Rattle.luck_token.specs.declared.string.Decoded.{Decoded}
-use Rattle.luck_token.specs.declared.string.Decoded.the-variants.{Value, UnknownVersion, NotUtf8, Undecodable, OutputTooShort}
+use Rattle.luck_token.specs.declared.string.Decoded.the-variants.{
+  Value,
+  UnknownVersion,
+  NotUtf8,
+  Undecodable,
+  OutputTooShort,
+}
 
 -- the value, or a refusal: its number and its offset
 pub data DecodeOutcome : Type 0 where

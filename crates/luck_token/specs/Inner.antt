@@ -42,7 +42,8 @@ abbrev pub sizeOf : Option (List ℕ) → Size
 sizeOf none = size.Malformed
 sizeOf (some bytes) = size.Length (length bytes)
 
--- a byte that is a piece by itself: in a long string one that begins no line break, in a short one no backslash, which `neither` is given twice
+-- a byte that is a piece by itself: in a long string one that begins no line break, in a short one no backslash, which
+-- `neither` is given twice
 abbrev pub plain : Bool → ℕ → Bool
 plain true b = neither (code "\r") (code "\n") b
 plain false b = neither (code "\\") (code "\\") b

@@ -1,6 +1,7 @@
--- String literals: section 3.1 of the manuals of 5.2 to 5.5 (2.1 of 5.1), Luau's grammar, and string.rs of luck where it differs (points 4,
--- 5 and 12 of document 03).
--- A literal's text is taken apart into what stands between its quotes or brackets, and that into pieces; its value is the pieces' bytes.
+-- String literals: section 3.1 of the manuals of 5.2 to 5.5 (2.1 of 5.1), Luau's grammar, and string.rs of luck where
+-- it differs (points 4, 5 and 12 of document 03).
+-- A literal's text is taken apart into what stands between its quotes or brackets, and that into pieces; its value is
+-- the pieces' bytes.
 -- Assumes nothing.
 use Prim.Native.Nat.{ℕ, _+_, _-_, min, max}
 use Prim.Native.Char.{code}
@@ -17,7 +18,16 @@ use Rattle.luck_token.specs.declared.version.Rules.{Rules}
 use Rattle.luck_token.specs.declared.string.ShortString.{ShortString}
 use Rattle.luck_token.specs.declared.string.ShortString.the-variants.{Body, Other}
 use Rattle.luck_token.specs.declared.string.Escape.{Escape}
-use Rattle.luck_token.specs.declared.string.Escape.the-variants.{Simple, LineBreak, Hex, Whitespace, Decimal, Unicode, Itself, Undefined}
+use Rattle.luck_token.specs.declared.string.Escape.the-variants.{
+  Simple,
+  LineBreak,
+  Hex,
+  Whitespace,
+  Decimal,
+  Unicode,
+  Itself,
+  Undefined,
+}
 
 -- ---- The literal's text
 
@@ -50,7 +60,8 @@ bracketWidth raw =
     let level = equals raw 1 in
     let width = level + 2 in
     let end = length raw - width in
-    if leb (width + width) (length raw) && bracketAt (code "[") level raw 0 && bracketAt (code "]") level raw end then width else 0
+    if leb (width + width) (length raw) && bracketAt (code "[") level raw 0 && bracketAt (code "]") level raw end
+    then width else 0
 
 -- what stands between the brackets, without a line break right after the opening one
 unfoldable pub longStringBody : Bool → List ℕ → List ℕ
@@ -73,8 +84,9 @@ longPiece lfcr body p =
 unfoldable pub otherEscape : Rules → Escape
 otherEscape rules = if rules .«strict_escapes» then Undefined else Itself
 
--- what the byte after a backslash begins. The code's enum Escape: Simple (the byte that it stands for), LineBreak, Hex `\xXX`, Whitespace `\z`,
--- Decimal `\ddd`, Unicode `\u{XXX}`, Itself (the byte stands for itself), Undefined. 07, 08, 0C and 0B are BEL, BS, FF and VT.
+-- what the byte after a backslash begins. The code's enum Escape: Simple (the byte that it stands for), LineBreak, Hex
+-- `\xXX`, Whitespace `\z`, Decimal `\ddd`, Unicode `\u{XXX}`, Itself (the byte stands for itself), Undefined. 07, 08,
+-- 0C and 0B are BEL, BS, FF and VT.
 unfoldable pub escapeKind : Rules → ℕ → Escape
 escapeKind rules e =
     if eqb e (code "a") then Simple 0x07
@@ -99,7 +111,8 @@ lineBreakEscape lfcr body p = piece (code "\n" ∷ []) (1 + max 1 (lineBreak lfc
 -- exactly two hexadecimal digits
 unfoldable pub hexEscape : List ℕ → ℕ → LiteralPiece
 hexEscape body p =
-    if isXdigit (byteAt body (p + 2)) && isXdigit (byteAt body (p + 3)) then piece (numeral 16 (part body (p + 2) (p + 4)) ∷ []) 4 else malformed
+    if isXdigit (byteAt body (p + 2)) && isXdigit (byteAt body (p + 3))
+    then piece (numeral 16 (part body (p + 2) (p + 4)) ∷ []) 4 else malformed
 
 -- `\z` skips the whitespace after it
 unfoldable pub whitespaceEscape : List ℕ → ℕ → LiteralPiece
@@ -119,7 +132,8 @@ allowsDigits rules count = leb 1 count && (not (rules .«unicode_escape_digit_li
 unfoldable pub codePointLimit : Rules → ℕ
 codePointLimit rules = if rules .«extended_unicode_escape» then 0x7FFF_FFFF else 0x10_FFFF
 
--- and char::from_u32: a character has the value. There is none above 10FFFF, so the limit 7FFFFFFF of 5.4 and 5.5 has no effect.
+-- and char::from_u32: a character has the value. There is none above 10FFFF, so the limit 7FFFFFFF of 5.4 and 5.5 has
+-- no effect.
 unfoldable pub allowsCodePoint : Rules → ℕ → ℕ → Bool
 allowsCodePoint rules count value = allowsDigits rules count && leb value (codePointLimit rules) && isChar value
 
@@ -128,7 +142,8 @@ unfoldable pub unicodeEscape : Rules → List ℕ → ℕ → LiteralPiece
 unicodeEscape rules body p =
     let count = run isXdigit (drop (p + 3) body) in
     let value = numeral 16 (part body (p + 3) (p + 3 + count)) in
-    if eqb (byteAt body (p + 2)) (code "{") && eqb (byteAt body (p + 3 + count)) (code "}") && allowsCodePoint rules count value
+    if eqb (byteAt body (p + 2)) (code "{") && eqb (byteAt body (p + 3 + count)) (code "}")
+    && allowsCodePoint rules count value
     then piece (utf8Bytes value) (count + 4)
     else malformed
 
@@ -170,7 +185,8 @@ unfoldable pub wholeValue : ℕ → List ℕ → Option (List ℕ)
 wholeValue p before = some before
 
 unfoldable pub valueOf : Bool → Rules → List ℕ → Option (List ℕ)
-valueOf long rules body = walkFrom (λ p before. pieceTurn before (pieceAt long rules body p)) wholeValue (length body) 0 []
+valueOf long rules body =
+    walkFrom (λ p before. pieceTurn before (pieceAt long rules body p)) wholeValue (length body) 0 []
 
 -- the value of a literal, none for a text that is no literal or has a malformed piece
 unfoldable pub literalValue : Rules → List ℕ → Option (List ℕ)

@@ -1,5 +1,5 @@
--- What is tested of a text before it is read, as document 01 says under the refusals: 25, then 23. `refusal` makes an
--- answer of a refusal's number and its offset.
+-- What is tested of a text before it is read: 25, then 23 (document 01, of checks under "Records", of decoding under
+-- the refusals). `refusal` makes an answer of a refusal's number and its offset.
 -- Assumes nothing.
 use Prim.Native.Nat.{ℕ}
 use mathlib.Core.List.{List}

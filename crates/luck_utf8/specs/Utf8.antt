@@ -89,7 +89,8 @@ codePoint text p width =
     else if eqb width 3 then ((b0 - 0xE0) * 0x40 + b1) * 0x40 + b2
     else (((b0 - 0xF0) * 0x40 + b1) * 0x40 + b2) * 0x40 + b3
 
--- the character at a place; at the end, inside a character and at an ill-formed sequence U+FFFD of width 1, as in luck (peek_char, literal_error)
+-- the character at a place; at the end, inside a character and at an ill-formed sequence U+FFFD of width 1, as in luck
+-- (peek_char, literal_error)
 unfoldable pub charAt : List ℕ → ℕ → Char
 charAt text p =
     let width = sequence text p in

@@ -1,6 +1,6 @@
 -- Cases of document 01 that are not starred, and what its text says besides, whole answers by computation: the rows of
--- its table of refusals but 30 and 31 of a line (luck_lines), the open places of the trial (the step before the raise, kinds
--- 5 and 8 before 28, the attempt after the last match), each item, each kind of single
+-- its table of refusals but 30 and 31 of a line (luck_lines), the open places of the trial (the step before the raise,
+-- the level before the step, kinds 5 and 8 before 28, the attempt after the last match), each item, each kind of single
 -- and of 29, and each way of writing once.
 -- Assumes nothing.
 use Prim.Native.Nat.{ℕ, zero, suc}

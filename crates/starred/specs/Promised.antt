@@ -35,7 +35,8 @@ pub record ChecksText (allowed : List ℕ) (len : ℕ) (a : Answer) : Type 0 whe
   pub first-character : among (a .number) (2 ∷ 3 ∷ 6 ∷ 10 ∷ 14 ∷ 18 ∷ []) ≡ false → a .first ≡ 0
   pub second-character : (a .number ≡ 6 → ⊥) → a .second ≡ 0
 
--- a literal's answer is such an answer; a skipped literal has nothing else; a span comes exactly with the refusals of its body
+-- a literal's answer is such an answer; a skipped literal has nothing else; a span comes exactly with the refusals of
+-- its body
 pub record ChecksLiteral (allowed : List ℕ) (len : ℕ) (a : LiteralAnswer) : Type 0 where
   pub answers : ChecksText allowed len (a .answer)
   pub skipped-empty : a .skipped ≡ true
@@ -48,9 +49,9 @@ pub record ChecksLiteral (allowed : List ℕ) (len : ℕ) (a : LiteralAnswer) : 
   pub spanned-where : (a .spanned ≡ true) ↔ (among (a .answer .number) (0 ∷ 23 ∷ 25 ∷ 30 ∷ []) ≡ false)
   pub span-of-others : a .spanned ≡ false → a .span ≡ record { start = 0; end = 0 }
 
--- decoding a text into an output: only 23 has an offset; no more bytes are written than the output and the text have, so
--- an output of the text's length is never too short; refused none are, and in any case the output keeps its length, and
--- what lies behind them is as it was
+-- decoding a text into an output: only 23 has an offset; no more bytes are written than the output and the text have,
+-- so an output of the text's length is never too short; refused none are, and in any case the output keeps its length,
+-- and what lies behind them is as it was
 pub record Decodes (text output : List ℕ) (a : Decoding) (after : List ℕ) : Type 0 where
   pub numbered : among (a .number) (0 ∷ 23 ∷ 24 ∷ 25 ∷ 26 ∷ []) ≡ true
   pub offset-within : a .offset ≤ length text
