@@ -155,7 +155,8 @@ fn scan_escape(text: &[u8], start: usize, count: u32, word: u32) -> Scan
             }
             Scan::Fault(PatternError::BadEscape {
                 offset: start,
-                character: b'f' as u32,
+                // f
+                character: 102,
             })
         }
         // A class or a literal.
