@@ -1,7 +1,6 @@
 // A row of the listing.
 ghost use mathlib.Core.Path.{_≡_};
 ghost use Prim.Native.Nat.{_+_, _%_, _<_};
-ghost use Prim.Native.Char.{code};
 ghost use Rattle.luck_answer.specs.Answer.{checkAnswer};
 ghost use Rattle.luck_line.specs.Row.{column, listingRow, answerRow};
 use luck_answer::answer::Answer;
@@ -21,7 +20,7 @@ fn column(power: u64, n: u64) -> u8
 }
 
 fn last_column(n: u64) -> u8
-    ensures { λ r. ⌜ r ≡ code "0" + n % 10 ⌝ }
+    ensures { λ r. ⌜ r ≡ 48 + n % 10 ⌝ }
 {
     b'0' + (n % 10) as u8
 }
