@@ -184,6 +184,16 @@ static void put_skipped(const question *asked)
               stdout);
 }
 
+/* The trial goes by the rules of 5.4 in every version, and these two differ from them (docs/DIFFERENCES.md). */
+static void put_trial_note(uint32_t version)
+{
+    if (version == LUCK_LUA_51)
+        fputs("  note: by the rules of Lua 5.4; Lua 5.1 also replaces an empty match right after a match, and its `%g` is the letter g\n",
+              stderr);
+    if (version == LUCK_LUA_52)
+        fputs("  note: by the rules of Lua 5.4; Lua 5.2 also replaces an empty match right after a match\n", stderr);
+}
+
 /* How a trial ended, in one line, and what to do about it. */
 static void put_trial(const question *asked, const luck_trial *found)
 {
@@ -206,6 +216,8 @@ static void put_trial(const question *asked, const luck_trial *found)
     put_count(stderr, found->steps, "step");
     fputc('\n', stderr);
     put_advice(stderr, said.advice, asked, &refused);
+    if (found->number == 0)
+        put_trial_note(asked->version);
 }
 
 #endif

@@ -247,13 +247,15 @@ static message of_bytes(const question *asked)
     return found;
 }
 
-/* The second sentences of 15, 11, 24 and 26. */
+/* The second sentences of 15, 11, 24, 28 and 26. */
 static const message cut_alignment = {"truncated pack size: no option follows `X`",
                                       "write an option with a size, or `x`, after `X`, as in `Xi4`"};
 static const message open_capture = {"unmatched capture: a `(` is never closed",
                                      "write a `)` for each `(`; write `%(` for the character `(`"};
 static const message wide_escape = {"undecodable: `$e` is not read here, though $v itself takes it",
                                     "the script can keep it; only its value can't be decoded or checked"};
+static const message deep_in_51 = {"too deep: the 201st level of the matching; Lua 5.1 itself has no such limit",
+                                   "write fewer items in one pattern"};
 static const message output_full = {"output full: one byte more than the room of $r was due", "write a larger --room"};
 
 /* The sentence of a refusal. */
@@ -287,6 +289,8 @@ static message message_of(const question *asked, const luck_answer *refused)
         if (asked->of == A_LINE)
             found.advice = "write a digit: 1 to 5 for Lua 5.1 to 5.5, 6 for Luau";
         return found;
+    case LUCK_TOO_DEEP:
+        return asked->version == LUCK_LUA_51 ? deep_in_51 : found;
     case LUCK_OUTPUT_TOO_SHORT:
         return asked->of == A_SUBJECT ? output_full : found;
     default:

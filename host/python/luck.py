@@ -507,6 +507,9 @@ class Luck:
     ) -> Trial:
         """string.gsub(subject, pattern, replacement), within `budget` steps and `room` bytes of output.
 
+        It goes by the rules of 5.4 in every version; but for replacements that only 5.1 takes, its answer does not depend on the version. Lua
+        5.1 and 5.2 themselves also replace an empty match right after a match, and in 5.1 `%g` is the letter g (docs/DIFFERENCES.md).
+
         It takes up to 473 KiB of stack: a thread with less than 512 KiB (threading.stack_size) must not call it.
         """
         size = _number("room", room, SIZE_MAX)
