@@ -62,7 +62,8 @@
  *   23  NOT_UTF8              not UTF-8 (RFC 3629); at the first byte of the first ill-formed sequence
  *    without a place: the offset is 0, or the answer has none
  *   24  UNDECODABLE           no literal, or an escape that is malformed or that this version does not have, or a
- *                             `\u{}` of a surrogate or above 10FFFF, which some versions take (decoding only)
+ *                             `\u{}` of a surrogate or above 10FFFF, which some versions take (decoding only);
+ *                             host/c/literal.h tells these apart and finds the place
  *   25  UNKNOWN_VERSION       `version` is not 1 to 6
  *   26  OUTPUT_TOO_SHORT      decoding: the value is longer than the output; trial: a byte was due and the output was
  *                             full

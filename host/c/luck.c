@@ -4,8 +4,9 @@
  *     cc -std=c99 -Wall -Wextra -Werror -Iinclude host/c/luck.c target/staticlib/libluck.a -lpthread -o luck
  *
  * The words of the command line are read in words.h, with what was likely meant in likely.h; answers.h puts an answer into words, by
- * the sentences of messages.h and with a text as show.h shows it; lines.h has `luck lines`, own_stack.h the trial on a stack of its own.
- * A text is read whole, since the library takes it so; nothing else that is allocated grows with the input.
+ * the sentences of messages.h and with a text as show.h shows it, and notes.h what is said beside it; literal.h finds what is wrong with a
+ * literal; lines.h has `luck lines`, own_stack.h the trial on a stack of its own. A text is read whole, since the library takes it so; of a
+ * literal there is a copy or a value as long; nothing else that is allocated grows with the input.
  */
 #define _POSIX_C_SOURCE 200112L /* threads, for own_stack.h */
 
@@ -14,7 +15,6 @@
 #include "lines.h"
 #include "luck.h"
 #include "own_stack.h"
-#include "wide_escape.h"
 #include "words.h"
 
 #include <errno.h>
@@ -82,11 +82,8 @@ static uint8_t *output_of(size_t room)
 
 static void put_undecoded(FILE *out, const question *asked, const luck_decoded *found)
 {
-    question known = *asked;
     luck_answer refused = {found->number, 0, 0, found->offset, 0};
-    if (found->number == LUCK_UNDECODABLE)
-        known.has_wide = only_wide_escapes(asked->version, asked->text, asked->len, &known.wide);
-    put_refusal(out, &known, &refused);
+    put_refusal(out, asked, &refused);
 }
 
 static int decode(const question *asked)
@@ -95,10 +92,13 @@ static int decode(const question *asked)
     if (output == NULL)
         return trouble("no memory for", "the output");
     luck_decoded found = luck_decode_string(asked->version, asked->text, asked->len, output, asked->room);
-    if (found.number == 0)
+    if (found.number == 0) {
         fwrite(output, 1, found.written, stdout);
-    else
+        fflush(stdout);
+        put_notes(stderr, asked, found.number);
+    } else {
         put_undecoded(stderr, asked, &found);
+    }
     free(output);
     return found.number == 0 ? ACCEPTED : REFUSED;
 }
@@ -114,8 +114,10 @@ static int run_decode(int count, char **words)
         status = read_options(count - 2, words + 2, false, &asked);
     if (status == 0)
         status = read_text(words[1], &kept, &asked);
-    if (status == 0)
+    if (status == 0) {
+        look_at_shape(&asked);
         status = decode(&asked);
+    }
     free(kept);
     return status;
 }

@@ -6,6 +6,7 @@
 
 #include "help.h"
 #include "likely.h"
+#include "literal.h"
 #include "luck.h"
 #include "messages.h"
 #include "show.h"
@@ -187,6 +188,14 @@ static int read_text(const char *word, uint8_t **kept, question *asked)
     return status;
 }
 
+/* What a literal looks like, for its sentence and notes. */
+static void look_at_shape(question *asked)
+{
+    asked->source = asked->text;
+    asked->source_len = asked->len;
+    asked->shape = read_literal(asked->version, asked->text, asked->len);
+}
+
 static question nothing_asked(enum asked_of of)
 {
     question asked;
@@ -216,7 +225,10 @@ static int read_check(int count, char **words, enum asked_of of, uint8_t **kept,
         return wrong_word("CAPTURES stand only after a replacement", words[3], NULL);
     if (asked->known && !read_number(words[3], SIZE_MAX, &asked->captures))
         return wrong_word("no count of captures", words[3], NULL);
-    return read_text(words[2], kept, asked);
+    status = read_text(words[2], kept, asked);
+    if (status == 0 && of == A_LITERAL)
+        look_at_shape(asked);
+    return status;
 }
 
 #endif
