@@ -62,7 +62,7 @@ static const char *const help_text[] = {
     "`\\u{202E}`; common wide ones count two columns. After others that take no column or two, the caret may stand off.\n"
     "\n"
     "Exit status: 0 accepted, decoded or done; 1 refused or raised, also a trial that spent its steps, filled its output\n"
-    "or went too deep, and lines of which one is refused; 2 wrong usage, or a read or write that failed; 3 skipped: the\n"
-    "literal was not checked.\n"};
+    "or went too deep, and lines of which one is refused; 2 wrong usage, a VERSION or KIND that is refused (25, 30)\n"
+    "included, or a read or write that failed; 3 skipped: the literal was not checked. A note changes no status.\n"};
 
 #endif

@@ -29,7 +29,7 @@ static int check_text(const question *asked)
     luck_answer answer = check(asked);
     if (answer.number != 0) {
         put_refusal(stdout, asked, &answer);
-        return REFUSED;
+        return status_of(answer.number);
     }
     put_accepted(asked, answer.count);
     return ACCEPTED;
@@ -51,7 +51,7 @@ static int check_literal(const question *asked)
     luck_literal found = luck_check_literal(asked->kind, asked->version, asked->known, asked->captures, 0, asked->text, asked->len);
     if (found.number != 0) {
         put_literal_refusal(asked, &found);
-        return REFUSED;
+        return status_of(found.number);
     }
     if (found.skipped) {
         put_skipped(asked);
@@ -100,7 +100,7 @@ static int decode(const question *asked)
         put_undecoded(stderr, asked, &found);
     }
     free(output);
-    return found.number == 0 ? ACCEPTED : REFUSED;
+    return status_of(found.number);
 }
 
 static int run_decode(int count, char **words)
@@ -128,14 +128,16 @@ static int check_value(const question *asked)
     static const luck_answer no_kind = {LUCK_UNKNOWN_KIND, 0, 0, 0, 0};
     question value = *asked;
     uint8_t *output = output_of(asked->len);
-    int status = REFUSED;
+    int status;
     if (output == NULL)
         return trouble("no memory for", "the value");
     luck_decoded found = luck_decode_string(asked->version, asked->text, asked->len, output, asked->len);
     if (!is_kind(asked->kind)) {
         put_refusal(stdout, asked, &no_kind);
+        status = status_of(no_kind.number);
     } else if (found.number != 0) {
         put_undecoded(stdout, asked, &found);
+        status = status_of(found.number);
     } else {
         value.of = A_VALUE;
         value.text = output;
@@ -185,7 +187,7 @@ static int try_gsub(const question *asked, const char *pattern, const char *repl
     fflush(stdout);
     put_trial(asked, &call.found);
     free(output);
-    return call.found.number == 0 ? ACCEPTED : REFUSED;
+    return status_of(call.found.number);
 }
 
 static int run_trial(int count, char **words)
@@ -261,9 +263,15 @@ static bool is_command(const char *word)
     return false;
 }
 
+/* A kind in the place of a command is likely to be checked. */
 static int no_command(const char *word)
 {
+    static const char *const checks[KINDS] = {"check format",   "check pattern",     "check pack",
+                                              "check packsize", "check replacement", "check date"};
     const char *names[COMMANDS];
+    for (size_t i = 0; i < KINDS; i++)
+        if (same_word(word, kind_names[i]))
+            return wrong_word("no command", word, checks[i]);
     for (size_t i = 0; i < COMMANDS; i++)
         names[i] = commands[i].name;
     return wrong_word("no command", word, likely(word, names, COMMANDS));
