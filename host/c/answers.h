@@ -86,11 +86,11 @@ static void put_skipped(const question *asked)
     if (is_short(asked->text, asked->len))
         fprintf(stdout,
                 "skipped: an escape spells a byte by its number (`\\0` to `\\9`, `\\x` or `\\u`), so it is not checked\n"
-                "  write `luck value KIND VERSION TEXT%s` to check what it stands for\n",
+                "  run `luck value KIND VERSION TEXT%s` to check what it stands for\n",
                 asked->known ? " CAPTURES" : "");
     else
         fputs("skipped: not in two equal quotes, so it is not checked\n"
-              "  write a short string with its quotes; `luck value` for long brackets; `luck check` for a body without quotes\n",
+              "  write a short string with its quotes; run `luck value` for long brackets, `luck check` for a body without quotes\n",
               stdout);
 }
 
@@ -103,8 +103,8 @@ static void put_trial(const question *asked, const luck_trial *found)
         fputs("done", stderr);
     } else if (found->number == LUCK_RAISED) {
         fprintf(stderr, "raised: %s (refusal %d, kind %lu)", raises[found->kind], LUCK_RAISED, (unsigned long)found->kind);
-        said.advice = found->kind <= LAST_PATTERN_RAISE ? "write `luck check pattern VERSION PATTERN` to see the place"
-                                                        : "write `luck check replacement VERSION REPLACEMENT CAPTURES` to see the place";
+        said.advice = found->kind <= LAST_PATTERN_RAISE ? "run `luck check pattern VERSION PATTERN` to see the place"
+                                                        : "run `luck check replacement VERSION REPLACEMENT CAPTURES` to see the place";
     } else {
         fputs("refused: ", stderr);
         put_sentence(stderr, said.fault, asked, &refused);

@@ -8,7 +8,7 @@
  * literal; lines.h has `luck lines`, own_stack.h the trial on a stack of its own. A text is read whole, since the library takes it so; of a
  * literal there is a copy or a value as long; nothing else that is allocated grows with the input.
  */
-#define _POSIX_C_SOURCE 200112L /* threads, for own_stack.h */
+#define _POSIX_C_SOURCE 200112L /* threads, for own_stack.h; isatty */
 
 #include "answers.h"
 #include "check.h"
@@ -21,6 +21,7 @@
 #include <stdio.h>
 #include <stdlib.h>
 #include <string.h>
+#include <unistd.h>
 
 /* -- Checks ------------------------------------------------------------------------------------------------------------ */
 
@@ -72,6 +73,15 @@ static int run_literal(int count, char **words)
     return status;
 }
 
+/* Writes a result. On a terminal what is said after it would stand in its last line, unless that has its newline. */
+static void put_output(const uint8_t *output, size_t written, bool is_said_more)
+{
+    fwrite(output, 1, written, stdout);
+    fflush(stdout);
+    if (is_said_more && written > 0 && output[written - 1] != '\n' && isatty(STDOUT_FILENO) && isatty(STDERR_FILENO))
+        fputc('\n', stderr);
+}
+
 /* -- Decoding ---------------------------------------------------------------------------------------------------------- */
 
 /* An output of `room` bytes, or null. */
@@ -93,8 +103,7 @@ static int decode(const question *asked)
         return trouble("no memory for", "the output");
     luck_decoded found = luck_decode_string(asked->version, asked->text, asked->len, output, asked->room);
     if (found.number == 0) {
-        fwrite(output, 1, found.written, stdout);
-        fflush(stdout);
+        put_output(output, found.written, has_literal_note(asked));
         put_notes(stderr, asked, found.number);
     } else {
         put_undecoded(stderr, asked, &found);
@@ -183,8 +192,7 @@ static int try_gsub(const question *asked, const char *pattern, const char *repl
         free(output);
         return trouble("no thread for", "the trial");
     }
-    fwrite(output, 1, call.found.written, stdout);
-    fflush(stdout);
+    put_output(output, call.found.written, true);
     put_trial(asked, &call.found);
     free(output);
     return status_of(call.found.number);

@@ -231,8 +231,8 @@ static message of_date(const question *asked, const luck_answer *refused)
     }
     if (letter == 'E' || letter == 'O')
         found.fault = "unexpected character after `%$c`: no date specifier of $v";
-    found.advice = "write one of `aAbBcCdDeFgGhHIjmMnprRStTuUVwWxXyYzZ%` after the `%`, or"
-                   " `%E` before one of `cCxXyY`, or `%O` before one of `deHImMSuUVwWy`";
+    found.advice = "write one of `aAbBcCdDeFgGhHIjmMnprRStTuUVwWxXyYzZ%` after the `%`,\n"
+                   "  or `%E` before one of `cCxXyY`, or `%O` before one of `deHImMSuUVwWy`";
     return found;
 }
 

@@ -23,6 +23,12 @@ static void put_pack_note(FILE *out, const question *asked)
     fprintf(out, " has no %s, which came with Lua 5.3\n", pack ? "string.pack and string.unpack" : "string.packsize");
 }
 
+/* Whether put_literal_note has something to say of a literal that was decoded. */
+static bool has_literal_note(const question *asked)
+{
+    return asked->shape.breaks || asked->shape.fault == BYTES_AFTER;
+}
+
 /* Decoding and the check of a literal are no lexers: they take what Lua ends earlier or does not load. */
 static void put_literal_note(FILE *out, const question *asked)
 {

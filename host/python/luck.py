@@ -5,19 +5,19 @@ position independent, so one command makes the shared object from it (or `make_s
 
     cc -shared -o target/libluck.so -Wl,--whole-archive target/staticlib/libluck.a -Wl,--no-whole-archive
 
-Then, with `luck = Luck("target/libluck.so")`:
+Then, with `lib = Luck("target/libluck.so")`:
 
-    >>> luck.check_pattern(Version.LUA_54, "(%d+)")
+    >>> lib.check_pattern(Version.LUA_54, "(%d+)")
     Answer(number=0, first=0, second=0, offset=0, count=1)
-    >>> answer = luck.check_pattern(Version.LUA_54, "(%d+")
+    >>> answer = lib.check_pattern(Version.LUA_54, "(%d+")
     >>> if not answer:
     ...     print(answer.message)
     unmatched capture at offset 4
     >>> Number(answer.number).name, answer.offset
     ('UNMATCHED_CAPTURE', 4)
-    >>> luck.decode_string(Version.LUA_54, r"'\\u{E9}'").value.decode()
+    >>> lib.decode_string(Version.LUA_54, r"'\\u{E9}'").value.decode()
     'é'
-    >>> luck.gsub_trial(Version.LUA_54, "%d+", "<%0>", "trip 17").output
+    >>> lib.gsub_trial(Version.LUA_54, "%d+", "<%0>", "trip 17").output
     b'trip <17>'
 
 An answer is true where the text is accepted, decoded or done, and false where it is refused; a literal that was skipped, which is not

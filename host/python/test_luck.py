@@ -664,7 +664,7 @@ class Loading(unittest.TestCase):
 
 def load_tests(loader: unittest.TestLoader, tests: unittest.TestSuite, pattern: object) -> unittest.TestSuite:
     """The examples in luck.py's own text are tests too."""
-    tests.addTests(doctest.DocTestSuite(module, extraglobs={"luck": luck}))
+    tests.addTests(doctest.DocTestSuite(module, extraglobs={"lib": luck}))
     return tests
 
 
