@@ -25,7 +25,8 @@
  *   measured, but for luck_gsub_trial, whose 200 levels take up to 473 KiB: give it 512.
  *
  * The refusals, by `number`, with their names after LUCK_. 0 is none: accepted, decoded, done, or skipped. "at" is the
- * byte that `offset` counts to, from 0; of a character of several bytes it is the first.
+ * byte that `offset` counts to, from 0; of a character of several bytes it is the first. host/c/messages.h has a
+ * sentence for each number, and what to write instead, to copy; host/c/example.c is a short caller.
  *
  *    format
  *    1  TRUNCATED_SPECIFIER   the text ends after a `%` or its modifiers (patterns too: after `%`, also in a set, or
@@ -62,7 +63,8 @@
  *   23  NOT_UTF8              not UTF-8 (RFC 3629); at the first byte of the first ill-formed sequence
  *    without a place: the offset is 0, or the answer has none
  *   24  UNDECODABLE           no literal, or an escape that is malformed or that this version does not have, or a
- *                             `\u{}` of a surrogate or above 10FFFF, which some versions take (decoding only)
+ *                             `\u{}` of a surrogate or above 10FFFF, which some versions take (decoding only);
+ *                             host/c/literal.h tells these apart and finds the place
  *   25  UNKNOWN_VERSION       `version` is not 1 to 6
  *   26  OUTPUT_TOO_SHORT      decoding: the value is longer than the output; trial: a byte was due and the output was
  *                             full
@@ -184,7 +186,7 @@ luck_answer luck_check_replacement(uint32_t version, bool known, size_t captures
 
 /* What the check of a literal answers. */
 typedef struct {
-    uint32_t number; /* 0: accepted or skipped; else the refusal */
+    uint32_t number; /* 0: accepted or skipped, so look at `skipped` first; else the refusal */
     uint32_t first;  /* as in luck_answer */
     uint32_t second; /* as in luck_answer */
     bool skipped;    /* not checked; all else is 0 and false */

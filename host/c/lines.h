@@ -18,6 +18,8 @@ static const char *misfit_of(const uint8_t *line, size_t len)
 {
     if (len == 0)
         return "bad line: it is empty";
+    if (len >= 3 && memcmp(line, "\xEF\xBB\xBF", 3) == 0)
+        return "bad line: it begins with a byte order mark: save the file without it";
     if (len < HEAD)
         return "bad line: it is shorter than the head of five bytes";
     bool blank = line[2] == ' ' && line[3] == ' ';

@@ -4,23 +4,24 @@
  *     cc -std=c99 -Wall -Wextra -Werror -Iinclude host/c/luck.c target/staticlib/libluck.a -lpthread -o luck
  *
  * The words of the command line are read in words.h, with what was likely meant in likely.h; answers.h puts an answer into words, by
- * the sentences of messages.h and with a text as show.h shows it; lines.h has `luck lines`, own_stack.h the trial on a stack of its own.
- * A text is read whole, since the library takes it so; nothing else that is allocated grows with the input.
+ * the sentences of messages.h and with a text as show.h shows it, and notes.h what is said beside it; literal.h finds what is wrong with a
+ * literal; lines.h has `luck lines`, own_stack.h the trial on a stack of its own. A text is read whole, since the library takes it so; of a
+ * literal there is a copy or a value as long; nothing else that is allocated grows with the input.
  */
-#define _POSIX_C_SOURCE 200112L /* threads, for own_stack.h */
+#define _POSIX_C_SOURCE 200112L /* threads, for own_stack.h; isatty */
 
 #include "answers.h"
 #include "check.h"
 #include "lines.h"
 #include "luck.h"
 #include "own_stack.h"
-#include "wide_escape.h"
 #include "words.h"
 
 #include <errno.h>
 #include <stdio.h>
 #include <stdlib.h>
 #include <string.h>
+#include <unistd.h>
 
 /* -- Checks ------------------------------------------------------------------------------------------------------------ */
 
@@ -29,7 +30,7 @@ static int check_text(const question *asked)
     luck_answer answer = check(asked);
     if (answer.number != 0) {
         put_refusal(stdout, asked, &answer);
-        return REFUSED;
+        return status_of(answer.number);
     }
     put_accepted(asked, answer.count);
     return ACCEPTED;
@@ -51,7 +52,7 @@ static int check_literal(const question *asked)
     luck_literal found = luck_check_literal(asked->kind, asked->version, asked->known, asked->captures, 0, asked->text, asked->len);
     if (found.number != 0) {
         put_literal_refusal(asked, &found);
-        return REFUSED;
+        return status_of(found.number);
     }
     if (found.skipped) {
         put_skipped(asked);
@@ -72,6 +73,15 @@ static int run_literal(int count, char **words)
     return status;
 }
 
+/* Writes a result. On a terminal what is said after it would stand in its last line, unless that has its newline. */
+static void put_output(const uint8_t *output, size_t written, bool is_said_more)
+{
+    fwrite(output, 1, written, stdout);
+    fflush(stdout);
+    if (is_said_more && written > 0 && output[written - 1] != '\n' && isatty(STDOUT_FILENO) && isatty(STDERR_FILENO))
+        fputc('\n', stderr);
+}
+
 /* -- Decoding ---------------------------------------------------------------------------------------------------------- */
 
 /* An output of `room` bytes, or null. */
@@ -82,11 +92,8 @@ static uint8_t *output_of(size_t room)
 
 static void put_undecoded(FILE *out, const question *asked, const luck_decoded *found)
 {
-    question known = *asked;
     luck_answer refused = {found->number, 0, 0, found->offset, 0};
-    if (found->number == LUCK_UNDECODABLE)
-        known.has_wide = only_wide_escapes(asked->version, asked->text, asked->len, &known.wide);
-    put_refusal(out, &known, &refused);
+    put_refusal(out, asked, &refused);
 }
 
 static int decode(const question *asked)
@@ -95,12 +102,14 @@ static int decode(const question *asked)
     if (output == NULL)
         return trouble("no memory for", "the output");
     luck_decoded found = luck_decode_string(asked->version, asked->text, asked->len, output, asked->room);
-    if (found.number == 0)
-        fwrite(output, 1, found.written, stdout);
-    else
+    if (found.number == 0) {
+        put_output(output, found.written, has_literal_note(asked));
+        put_notes(stderr, asked, found.number);
+    } else {
         put_undecoded(stderr, asked, &found);
+    }
     free(output);
-    return found.number == 0 ? ACCEPTED : REFUSED;
+    return status_of(found.number);
 }
 
 static int run_decode(int count, char **words)
@@ -114,8 +123,10 @@ static int run_decode(int count, char **words)
         status = read_options(count - 2, words + 2, false, &asked);
     if (status == 0)
         status = read_text(words[1], &kept, &asked);
-    if (status == 0)
+    if (status == 0) {
+        look_at_shape(&asked);
         status = decode(&asked);
+    }
     free(kept);
     return status;
 }
@@ -126,14 +137,16 @@ static int check_value(const question *asked)
     static const luck_answer no_kind = {LUCK_UNKNOWN_KIND, 0, 0, 0, 0};
     question value = *asked;
     uint8_t *output = output_of(asked->len);
-    int status = REFUSED;
+    int status;
     if (output == NULL)
         return trouble("no memory for", "the value");
     luck_decoded found = luck_decode_string(asked->version, asked->text, asked->len, output, asked->len);
     if (!is_kind(asked->kind)) {
         put_refusal(stdout, asked, &no_kind);
+        status = status_of(no_kind.number);
     } else if (found.number != 0) {
         put_undecoded(stdout, asked, &found);
+        status = status_of(found.number);
     } else {
         value.of = A_VALUE;
         value.text = output;
@@ -179,11 +192,10 @@ static int try_gsub(const question *asked, const char *pattern, const char *repl
         free(output);
         return trouble("no thread for", "the trial");
     }
-    fwrite(output, 1, call.found.written, stdout);
-    fflush(stdout);
+    put_output(output, call.found.written, true);
     put_trial(asked, &call.found);
     free(output);
-    return call.found.number == 0 ? ACCEPTED : REFUSED;
+    return status_of(call.found.number);
 }
 
 static int run_trial(int count, char **words)
@@ -259,9 +271,15 @@ static bool is_command(const char *word)
     return false;
 }
 
+/* A kind in the place of a command is likely to be checked. */
 static int no_command(const char *word)
 {
+    static const char *const checks[KINDS] = {"check format",   "check pattern",     "check pack",
+                                              "check packsize", "check replacement", "check date"};
     const char *names[COMMANDS];
+    for (size_t i = 0; i < KINDS; i++)
+        if (same_word(word, kind_names[i]))
+            return wrong_word("no command", word, checks[i]);
     for (size_t i = 0; i < COMMANDS; i++)
         names[i] = commands[i].name;
     return wrong_word("no command", word, likely(word, names, COMMANDS));

@@ -6,11 +6,12 @@
  *
  *     $c  the character at the fault        $v  the version's name            $r  the room of the output
  *     $2  the conversion of refusal 6       $n  the pattern's captures        $b  the budget of steps
- *     $k  the kind                          $e  the escape at `wide`
+ *     $k  the kind                          $e  the escape that the shape names
  */
 #ifndef LUCK_MESSAGES_H
 #define LUCK_MESSAGES_H
 
+#include "literal.h"
 #include "luck.h"
 
 /* Refusals of a line, which the library does not read: its head does not fit; it is too long. */
@@ -30,8 +31,9 @@ typedef struct {
     uint32_t budget;
     const uint8_t *text;
     size_t len;
-    bool has_wide; /* whether escapes that Lua itself takes are all that is wrong; then `wide` is the place of the first one */
-    size_t wide;
+    literal shape;         /* of a literal, and of its value: what its text looks like */
+    const uint8_t *source; /* the text that `shape` speaks of */
+    size_t source_len;
 } question;
 
 typedef struct {
@@ -229,8 +231,8 @@ static message of_date(const question *asked, const luck_answer *refused)
     }
     if (letter == 'E' || letter == 'O')
         found.fault = "unexpected character after `%$c`: no date specifier of $v";
-    found.advice = "write one of `aAbBcCdDeFgGhHIjmMnprRStTuUVwWxXyYzZ%` after the `%`, or"
-                   " `%E` before one of `cCxXyY`, or `%O` before one of `deHImMSuUVwWy`";
+    found.advice = "write one of `aAbBcCdDeFgGhHIjmMnprRStTuUVwWxXyYzZ%` after the `%`,\n"
+                   "  or `%E` before one of `cCxXyY`, or `%O` before one of `deHImMSuUVwWy`";
     return found;
 }
 
@@ -247,13 +249,71 @@ static message of_bytes(const question *asked)
     return found;
 }
 
-/* The second sentences of 15, 11, 24 and 26. */
+/* 24, where a backslash begins no escape. */
+static message of_escape(const question *asked)
+{
+    static const message other = {"`$e` is no escape of $v", "write `\\\\` for a backslash"};
+    static const message number = {"`$e` is too large: an escape of digits goes up to `\\255`",
+                                   "write a number up to 255, and three digits where another digit follows"};
+    static const message hex = {"`$e`: two hexadecimal digits have to follow `\\x`",
+                                "write both digits, as in `\\x0A`; write `\\\\` for a backslash"};
+    static const message braces = {"`$e`: hexadecimal digits in braces have to follow `\\u`",
+                                   "write it as in `\\u{E9}`; write `\\\\` for a backslash"};
+    static const message surrogate = {"`$e` is no character: D800 to DFFF are halves of a pair",
+                                      "write the character's own number, up to 10FFFF"};
+    static const message large = {"`$e` is too large", "write a number up to 10FFFF"};
+    const uint8_t *escape = asked->source + asked->shape.place;
+    size_t len = asked->source_len - asked->shape.place;
+    uint8_t letter = len > 1 ? escape[1] : 0;
+    uint32_t code = 0;
+    if (letter >= '0' && letter <= '9')
+        return number;
+    if (letter == 'x' && asked->version != LUCK_LUA_51)
+        return hex;
+    if (letter != 'u' || asked->version < LUCK_LUA_53)
+        return other;
+    if (unicode_escape(escape, len, &code) <= 4)
+        return braces;
+    return code >= 0xD800 && code <= 0xDFFF ? surrogate : large;
+}
+
+/* 24, by what the text looks like. */
+static message of_shape(const question *asked)
+{
+    static const message open_quote = {"the quote that it begins with is never closed",
+                                       "write the same quote at its end; one after a single `\\` is a part of the text"};
+    static const message open_bracket = {"the long bracket that it begins with is never closed",
+                                         "write its own at the end, as in `[[text]]` and `[=[text]=]`"};
+    static const message no_opening = {"no string literal: it is in neither two equal quotes nor long brackets",
+                                       "in a shell write '\"text\"', since the shell takes the outer quotes"};
+    static const message newline = {"bytes follow the literal, the last of them a newline",
+                                    "give the literal alone: `printf %s` writes no newline after it, `echo` does"};
+    static const message after = {"bytes follow the literal", "give one literal alone"};
+    static const message wide = {"`$e` is not read here, though $v itself takes it",
+                                 "the script can keep it; only its value can't be decoded or checked"};
+    switch (asked->shape.fault) {
+    case NO_OPENING:
+        return no_opening;
+    case NO_CLOSING:
+        return asked->source[0] == '[' ? open_bracket : open_quote;
+    case BYTES_AFTER:
+        return asked->source[asked->source_len - 1] == '\n' ? newline : after;
+    case NO_ESCAPE:
+        return of_escape(asked);
+    case WIDE_ESCAPE:
+        return wide;
+    default:
+        return messages[LUCK_UNDECODABLE];
+    }
+}
+
+/* The second sentences of 15, 11, 28 and 26. */
 static const message cut_alignment = {"truncated pack size: no option follows `X`",
                                       "write an option with a size, or `x`, after `X`, as in `Xi4`"};
 static const message open_capture = {"unmatched capture: a `(` is never closed",
                                      "write a `)` for each `(`; write `%(` for the character `(`"};
-static const message wide_escape = {"undecodable: `$e` is not read here, though $v itself takes it",
-                                    "the script can keep it; only its value can't be decoded or checked"};
+static const message deep_in_51 = {"too deep: the 201st level of the matching; Lua 5.1 itself has no such limit",
+                                   "write fewer items in one pattern"};
 static const message output_full = {"output full: one byte more than the room of $r was due", "write a larger --room"};
 
 /* The sentence of a refusal. */
@@ -282,11 +342,13 @@ static message message_of(const question *asked, const luck_answer *refused)
     case LUCK_NOT_UTF8:
         return of_bytes(asked);
     case LUCK_UNDECODABLE:
-        return asked->has_wide ? wide_escape : found;
+        return of_shape(asked);
     case LUCK_UNKNOWN_VERSION:
         if (asked->of == A_LINE)
             found.advice = "write a digit: 1 to 5 for Lua 5.1 to 5.5, 6 for Luau";
         return found;
+    case LUCK_TOO_DEEP:
+        return asked->version == LUCK_LUA_51 ? deep_in_51 : found;
     case LUCK_OUTPUT_TOO_SHORT:
         return asked->of == A_SUBJECT ? output_full : found;
     default:

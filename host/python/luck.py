@@ -5,27 +5,27 @@ position independent, so one command makes the shared object from it (or `make_s
 
     cc -shared -o target/libluck.so -Wl,--whole-archive target/staticlib/libluck.a -Wl,--no-whole-archive
 
-Then, with `luck = Luck("target/libluck.so")`:
+Then, with `lib = Luck("target/libluck.so")`:
 
-    >>> luck.check_pattern(Version.LUA_54, "(%d+)")
+    >>> lib.check_pattern(Version.LUA_54, "(%d+)")
     Answer(number=0, first=0, second=0, offset=0, count=1)
-    >>> answer = luck.check_pattern(Version.LUA_54, "(%d+")
+    >>> answer = lib.check_pattern(Version.LUA_54, "(%d+")
     >>> if not answer:
     ...     print(answer.message)
     unmatched capture at offset 4
     >>> Number(answer.number).name, answer.offset
     ('UNMATCHED_CAPTURE', 4)
-    >>> luck.decode_string(Version.LUA_54, r"'\\u{E9}'").value.decode()
+    >>> lib.decode_string(Version.LUA_54, r"'\\u{E9}'").value.decode()
     'é'
-    >>> luck.gsub_trial(Version.LUA_54, "%d+", "<%0>", "trip 17").output
+    >>> lib.gsub_trial(Version.LUA_54, "%d+", "<%0>", "trip 17").output
     b'trip <17>'
 
 An answer is true where the text is accepted, decoded or done, and false where it is refused; a literal that was skipped, which is not
 checked, is false too. `message` says why, in the words of the Rust crate.
 
-Texts are bytes, any bytes, or a str, which is taken as its UTF-8; an offset counts bytes. A version is one of `Version`, or its number: 1 to
-5 for Lua 5.1 to 5.5 and 6 for Luau; another number is refused by the library (25). A number that the C type can't hold raises OverflowError
-here, since ctypes would cut it off without a word.
+Texts are bytes, any bytes, or a str, which is taken as its UTF-8; an offset counts bytes. A version is one of `Version`, its name ("5.4",
+"luau"), or its number: 1 to 5 for Lua 5.1 to 5.5 and 6 for Luau; another number is refused by the library (25), another name raises
+ValueError. A number that the C type can't hold raises OverflowError here, since ctypes would cut it off without a word.
 
 A trial of gsub takes up to 473 KiB of stack: a thread that calls it needs 512 KiB (threading.stack_size), or the process dies.
 
@@ -69,6 +69,9 @@ Path = Union[str, "os.PathLike[str]"]
 # A text: any bytes, or a str, which is taken as its UTF-8.
 Text = Union[bytes, str]
 
+# A version: one of Version, its name, or its number.
+AnyVersion = Union[int, str]
+
 # What decoding and the trial write to. A memoryview has to be writable and without gaps.
 Output = Union[bytearray, memoryview]
 
@@ -77,7 +80,11 @@ SIZE_MAX = 2 ** (8 * ctypes.sizeof(ctypes.c_size_t)) - 1
 
 
 class Version(enum.IntEnum):
-    """The versions of Lua, by the names of include/luck.h."""
+    """The versions of Lua, by the names of include/luck.h.
+
+    `Version("5.4")` takes the names of the Rust crate and the command, in any case: `5.4`, `lua5.4`, `Lua 5.4` or `4`; `luau` or `6`. A
+    version is written as `Lua 5.4` or `Luau`.
+    """
 
     LUA_51 = 1
     LUA_52 = 2
@@ -86,9 +93,27 @@ class Version(enum.IntEnum):
     LUA_55 = 5
     LUAU = 6
 
+    @classmethod
+    def _missing_(cls, value: object) -> Optional[Version]:
+        if not isinstance(value, str):
+            return None
+        name = value.lower()
+        for version in cls:
+            words = str(version).lower()
+            if name in (str(version.value), words, words.replace("lua ", ""), words.replace(" ", "")):
+                return version
+        return None
+
+    def __str__(self) -> str:
+        return "Luau" if self is Version.LUAU else f"Lua 5.{self.value}"
+
+    def __format__(self, spec: str) -> str:
+        return format(str(self), spec)
+
 
 class Kind(bytes, enum.Enum):
-    """What a literal is used for, by the names of include/luck.h."""
+    """What a literal is used for, by the names of include/luck.h. `Kind("pattern")` takes the names of the command, in any case, and `Kind("P")`
+    the letter."""
 
     FORMAT = b"F"
     PATTERN = b"P"
@@ -96,6 +121,14 @@ class Kind(bytes, enum.Enum):
     PACKSIZE = b"S"
     REPLACEMENT = b"G"
     DATE = b"D"
+
+    @classmethod
+    def _missing_(cls, value: object) -> Optional[Kind]:
+        word = value.encode() if isinstance(value, str) else value
+        for kind in cls:
+            if isinstance(word, bytes) and (word == kind.value or word.lower() == kind.name.lower().encode()):
+                return kind
+        return None
 
 
 class Number(enum.IntEnum):
@@ -154,12 +187,12 @@ _REFUSALS = {
     16: "integer size out of limits at offset {offset}",
     17: "alignment is not a power of 2 at offset {offset}",
     18: "variable-length option `{character}` at offset {offset}",
-    19: "ends with a lone `%`",
-    20: "unexpected character after `%`, expected a digit or `%`",
-    21: "capture index is higher than the pattern's capture count",
-    22: "unexpected character after `%`, expected a date specifier or `%`",
+    19: "ends with a lone `%` at offset {offset}",
+    20: "unexpected character after `%`, expected a digit or `%` at offset {offset}",
+    21: "capture index is higher than the pattern's capture count at offset {offset}",
+    22: "unexpected character after `%`, expected a date specifier or `%` at offset {offset}",
     23: "not UTF-8 at offset {offset}",
-    24: "no literal, or an escape that this version does not have",
+    24: "no literal, or an escape that is malformed or that is not read in this version",
     25: "unknown version",
     26: "the value is longer than the output",
     30: "unknown kind",
@@ -381,8 +414,27 @@ def _number(name: str, value: int, largest: int) -> int:
     return number
 
 
-def _version(value: int) -> int:
+def _version(value: AnyVersion) -> int:
+    """The number of a version. Any number is the library's to refuse; a name that is none can't go there."""
+    if isinstance(value, str):
+        try:
+            return Version(value).value
+        except ValueError:
+            raise ValueError(f"version is {value!r}: write 5.1 to 5.5, luau, or a number from 1 to 6") from None
+    if not hasattr(value, "__index__"):
+        raise TypeError(f"version is {type(value).__name__}, not one of Version, its name or its number")
     return _number("version", value, UINT32_MAX)
+
+
+def _letter(kind: Text) -> int:
+    """The letter of a kind. Any single byte is the library's to refuse; a name that is none can't go there."""
+    word = _bytes("kind", kind)
+    if len(word) == 1:
+        return word[0]
+    try:
+        return Kind(word).value[0]
+    except ValueError:
+        raise ValueError(f"kind is {kind!r}: write format, pattern, pack, packsize, replacement or date, or its letter") from None
 
 
 def _bytes(name: str, value: Text) -> bytes:
@@ -415,7 +467,7 @@ def _output(value: Output) -> Tuple[Any, int]:
     return (ctypes.c_uint8 * room).from_buffer(value), room
 
 
-def _check(function: Any, version: int, body: Text) -> Answer:
+def _check(function: Any, version: AnyVersion, body: Text) -> Answer:
     """A C function that checks a body and asks for nothing else."""
     return Answer(*_fields(function(_version(version), *_text("body", body))))
 
@@ -443,54 +495,51 @@ class Luck:
         function.argtypes = arguments
         function.restype = answer
 
-    def check_format(self, version: int, body: Text) -> Answer:
+    def check_format(self, version: AnyVersion, body: Text) -> Answer:
         """A format of string.format; counts the arguments that its specifiers take."""
         return _check(self._library.luck_check_format, version, body)
 
-    def check_pattern(self, version: int, body: Text) -> Answer:
+    def check_pattern(self, version: AnyVersion, body: Text) -> Answer:
         """A pattern of string.find, match, gmatch and gsub; counts its captures, `()` included."""
         return _check(self._library.luck_check_pattern, version, body)
 
-    def check_pack(self, version: int, body: Text) -> Answer:
+    def check_pack(self, version: AnyVersion, body: Text) -> Answer:
         """A format of string.pack and unpack; counts its values."""
         return _check(self._library.luck_check_pack, version, body)
 
-    def check_packsize(self, version: int, body: Text) -> Answer:
+    def check_packsize(self, version: AnyVersion, body: Text) -> Answer:
         """A format of string.packsize; counts its values."""
         return _check(self._library.luck_check_packsize, version, body)
 
-    def check_date(self, version: int, body: Text) -> Answer:
+    def check_date(self, version: AnyVersion, body: Text) -> Answer:
         """A format of os.date; counts nothing."""
         return _check(self._library.luck_check_date, version, body)
 
-    def check_replacement(self, version: int, captures: Optional[int], body: Text) -> Answer:
+    def check_replacement(self, version: AnyVersion, captures: Optional[int], body: Text) -> Answer:
         """A replacement of string.gsub, with the pattern's count of captures, or None where it is not known; counts nothing."""
         known, count = _captures(captures)
         answer = self._library.luck_check_replacement(_version(version), known, count, *_text("body", body))
         return Answer(*_fields(answer))
 
-    def check_literal(self, kind: Text, version: int, captures: Optional[int], start: int, text: Text) -> Literal:
+    def check_literal(self, kind: Text, version: AnyVersion, captures: Optional[int], start: int, text: Text) -> Literal:
         """A literal with its quotes, at the offset `start` of a source.
 
-        `kind` is one of `Kind`, or its letter: "F" (format), "P" (pattern), "K" (pack), "S" (packsize), "G" (replacement, with `captures`) or
-        "D" (date).
+        `kind` is one of `Kind`, its name or its letter: "format" or "F", "pattern" or "P", "pack" or "K", "packsize" or "S", "replacement" or
+        "G", with `captures`, "date" or "D".
         """
-        letter = _bytes("kind", kind)
-        if len(letter) != 1:
-            raise ValueError(f"kind is {len(letter)} bytes, not one")
         known, count = _captures(captures)
         place = _number("start", start, UINT32_MAX)
-        answer = self._library.luck_check_literal(letter[0], _version(version), known, count, place, *_text("text", text))
+        answer = self._library.luck_check_literal(_letter(kind), _version(version), known, count, place, *_text("text", text))
         return Literal(*_fields(answer))
 
-    def decode_string(self, version: int, text: Text) -> Decoded:
+    def decode_string(self, version: AnyVersion, text: Text) -> Decoded:
         """The bytes that a literal stands for: short in two equal quotes, or in long brackets."""
         # A value is never longer than its literal.
         output = bytearray(_text("text", text)[1])
         number, offset, written = self.decode_string_into(version, text, output)
         return Decoded(number, offset, bytes(output[:written]))
 
-    def decode_string_into(self, version: int, text: Text, output: Output) -> DecodedInto:
+    def decode_string_into(self, version: AnyVersion, text: Text, output: Output) -> DecodedInto:
         """Writes the bytes that a literal stands for to the front of `output`; the rest of it stays as it was."""
         lent, room = _output(output)
         answer = self._library.luck_decode_string(_version(version), *_text("text", text), lent, room)
@@ -498,7 +547,7 @@ class Luck:
 
     def gsub_trial(
         self,
-        version: int,
+        version: AnyVersion,
         pattern: Text,
         replacement: Text,
         subject: Text,
@@ -506,6 +555,9 @@ class Luck:
         room: int = DEFAULT_ROOM,
     ) -> Trial:
         """string.gsub(subject, pattern, replacement), within `budget` steps and `room` bytes of output.
+
+        It goes by the rules of 5.4 in every version; but for replacements that only 5.1 takes, its answer does not depend on the version. Lua
+        5.1 and 5.2 themselves also replace an empty match right after a match, and in 5.1 `%g` is the letter g (docs/DIFFERENCES.md).
 
         It takes up to 473 KiB of stack: a thread with less than 512 KiB (threading.stack_size) must not call it.
         """
@@ -516,7 +568,7 @@ class Luck:
         return Trial(answer.number, answer.kind, bytes(output[: answer.written]), answer.replacements, answer.steps)
 
     def gsub_trial_into(
-        self, version: int, pattern: Text, replacement: Text, subject: Text, budget: int, output: Output
+        self, version: AnyVersion, pattern: Text, replacement: Text, subject: Text, budget: int, output: Output
     ) -> TrialInto:
         """The same, to the front of `output`; the rest of it stays as it was. It takes as much stack."""
         texts = (*_text("pattern", pattern), *_text("replacement", replacement), *_text("subject", subject))

@@ -239,8 +239,10 @@ class Messages(unittest.TestCase):
             (luck.check_format(4, "%#d"), "`%d` can't take `#` at offset 1"),
             (luck.check_pattern(4, "(%d+"), "unmatched capture at offset 4"),
             (luck.check_packsize(4, "s"), "variable-length option `s` at offset 0"),
-            (luck.check_replacement(4, 1, "%2"), "capture index is higher than the pattern's capture count"),
-            (luck.check_date(4, "%"), "ends with a lone `%`"),
+            (luck.check_replacement(4, 1, "%2"), "capture index is higher than the pattern's capture count at offset 1"),
+            (luck.check_date(4, "a%"), "ends with a lone `%` at offset 1"),
+            (luck.check_replacement(4, None, "%x"), "unexpected character after `%`, expected a digit or `%` at offset 1"),
+            (luck.check_date(4, "%Q"), "unexpected character after `%`, expected a date specifier or `%` at offset 1"),
             (luck.check_format(1, b"a\xFF"), "not UTF-8 at offset 1"),
             (luck.check_format(7, ""), "unknown version"),
             (luck.check_format(4, "%d"), ""),
@@ -248,7 +250,7 @@ class Messages(unittest.TestCase):
             (luck.check_literal("Z", 4, None, 0, "'%y'"), "unknown kind"),
             (luck.check_literal("F", 4, None, 0, "'%d'"), ""),
             (luck.check_literal("F", 4, None, 0, "%d"), r"not checked: not in two equal quotes, or with an escape `\0` to `\9`, `\x` or `\u`"),
-            (luck.decode_string(4, "'"), "no literal, or an escape that this version does not have"),
+            (luck.decode_string(4, "'"), "no literal, or an escape that is malformed or that is not read in this version"),
             (luck.decode_string(4, b"'\xFF'"), "not UTF-8 at offset 1"),
             (luck.decode_string(0, "'"), "unknown version"),
             (luck.decode_string(4, "''"), ""),
@@ -263,8 +265,15 @@ class Messages(unittest.TestCase):
         self.assertEqual(Trial(29, 11, b"", 0, 0).message, "refusal 29, kind 11")
 
     def test_every_refusal(self) -> None:
-        for kind, version, body, *_ in REFUSALS:
-            self.assertNotEqual(CHECKS[kind](version, body).message, "")
+        """Each message ends with the place of its fault."""
+        for kind, version, body, _, offset, _ in REFUSALS:
+            message = CHECKS[kind](version, body).message
+            self.assertTrue(message.endswith(f" at offset {offset}"), message)
+
+    def test_undecodable(self) -> None:
+        """One sentence for all that 24 is: no literal, malformed, not of the version, and what the version itself has but is not read."""
+        for version, text in [(4, "hello"), (4, r'"\300"'), (4, r'"\q"'), (4, r'"\u{110000}"'), (3, r'"\u{D800}"')]:
+            self.assertEqual(luck.decode_string(version, text).message, "no literal, or an escape that is malformed or that is not read in this version")
 
     def test_trials(self) -> None:
         for trial, message in [
@@ -543,14 +552,41 @@ class WrongArguments(unittest.TestCase):
             self.assertRaises(OverflowError, luck.gsub_trial, 4, b"", b"", b"", 1, number)
 
     def test_kinds(self) -> None:
-        for kind in (b"", b"FF"):
-            self.assertRaises(ValueError, luck.check_literal, kind, 4, None, 0, b"''")
-        self.assertRaises(ValueError, luck.check_literal, "é", 4, None, 0, b"''")
+        for kind in (b"", b"FF", "", "FF", "é", "regex", b"regex", "kind.format"):
+            with self.assertRaisesRegex(ValueError, "write format, pattern, pack, packsize, replacement or date, or its letter"):
+                luck.check_literal(kind, 4, None, 0, b"''")
         for wrong in (70, None):
             self.assertRaises(TypeError, luck.check_literal, wrong, 4, None, 0, b"''")
         for kind in Kind:
-            for same in (kind, kind.value, kind.value.decode()):
+            for same in (kind, kind.value, kind.value.decode(), kind.name, kind.name.lower(), kind.name.lower().encode()):
                 self.assertTrue(luck.check_literal(same, 4, None, 0, b"''"))
+                self.assertEqual(luck.check_literal(same, 4, None, 0, "'%'"), luck.check_literal(kind.value, 4, None, 0, "'%'"))
+                self.assertIs(Kind(same), kind)
+        # Another letter is the library's to refuse, and not a name.
+        self.assertEqual(luck.check_literal("f", 4, None, 0, b"''").number, Number.UNKNOWN_KIND)
+        self.assertRaises(ValueError, Kind, "f")
+
+    def test_version_names(self) -> None:
+        """The names that the Rust crate and the command take."""
+        for version in Version:
+            name = "luau" if version is Version.LUAU else f"5.{version.value}"
+            same = [name, name.upper(), str(version), str(version).upper(), str(version.value)]
+            same += [] if version is Version.LUAU else ["lua" + name, "LUA " + name]
+            for word in same:
+                self.assertIs(Version(word), version)
+                self.assertEqual(luck.check_format(word, "%p"), luck.check_format(version.value, "%p"))
+                self.assertEqual(luck.check_literal("F", word, None, 0, "'%p'"), luck.check_literal("F", version, None, 0, "'%p'"))
+                self.assertEqual(luck.decode_string(word, r"'\u{E9}'"), luck.decode_string(version.value, r"'\u{E9}'"))
+                self.assertEqual(luck.gsub_trial(word, "a", "%x", "a"), luck.gsub_trial(version.value, "a", "%x", "a"))
+        for word in ("", "0", "7", "54", "5.6", "5.0", "LuaJIT", "lua", "lua4", "luaLuau", "lua  5.4", " 5.4", "5.4 ", "LUA_54"):
+            self.assertRaises(ValueError, Version, word)
+            with self.assertRaisesRegex(ValueError, "version is '.*': write 5.1 to 5.5, luau, or a number from 1 to 6"):
+                luck.check_format(word, "")
+
+    def test_version_words(self) -> None:
+        self.assertEqual([str(version) for version in Version], ["Lua 5.1", "Lua 5.2", "Lua 5.3", "Lua 5.4", "Lua 5.5", "Luau"])
+        self.assertEqual(f"{Version.LUA_54}, {Version.LUAU:>6}", "Lua 5.4,   Luau")
+        self.assertEqual(Version.LUA_54, 4)
 
     def test_types(self) -> None:
         for wrong in (None, bytearray(b"text"), 4):
@@ -563,8 +599,9 @@ class WrongArguments(unittest.TestCase):
         for wrong in (b"read only", memoryview(b"read only"), memoryview(bytearray(4))[::2], None, 4):
             self.assertRaises(TypeError, luck.decode_string_into, 4, b"''", wrong)
             self.assertRaises(TypeError, luck.gsub_trial_into, 4, b"", b"", b"", 1, wrong)
-        for wrong in (4.0, "4", None):
-            self.assertRaises(TypeError, luck.check_format, wrong, b"")
+        for wrong in (4.0, b"5.4", None):
+            with self.assertRaisesRegex(TypeError, f"version is {type(wrong).__name__}, not one of Version, its name or its number"):
+                luck.check_format(wrong, b"")
 
     def test_str(self) -> None:
         """A str is taken as its UTF-8, and offsets count bytes."""
@@ -627,7 +664,7 @@ class Loading(unittest.TestCase):
 
 def load_tests(loader: unittest.TestLoader, tests: unittest.TestSuite, pattern: object) -> unittest.TestSuite:
     """The examples in luck.py's own text are tests too."""
-    tests.addTests(doctest.DocTestSuite(module, extraglobs={"luck": luck}))
+    tests.addTests(doctest.DocTestSuite(module, extraglobs={"lib": luck}))
     return tests
 
 

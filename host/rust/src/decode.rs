@@ -15,7 +15,8 @@ pub enum DecodeError {
         /// The first byte of the first ill-formed sequence.
         offset: usize,
     },
-    /// 24: no literal, or an escape that is malformed or that this version does not have.
+    /// 24: no literal, or an escape that is malformed or that is not read in this version: one that it does not have, or a `\u{}` of a
+    /// surrogate or above 10FFFF, which some versions of Lua take.
     Undecodable,
     /// 26: the value is longer than the output.
     OutputTooShort,
@@ -30,7 +31,7 @@ impl fmt::Display for DecodeError {
     fn fmt(&self, f: &mut fmt::Formatter<'_>) -> fmt::Result {
         match self {
             Self::NotUtf8 { offset } => write!(f, "not UTF-8 at offset {offset}"),
-            Self::Undecodable => f.write_str("no literal, or an escape that this version does not have"),
+            Self::Undecodable => f.write_str("no literal, or an escape that is malformed or that is not read in this version"),
             Self::OutputTooShort => f.write_str("the value is longer than the output"),
             Self::Other { number } => write!(f, "refusal {number}"),
         }

@@ -245,7 +245,7 @@ impl Refusal {
     }
 }
 
-/// luck's own words.
+/// luck's own words, and the place.
 impl fmt::Display for Refusal {
     fn fmt(&self, f: &mut fmt::Formatter<'_>) -> fmt::Result {
         match self {
@@ -271,10 +271,16 @@ impl fmt::Display for Refusal {
             Self::VariableLengthPackOption { offset, character } => {
                 write!(f, "variable-length option `{character}` at offset {offset}")
             }
-            Self::LonePercent { .. } => f.write_str("ends with a lone `%`"),
-            Self::BadReplacementEscape { .. } => f.write_str("unexpected character after `%`, expected a digit or `%`"),
-            Self::CaptureIndexOutOfRange { .. } => f.write_str("capture index is higher than the pattern's capture count"),
-            Self::BadDateSpecifier { .. } => f.write_str("unexpected character after `%`, expected a date specifier or `%`"),
+            Self::LonePercent { offset } => write!(f, "ends with a lone `%` at offset {offset}"),
+            Self::BadReplacementEscape { offset } => {
+                write!(f, "unexpected character after `%`, expected a digit or `%` at offset {offset}")
+            }
+            Self::CaptureIndexOutOfRange { offset } => {
+                write!(f, "capture index is higher than the pattern's capture count at offset {offset}")
+            }
+            Self::BadDateSpecifier { offset } => {
+                write!(f, "unexpected character after `%`, expected a date specifier or `%` at offset {offset}")
+            }
             Self::NotUtf8 { offset } => write!(f, "not UTF-8 at offset {offset}"),
             Self::Other { number, offset } => write!(f, "refusal {number} at offset {offset}"),
         }

@@ -31,7 +31,7 @@ pub enum Ending {
     OutputFull,
     /// 27: a step was due and the budget was spent.
     StepsSpent,
-    /// 28: the 201st level, which real Lua raises as "pattern too complex".
+    /// 28: the 201st level, which real Lua raises as "pattern too complex" (5.1 has no such limit).
     TooDeep,
     /// 29: Lua raises an error.
     Raised(RaisedKind),
@@ -167,6 +167,9 @@ impl From<raw::Trial> for Trial {
 
 /// Tries `string.gsub(subject, pattern, replacement)` within a budget of steps, and writes the result to the front of `output`; the rest
 /// of the output is as it was. The texts are not checked first.
+///
+/// It goes by the rules of 5.4 in every version; but for replacements that only 5.1 takes, its answer does not depend on the version. Lua 5.1
+/// and 5.2 themselves also replace an empty match right after a match, and in 5.1 `%g` is the letter g (`docs/DIFFERENCES.md`).
 ///
 /// The budget bounds the steps and not the time: a step may read the whole pattern or the whole subject.
 ///

@@ -79,7 +79,7 @@ fn rooms() {
 #[test]
 fn messages() {
     assert_eq!(NotUtf8 { offset: 3 }.to_string(), "not UTF-8 at offset 3");
-    assert_eq!(Undecodable.to_string(), "no literal, or an escape that this version does not have");
+    assert_eq!(Undecodable.to_string(), "no literal, or an escape that is malformed or that is not read in this version");
     assert_eq!(OutputTooShort.to_string(), "the value is longer than the output");
 }
 

@@ -55,14 +55,14 @@ const ROWS: [Row; 28] = [
         Refusal::VariableLengthPackOption { offset: 0, character: 's' },
         "variable-length option `s` at offset 0",
     ),
-    row(Replacement, 2, b"%", 19, Refusal::LonePercent { offset: 0 }, "ends with a lone `%`"),
+    row(Replacement, 2, b"%", 19, Refusal::LonePercent { offset: 0 }, "ends with a lone `%` at offset 0"),
     row(
         Replacement,
         2,
         b"%x",
         20,
         Refusal::BadReplacementEscape { offset: 1 },
-        "unexpected character after `%`, expected a digit or `%`",
+        "unexpected character after `%`, expected a digit or `%` at offset 1",
     ),
     row(
         Replacement,
@@ -70,16 +70,16 @@ const ROWS: [Row; 28] = [
         b"%2",
         21,
         Refusal::CaptureIndexOutOfRange { offset: 1 },
-        "capture index is higher than the pattern's capture count",
+        "capture index is higher than the pattern's capture count at offset 1",
     ),
-    row(Date, 2, b"%", 19, Refusal::LonePercent { offset: 0 }, "ends with a lone `%`"),
+    row(Date, 2, b"%", 19, Refusal::LonePercent { offset: 0 }, "ends with a lone `%` at offset 0"),
     row(
         Date,
         2,
         b"%Q",
         22,
         Refusal::BadDateSpecifier { offset: 1 },
-        "unexpected character after `%`, expected a date specifier or `%`",
+        "unexpected character after `%`, expected a date specifier or `%` at offset 1",
     ),
     row(Format, 1, b"\xFF", 23, Refusal::NotUtf8 { offset: 0 }, "not UTF-8 at offset 0"),
     row(Pattern, 1, b"(\xFF", 23, Refusal::NotUtf8 { offset: 1 }, "not UTF-8 at offset 1"),
@@ -133,6 +133,15 @@ fn smallest_inputs() {
         assert_eq!(refusal, row.refusal);
         assert_eq!(refusal.number(), row.number, "{refusal:?}");
         assert_eq!(refusal.to_string(), row.message);
+    }
+}
+
+/// Each message ends with the place of its fault.
+#[test]
+fn places() {
+    for row in &ROWS {
+        let place = format!(" at offset {}", row.refusal.offset());
+        assert!(row.refusal.to_string().ends_with(&place), "{}", row.refusal);
     }
 }
 

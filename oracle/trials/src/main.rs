@@ -23,7 +23,7 @@ const SHOWN: u64 = 20;
 const HOSTILE: &[u8] = b"a(%)[]^-*+?.$1bfwA\x00";
 const SUBJECTS: [&[u8]; 5] = [b"", b"a", b"ab1", b"aab(a)", b"]-%aa\x00"];
 const REPLACEMENTS: [&[u8]; 4] = [b"x", b"<%0>%1", b"%2", b"%a%"];
-const PATTERN_PARTS: [&[u8]; 44] = [
+const PATTERN_PARTS: [&[u8]; 58] = [
     b"a",
     b"b",
     b"c",
@@ -44,13 +44,27 @@ const PATTERN_PARTS: [&[u8]; 44] = [
     b"^",
     b"$",
     b"%a",
+    b"%A",
+    b"%c",
+    b"%C",
     b"%d",
-    b"%w",
+    b"%D",
+    b"%g",
+    b"%G",
+    b"%l",
+    b"%L",
+    b"%p",
+    b"%P",
     b"%s",
     b"%S",
+    b"%u",
+    b"%U",
+    b"%w",
+    b"%W",
     b"%x",
-    b"%g",
+    b"%X",
     b"%z",
+    b"%Z",
     b"%0",
     b"%1",
     b"%2",
@@ -91,6 +105,14 @@ impl Random {
 
     fn text(&mut self, parts: &[&[u8]], most: usize) -> Vec<u8> {
         (0..self.below(most + 1)).flat_map(|_| parts[self.below(parts.len())].iter().copied()).collect()
+    }
+
+    /// One in four is of any bytes.
+    fn subject(&mut self) -> Vec<u8> {
+        if self.below(4) > 0 {
+            return self.text(&SUBJECT_PARTS, 14);
+        }
+        (0..self.below(15)).map(|_| u8::try_from(self.below(256)).unwrap()).collect()
     }
 }
 
@@ -156,13 +178,25 @@ impl Tally {
         }
     }
 
+    /// Every byte after `%`, on every byte. Each stands once in the subject, so what is left of it tells which were taken.
+    fn classes(&mut self) {
+        let every_byte: Vec<u8> = (0..=u8::MAX).collect();
+        for version in 1..=6 {
+            for class in 0..=u8::MAX {
+                for pattern in [vec![b'%', class], vec![b'[', b'%', class, b']'], vec![b'[', b'^', b'%', class, b']']] {
+                    self.trial(version, &pattern, b"", &every_byte, 1_000, every_byte.len());
+                }
+            }
+        }
+    }
+
     /// Small budgets and rooms as often as large ones, now and then a number that is no version.
     fn random(&mut self, random: &mut Random, count: u64) {
         for _ in 0..count {
             let version = u32::try_from(random.below(8)).unwrap();
             let pattern = random.text(&PATTERN_PARTS, 8);
             let replacement = random.text(&REPLACEMENT_PARTS, 4);
-            let subject = random.text(&SUBJECT_PARTS, 14);
+            let subject = random.subject();
             let budget = [u32::try_from(random.below(30)).unwrap(), 2_000][random.below(2)];
             let room = [random.below(12), 200][random.below(2)];
             self.trial(version, &pattern, &replacement, &subject, budget, room);
@@ -235,6 +269,7 @@ fn main() -> ExitCode {
     };
     let mut tally = Tally::default();
     tally.limits();
+    tally.classes();
     tally.exhaustive(most);
     tally.random(&mut Random(seed), count);
     println!("{} trials, {} differ", tally.trials, tally.differing);
