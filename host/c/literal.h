@@ -34,7 +34,7 @@ static bool is_hex(uint8_t byte)
     return (byte >= '0' && byte <= '9') || (byte >= 'a' && byte <= 'f') || (byte >= 'A' && byte <= 'F');
 }
 
-/* The bytes of the escape at the front of a text, as far as it is one: `\u{` and its digits, `\x` and up to two, up to three digits, or the
+/* The bytes of a bad escape at the front of a text, as far as it is one: `\u{` and its digits, `\x` and one, up to three digits, or the
  * character after the backslash. */
 static size_t escape_len(const uint8_t *text, size_t len)
 {
@@ -45,8 +45,7 @@ static size_t escape_len(const uint8_t *text, size_t len)
         while (at < len && at < 4 && text[at] >= '0' && text[at] <= '9')
             at++;
     } else if (text[1] == 'x') {
-        while (at < len && at < 4 && is_hex(text[at]))
-            at++;
+        at += is_hex(text[at]) ? 1 : 0;
     } else if (text[1] == 'u' && text[at] == '{') {
         for (at++; at < len && is_hex(text[at]);)
             at++;

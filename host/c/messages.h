@@ -268,7 +268,7 @@ static message of_escape(const question *asked)
     uint32_t code = 0;
     if (letter >= '0' && letter <= '9')
         return number;
-    if (letter == 'x' && asked->version != LUCK_LUA_51)
+    if (letter == 'x')
         return hex;
     if (letter != 'u' || asked->version < LUCK_LUA_53)
         return other;

@@ -64,7 +64,7 @@ pub const CAPTURE_INDEX: u32 = 21;
 pub const BAD_DATE_SPECIFIER: u32 = 22;
 /// Not UTF-8.
 pub const NOT_UTF8: u32 = 23;
-/// Decoding: no literal, or an escape that is malformed or that this version does not have.
+/// Decoding: no literal, or an escape that is malformed or that is not read in this version.
 pub const UNDECODABLE: u32 = 24;
 /// The version is not 1 to 6.
 pub const UNKNOWN_VERSION: u32 = 25;
