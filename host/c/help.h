@@ -23,7 +23,7 @@ static const char *const help_text[] = {
     "           use `value`, with its quotes\n"
     "  literal  a literal with its quotes; skipped, that is not checked, if it is not in two equal quotes, or has an\n"
     "           escape by number (`\\0` to `\\9`, `\\x`, `\\u`). It reads escapes as they are written, and not what they stand\n"
-    "           for: that Lua loads the literal is not said\n"
+    "           for: accepted does not say that Lua loads it\n"
     "  value    a literal in quotes or long brackets: it is decoded, and the bytes that it stands for, which are what Lua\n"
     "           hands to string.format and the others, are checked. Refused where either refuses it. A check reads\n"
     "           UTF-8: a value like that of \"[\\128-\\255]\" can't be checked (23), though Lua takes it. A quote or a line\n"
