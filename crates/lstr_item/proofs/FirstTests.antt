@@ -29,13 +29,9 @@ module _ (pat : List ℕ) (p e : ℕ) where
 pub nothing-ahead : (pat : List ℕ) (p n : ℕ) (a : Ahead) → a .steps ≡ 0 → SingleAhead pat p n a
 nothing-ahead pat p n a z = record { at = λ h. absurd (omega arith); steps = λ h. absurd (omega arith); must = λ h. absurd (omega arith) }
 
--- what the code says of a single that was read
-abbrev Required : ℕ → ℕ → Repeat → ℕ → Ahead → Type 0
-Required p e k n a = 0 < a .steps → (hasToFit k ≡ true) × (a .steps ≡ n) × (a .at ≡ p) × (a .suffix ≡ e)
-
-pub single-ahead : (pat : List ℕ) (p e : ℕ) (k : Repeat) (n : ℕ) (a : Ahead) → Single-then pat p e k → Required p e k n a → SingleAhead pat p n a
-single-ahead pat p e k n a i f =
-    record { at = λ h. f h .2; steps = λ h. f h .1; must = λ h. rw (f h .3) (must-fit pat p e k (f h .0) i) }
+pub single-ahead : (pat : List ℕ) (p e : ℕ) (k : Repeat) (n : ℕ) → hasToFit k ≡ true → Single-then pat p e k
+    → SingleAhead pat p n (record { at = p; steps = n; suffix = e })
+single-ahead pat p e k n h i = record { at = λ _. refl; steps = λ _. refl; must = λ _. must-fit pat p e k h i }
 
 -- ---- At a new level
 
@@ -101,6 +97,5 @@ module _ (count : ℕ) (isOpen : Bool) where
         }
 
 -- the single that a pattern begins with
-pub sure-first : (pat : List ℕ) (e : ℕ) (k : Repeat) → hasToFit k ≡ true → Single-then pat 0 e k → Sure pat 0 0 0 false (record { steps = 1; at = 0; suffix = e })
-sure-first pat e k h i =
-    sure-one 0 false pat 0 0 _ (omega arith) (single-ahead pat 0 e k 1 _ i (λ z. (h, refl, refl, refl))) (omega arith)
+pub sure-first : (pat : List ℕ) (e : ℕ) (k : Repeat) → hasToFit k ≡ true → Single-then pat 0 e k → Sure pat 0 0 0 false (record { at = 0; steps = 1; suffix = e })
+sure-first pat e k h i = sure-one 0 false pat 0 0 _ (omega arith) (single-ahead pat 0 e k 1 h i) (omega arith)

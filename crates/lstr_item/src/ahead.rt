@@ -2,14 +2,12 @@
 // say that what is told is true: telling nothing would meet them too, and be slower.
 ghost use mathlib.Core.Bool.{true};
 ghost use mathlib.Core.Path.{_≡_};
-ghost use Prim.Native.Nat.{_<_};
+ghost use Prim.Native.Nat.{ℕ, _<_};
 ghost use Rattle.lstr_class.specs.Inner.{classIn};
-ghost use Rattle.lstr_item.specs.Inner.{SingleIn, repeatAs, hasToFit};
+ghost use Rattle.lstr_item.specs.Inner.{SingleIn};
 ghost use Rattle.lstr_item.specs.Ahead.{SingleAhead, Sure, FailsHere};
-use crate::capture;
 use crate::item;
 use crate::item::Item;
-use crate::item::Repeat;
 use crate::single;
 
 // The level above which two more can't be opened: MAXCCALLS of lstrlib.c is 200.
@@ -33,59 +31,39 @@ pub fn nothing() -> Ahead
     }
 }
 
-// A single that was read, where it has to fit; its failure is the last of so many steps.
-fn required(at: usize, suffix: usize, repeat: Repeat, steps: u32) -> Ahead
-    ensures { λ r. ⌜ (0 < r .steps → (hasToFit (repeatAs repeat) ≡ true) × (r .steps ≡ steps) × (r .at ≡ at) × (r .suffix ≡ suffix)) ⌝ }
-{
-    if item::has_to_fit(repeat) {
-        return Ahead { at, steps, suffix };
-    }
-    nothing()
-}
-
-// The same of the single at `at`, if one stands there.
+// The single at `at`, where one stands there and has to fit; its failure is the last of so many steps.
 pub fn single_at(pattern: &[u8], at: usize, steps: u32) -> Ahead
     ensures { λ r. ⌜ SingleAhead (now (pattern .entry)) at steps r ⌝ }
 {
     let item = item::read(pattern, at);
     match item {
-        Item::Single(suffix, repeat) => required(at, suffix, repeat, steps),
+        Item::Single(suffix, repeat) => {
+            if item::has_to_fit(repeat) {
+                return Ahead { at, steps, suffix };
+            }
+            nothing()
+        }
         _ => nothing(),
     }
 }
 
-// The rest from `next` on, at a new level above `level` and behind so many captures: a single that has to fit, at once or behind a capture's start, a
-// position, or, where a capture is open, its end.
-pub fn first_test(pattern: &[u8], next: usize, level: u32, count: usize, is_open: bool) -> Ahead
-    ensures { λ r. ⌜ (0 < r .steps → Sure (now (pattern .entry)) next level count «is_open» r) ⌝ }
+// The rest from `next` on, at a new level above `level`: a single that has to fit, at once or, where a capture is open, behind a `)`. The `)` is looked for by
+// its byte: a second reading of an item makes `(%w+)=(%w+)` a fifth slower.
+pub fn first_test(pattern: &[u8], next: usize, level: u32, is_open: bool) -> Ahead
+    ensures { λ r. ⌜ (0 < r .steps → (count : ℕ) → Sure (now (pattern .entry)) next level count «is_open» r) ⌝ }
 {
-    // one level for the rest, and one more for a capture before its single
+    // one level for the rest, and one more for a `)` before its single
     if LAST_BUT_ONE <= level {
         return nothing();
     }
-    let item = item::read(pattern, next);
-    match item {
-        Item::Single(suffix, repeat) => required(next, suffix, repeat, 1),
-        Item::StartCapture(after) => {
-            if count < capture::LUA_MAXCAPTURES {
-                return single_at(pattern, after, 2);
+    if is_open {
+        if next < pattern.len() {
+            if pattern[next] == b')' {
+                return single_at(pattern, next + 1, 2);
             }
-            nothing()
         }
-        Item::PositionCapture(after) => {
-            if count < capture::LUA_MAXCAPTURES {
-                return single_at(pattern, after, 2);
-            }
-            nothing()
-        }
-        Item::EndCapture(after) => {
-            if is_open {
-                return single_at(pattern, after, 2);
-            }
-            nothing()
-        }
-        _ => nothing(),
     }
+    single_at(pattern, next, 1)
 }
 
 // Whether the rest surely fails at `place`, with its steps within the budget.

@@ -32,12 +32,12 @@ latest-open n pairs h e f =
     omega arith
 
 -- without a call, since the single ahead does not fit
-pub passed-sure : (inClass : ℕ → ℕ → Bool) (sub pat : List ℕ) (budget next s l : ℕ) (cs : List Capture) (u v count : ℕ) (isOpen : Bool) (a : Ahead)
-    → FailsHere inClass sub pat a s budget u → (0 < a .steps → Sure pat next l count isOpen a)
-    → length cs ≤ count → (isOpen ≡ true → captureToClose cs ≡ none → ⊥) → v ≡ u + a .steps
+pub passed-sure : (inClass : ℕ → ℕ → Bool) (sub pat : List ℕ) (budget next s l : ℕ) (cs : List Capture) (u v : ℕ) (isOpen : Bool) (a : Ahead)
+    → FailsHere inClass sub pat a s budget u → (0 < a .steps → (count : ℕ) → Sure pat next l count isOpen a)
+    → (isOpen ≡ true → captureToClose cs ≡ none → ⊥) → v ≡ u + a .steps
     → failed v ≡ newLevel l u (λ m. on inClass sub pat budget next s m cs u)
-passed-sure inClass sub pat budget next s l cs u v count isOpen a h sure n o e =
-    ap failed e ∙ sure (h .known) .fails inClass sub budget s cs u n o (h .left) (h .unfit)
+passed-sure inClass sub pat budget next s l cs u v isOpen a h sure o e =
+    ap failed e ∙ sure (h .known) (length cs) .fails inClass sub budget s cs u (omega arith) o (h .left) (h .unfit)
 
 -- or by a call that failed
 pub passed-tried : (r : Attempt) (kept : List ℕ) (o : Outcome) (v : ℕ) → outcomeOf r kept ≡ o → r .number ≡ 1 → v ≡ r .steps → failed v ≡ o

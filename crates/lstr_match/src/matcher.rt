@@ -280,7 +280,7 @@ fn max_expand(
     if 0 < count {
         is_open = captures.pairs[count - 1].len == capture::UNFINISHED;
     }
-    let first = ahead::first_test(pattern, next, level, count, is_open);
+    let first = ahead::first_test(pattern, next, level, is_open);
     let mut tried = reach.end;
     let mut steps = reach.steps;
     loop {
@@ -341,7 +341,7 @@ fn min_expand(
     if 0 < count {
         is_open = captures.pairs[count - 1].len == capture::UNFINISHED;
     }
-    let first = ahead::first_test(pattern, next, level, count, is_open);
+    let first = ahead::first_test(pattern, next, level, is_open);
     // the latest place whose byte was tested
     let mut tested = place;
     let mut tried = place;

@@ -11,7 +11,7 @@ use Rattle.lstr_item.specs.Match.{captureToClose, newLevel, failed, reach, long
 use Rattle.lstr_class.specs.Inner.{classIn}
 use Rattle.lstr_item.specs.Inner.{singleOf, capturesOf}
 use Rattle.lstr_match.proofs.Repeats as repeats
-use Rattle.lstr_item.proofs.Captures.{pairs-few, sound-later, is-open}
+use Rattle.lstr_item.proofs.Captures.{sound-later, is-open}
 use Rattle.luck_pattern.specs.Items.{items}
 use Rattle.lstr_match.proofs.Passed as tests
 use Rattle.lstr_item.proofs.ahead.first_test.Reads as first-test
@@ -70,7 +70,7 @@ module _ (t : ℕ) where
       )
 
   fails-at-requires : lts.Need-fails-at-requires (E t) (max-expand-at t) max-expand.Post Inv μ
-  fails-at-requires c κs = λ h. c .before .first-test .ensures h .single
+  fails-at-requires c κs = λ h. c .before .first-test .ensures h 0 .single
 
   add-steps : lts.Need-add-steps (E t) (max-expand-at t) max-expand.Post Inv μ
   add-steps c = omega (arith, c .before .before .fails-at .ensures (c .before .if3 .taken) .left)
@@ -106,8 +106,8 @@ module _ (t : ℕ) where
       let test = c .before .before .before .first-test in
       ⊎-elim
       (λ w.
-      tests.passed-sure (classIn (a .classes .now)) (a .subject .now) (a .pattern .now) (a .budget) (a .suffix + 1) (at .tried) (a .level) (capturesOf (a .t11)) (at .steps) (c .if3 .steps) (a .t11 .count) (c .before .before .before .before .if2 .is-open) (test .result)
-      (c .before .fails-at .ensures (w .0 .taken)) (test .ensures) (pairs-few _ _) (opened (c .before .before .before .before)) (w .3))
+      tests.passed-sure (classIn (a .classes .now)) (a .subject .now) (a .pattern .now) (a .budget) (a .suffix + 1) (at .tried) (a .level) (capturesOf (a .t11)) (at .steps) (c .if3 .steps) (c .before .before .before .before .if2 .is-open) (test .result)
+      (c .before .fails-at .ensures (w .0 .taken)) (test .ensures) (opened (c .before .before .before .before)) (w .3))
       (λ w. tests.passed-tried _ _ _ (c .if3 .steps) (w .2 .ensures .0) (w .4 .left) (w .6)) (c .if3 .came)
 
   returns-3 : lts.Need-returns-3 (E t) (max-expand-at t) max-expand.Post Inv μ

@@ -12,7 +12,7 @@ use Rattle.lstr_item.specs.Match.{captureToClose, newLevel, failed, match}
 use Rattle.lstr_class.specs.Inner.{classIn}
 use Rattle.lstr_item.specs.Inner.{capturesOf, singleOf}
 use Rattle.lstr_match.proofs.Repeats as repeats
-use Rattle.lstr_item.proofs.Captures.{pairs-few, sound-later, is-open}
+use Rattle.lstr_item.proofs.Captures.{sound-later, is-open}
 use Rattle.lstr_item.proofs.Singles.{fits-inside}
 use Rattle.luck_pattern.specs.Items.{items}
 use Rattle.lstr_match.proofs.Passed as tests
@@ -57,7 +57,7 @@ module _ (t : ℕ) where
   loop-holds c = (tests.trying-starts _ _ _ _ _ _ _ _ _, omega (arith, c .before .before .before .before .pre .1 .2))
 
   fails-at-requires : lts.Need-fails-at-requires (E t) (min-expand-at t) min-expand.Post Inv μ
-  fails-at-requires c κs = λ h. c .before .first-test .ensures h .single
+  fails-at-requires c κs = λ h. c .before .first-test .ensures h 0 .single
 
   add-steps : lts.Need-add-steps (E t) (min-expand-at t) min-expand.Post Inv μ
   add-steps c = omega (arith, c .before .before .fails-at .ensures (c .before .if2 .taken) .left)
@@ -87,8 +87,8 @@ module _ (t : ℕ) where
       let test = c .before .before .before .first-test in
       ⊎-elim
       (λ w.
-      tests.passed-sure (classIn (a .classes .now)) (a .subject .now) (a .pattern .now) (a .budget) (a .suffix + 1) (here .tried) (a .level) (capturesOf (a .t10)) (here .steps) (c .if2 .steps) (a .t10 .count) (c .before .before .before .before .if1 .is-open) (test .result)
-      (c .before .fails-at .ensures (w .0 .taken)) (test .ensures) (pairs-few _ _) (opened (c .before .before .before .before)) (w .3))
+      tests.passed-sure (classIn (a .classes .now)) (a .subject .now) (a .pattern .now) (a .budget) (a .suffix + 1) (here .tried) (a .level) (capturesOf (a .t10)) (here .steps) (c .if2 .steps) (c .before .before .before .before .if1 .is-open) (test .result)
+      (c .before .fails-at .ensures (w .0 .taken)) (test .ensures) (opened (c .before .before .before .before)) (w .3))
       (λ w. tests.passed-tried _ _ _ (c .if2 .steps) (w .2 .ensures .0) (w .4 .left) (w .6)) (c .if2 .came)
 
   returns-2 : lts.Need-returns-2 (E t) (min-expand-at t) min-expand.Post Inv μ
