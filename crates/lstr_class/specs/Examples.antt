@@ -1,5 +1,5 @@
--- The bytes that each class takes, of all 256, as the C standard lists isalpha and its kin for the C locale (document 01,
--- "The trial": classes are ASCII): no answer of a check shows them.
+-- The bytes that each class takes, of all 256, as the C standard lists isalpha and its kin for the C locale (document
+-- 01, "The trial": classes are ASCII): no answer of a check shows them.
 -- Assumes nothing.
 use Prim.Native.Nat.{ℕ, zero, suc}
 use Prim.Native.Char.{code}
@@ -37,7 +37,8 @@ pub classes-take :
     (taken (code "a") ≡ capitals ++ small)
     × (taken (code "c") ≡ from 0 32 ++ (0x7F ∷ []))
     × (taken (code "d") ≡ digits)
-    × (taken (code "g") ≡ ascii "!\"#$%&'()*+,-./0123456789:;<=>?@" ++ (capitals ++ (ascii "[\\]^_`" ++ (small ++ ascii "{|}~"))))
+    × (taken (code "g")
+    ≡ ascii "!\"#$%&'()*+,-./0123456789:;<=>?@" ++ (capitals ++ (ascii "[\\]^_`" ++ (small ++ ascii "{|}~"))))
     × (taken (code "l") ≡ small)
     × (taken (code "p") ≡ ascii "!\"#$%&'()*+,-./:;<=>?@[\\]^_`{|}~")
     × (taken (code "s") ≡ ascii "\t\n" ++ (0x0B ∷ 0x0C ∷ ascii "\r "))
@@ -59,6 +60,8 @@ unfolding computed
 capitals-take = (refl, refl, refl, refl, refl)
 
 -- and a byte that names no class takes itself
-pub others-take : (taken (code "b") ≡ ascii "b") × (taken (code "]") ≡ ascii "]") × (taken (code "%") ≡ ascii "%") × (taken 0xFF ≡ 0xFF ∷ [])
+pub others-take :
+    (taken (code "b") ≡ ascii "b") × (taken (code "]") ≡ ascii "]") × (taken (code "%") ≡ ascii "%")
+    × (taken 0xFF ≡ 0xFF ∷ [])
 unfolding computed
 others-take = (refl, refl, refl, refl)

@@ -133,7 +133,7 @@ fn run_anchored(
     budget: u32,
     output: &mut [u8],
 ) -> Trial
-    requires { ⌜ (1 ≤ length (now pattern)) ⌝ }
+    requires { ⌜ 1 ≤ length (now pattern) ⌝ }
     ensures { λ r. ⌜
         Reported r (now (output .entry)) (now (output .exit))
         (anchoredRound (now (subject .entry)) (length (now (output .entry))) (writerBy «is_strict» (now (replacement .entry)) (now (subject .entry)) (length (now (output .entry)))) (match (classIn (now (classes .entry))) (now (subject .entry)) budget (items (now (pattern .entry)) 1) 0 1 [] 0))

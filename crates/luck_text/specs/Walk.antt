@@ -1,5 +1,5 @@
--- A walk over a text, item by item: what the UTF-8 test, the reading of a literal, the end of a set, the checks but that
--- of a replacement, and the taking of lines are, as loops of luck and lstrlib.c.
+-- A walk over a text, item by item: what the UTF-8 test, the reading of a literal, the end of a set, the checks but
+-- that of a replacement, and the taking of lines are, as loops of luck and lstrlib.c.
 -- At place p, in state s, `item p s` gives either the answer, or the item's width in bytes and the state after it.
 -- Where no bytes are left, `ends` gives the answer. An item that is wider than what is left ends the walk, and one of
 -- width 0 counts as one of 1; no definition that uses it has such an item.
