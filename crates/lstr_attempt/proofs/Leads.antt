@@ -12,7 +12,7 @@ use borrow.Author.Tests.{lt-ltb, le-ltb}
 use Rattle.luck_text.specs.Bytes.{if_then_else_}
 use Rattle.luck_text.proofs.Cases.{if-true, if-false, order}
 use Rattle.luck_pattern.specs.Items.{Single, Repeat, once, optional, star, plus, minus, repeatWidth, Item, start-capture, position-capture, single, items}
-use Rattle.lstr_item.specs.Match.{Capture, opened, position, Outcome, matched, failed, stopped, Rest, due, newLevel, orElse, startCapture, Reach, reach, reached, longestFirst, maxExpand, fitsAt, expand, doItem, match}
+use Rattle.lstr_item.specs.Match.{Capture, Outcome, matched, failed, stopped, Rest, due, newLevel, orElse, startCapture, Reach, reach, reached, longestFirst, maxExpand, fitsAt, expand, match}
 use Rattle.lstr_item.specs.Inner.{singleOf, Then, isOnce, hasToFit, isGreedy, reachOf, capturesIn, KeptIn, positional, noPair, pairsOf, capturesOf, PairIn, Sound}
 use Rattle.lstr_match.specs.Inner.{outcomeOf, AttemptIn, MatchesAs}
 use Rattle.lstr_item.specs.Ahead.{SingleAhead, Sure}

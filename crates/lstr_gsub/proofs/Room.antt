@@ -6,7 +6,6 @@ use mathlib.Core.Path.{_≡_, refl, sym, subst, _∙_}
 use mathlib.Core.Bool.{true, true≢false}
 use mathlib.Core.List.{List, [], _∷_, _++_}
 use lib.ListN.{length, length-append}
-use lib.Dec.{eqb}
 use Rattle.luck_text.specs.Bytes.{among}
 use Rattle.luck_pattern.specs.Items.{items}
 use Rattle.luck_token.specs.Version.{rulesOf}

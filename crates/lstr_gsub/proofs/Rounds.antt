@@ -10,7 +10,7 @@ use mathlib.Core.List.{List, [], _∷_, _++_}
 use mathlib.Core.Option.{Option, none, some}
 use lib.ListN.{length, take, drop, set, length-drop}
 use lib.Seq.{take-all}
-use lib.Dec.{eqb, ltb}
+use lib.Dec.{ltb}
 use borrow.Author.Tests.{eq-eqb, ne-eqb, lt-ltb, le-ltb}
 use Rattle.luck_text.specs.Bytes.{if_then_else_, byteAt}
 use Rattle.luck_text.proofs.Cases.{if-true, if-false, order}

@@ -13,7 +13,7 @@ use borrow.Author.Tests.{eqb-false, leb-true, leb-false}
 use Rattle.luck_text.specs.Bytes.{if_then_else_, part, among}
 use Rattle.luck_token.specs.Version.{isVersion, versions, has, rulesOf}
 use Rattle.luck_text.proofs.Cases.{by-test, and-left, and-right}
-use Rattle.luck_token.specs.Text.{afterVersion, afterUtf8, afterText}
+use Rattle.luck_token.specs.Text.{afterVersion, afterText}
 use Rattle.luck_answer.specs.Answer.{Answer, accepted, refused, checkText}
 use Rattle.luck_pattern.specs.Captures.{allClosed}
 use Rattle.luck_replacement.specs.Replacement.{

@@ -65,12 +65,6 @@ pairs-length zero pairs h = refl
 pairs-length (suc n) [] h = absurd (omega arith)
 pairs-length (suc n) (q ∷ pairs) h = ap suc (pairs-length n pairs (omega arith))
 
-pub pairs-few : (n : ℕ) (pairs : List Pair) → length (pairsOf n pairs) ≤ n
-unfolding pairsOf
-pairs-few zero pairs = omega arith
-pairs-few (suc n) [] = omega arith
-pairs-few (suc n) (q ∷ pairs) = let h = pairs-few n pairs in omega arith
-
 pub pairs-get : (n : ℕ) (pairs : List Pair) (i : ℕ) (d : Capture) → i < n → n ≤ length pairs
     → getD (pairsOf n pairs) i d ≡ captureOf (getD pairs i noPair .start) (getD pairs i noPair .len)
 unfolding pairsOf

@@ -1,18 +1,17 @@
 -- The elements of a set, one after another.
 -- Assumes nothing.
-use Prim.Native.Nat.{ℕ, zero, suc, _+_, _-_, _≤_, _<_}
+use Prim.Native.Nat.{ℕ, _+_, _-_, _≤_, _<_}
 use Prim.Native.Char.{code}
-use native.Mathlib.Omega.{arith}
-use mathlib.Core.Path.{_≡_, refl, sym, _∙_}
+use mathlib.Core.Path.{_≡_}
 use mathlib.Core.Logic.{_⊎_, inl, inr}
 use mathlib.Core.Bool.{Bool, false, not, _&&_, _||_}
 use mathlib.Core.List.{List, [], _∷_}
-use lib.Dec.{eqb, leb, ltb}
-use borrow.Author.Tests.{le-leb, lt-leb, lt-ltb, le-ltb, eq-eqb, ne-eqb}
+use lib.Dec.{eqb, ltb}
+use borrow.Author.Tests.{lt-ltb, le-ltb, eq-eqb, ne-eqb}
 use Rattle.luck_text.specs.Bytes.{if_then_else_, byteAt, between}
-use Rattle.luck_text.proofs.Cases.{if-false, first-false, second-false}
+use Rattle.luck_text.proofs.Cases.{first-false, second-false}
 use Rattle.luck_pattern.specs.Reading.{firstMember}
-use Rattle.luck_pattern.specs.Elements.{Element, escape, range, plain, elementAt, widthOf, placedElements, elementsIn, elementsOf}
+use Rattle.luck_pattern.specs.Elements.{elementAt, widthOf, elementsIn, elementsOf}
 use Rattle.luck_pattern.specs.Items.{setOf}
 use Rattle.luck_pattern.proofs.Elements.{placed-at, placed-end}
 use Rattle.lstr_item.specs.Single.{isElement, isAnyOf, inSet}

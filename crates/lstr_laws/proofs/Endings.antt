@@ -1,7 +1,7 @@
 -- How every attempt ends, whatever it is given: its steps are at most its budget; 27 says that they are spent; and a kind from 1 to 10 goes with 29 only.
 -- `numbers` are those of a trial that attempts are made for: what an attempt stops with, and the trial's own.
 -- Assumes nothing.
-use Prim.Native.Nat.{ℕ, zero, suc, _+_, _-_, _≤_, zero-le}
+use Prim.Native.Nat.{ℕ, zero, suc, _+_, _-_, _≤_}
 use native.Mathlib.Omega.{arith}
 use mathlib.Core.Path.{_≡_, refl}
 use mathlib.Core.Bool.{Bool, true}

@@ -5,13 +5,12 @@ use native.Mathlib.Omega.{arith}
 use mathlib.Core.Path.{_≡_, refl, sym, ap, subst}
 use mathlib.Core.Bool.{Bool, true, false, not, _&&_, _||_, true≢false}
 use mathlib.Core.List.{List, [], _∷_}
-use mathlib.Core.Option.{Option, none, some}
 use lib.Dec.{eqb}
 use lib.ListN.{length}
 use borrow.Author.Tests.{eqb-true, eq-eqb, ne-eqb}
 use Rattle.luck_text.specs.Bytes.{among}
 use Rattle.luck_text.specs.Walk.{Turn, stop, goes, walk, walkFrom}
-use Rattle.luck_text.proofs.Cases.{by-test, and-left, and-right}
+use Rattle.luck_text.proofs.Cases.{and-left, and-right}
 use Rattle.luck_answer.specs.Answer.{Answer, checkText}
 use Rattle.luck_answer.proofs.Texts.{in-any-case}
 

@@ -3,10 +3,10 @@
 use Prim.Native.Nat.{ℕ, _+_, _<_, _≤_}
 use mathlib.Core.Path.{_≡_}
 use mathlib.Core.Bool.{Bool, true, false}
-use mathlib.Core.List.{List, [], _∷_, _++_}
+use mathlib.Core.List.{List, [], _∷_}
 use mathlib.Core.Option.{Option, none, some}
 use Prim.Native.Char.{code}
-use lib.ListN.{length, drop}
+use lib.ListN.{length}
 use Rattle.luck_text.specs.Bytes.{inFront}
 use Rattle.luck_text.specs.Scan.{neither}
 use Rattle.luck_utf8.specs.Utf8.{utf8Bytes}
