@@ -18,6 +18,7 @@ mod stack;
 mod table;
 mod texts;
 mod trial;
+mod unread;
 mod utf8;
 
 use std::env;
@@ -92,7 +93,10 @@ fn measured(plan: &Plan, parts: &[String], root: &Path, folder: &Path) -> Result
     for part in parts {
         match part.as_str() {
             "utf8" => utf8::run(plan, &mut tables)?,
-            "checks" => checks::run(plan, &mut tables)?,
+            "checks" => {
+                checks::run(plan, &mut tables)?;
+                unread::run(plan, &mut tables)?;
+            }
             "decode" => decode::run(plan, &mut tables)?,
             "trial" => trial::run(plan, &mut tables, folder)?,
             "bodies" => lines::run(plan, &mut tables, &program, folder)?,

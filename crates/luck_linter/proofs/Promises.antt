@@ -2,6 +2,7 @@
 -- 23, by the definition.
 -- Assumes nothing.
 use Prim.Native.Nat.{ℕ, _-_, _<_, _≤_}
+use Prim.Native.Char.{code}
 use native.Mathlib.Omega.{arith}
 use mathlib.Core.Path.{_≡_, refl, sym, ap, _∙_}
 use mathlib.Core.Bool.{Bool, true, false, not, _&&_, _||_, true≢false}
@@ -18,8 +19,11 @@ use Rattle.luck_token.specs.Version.{isVersion, rulesOf}
 use Rattle.luck_token.specs.Literal.{isShort}
 use Rattle.luck_answer.specs.Answer.{Answer, accepted}
 use Rattle.luck_answer.proofs.Texts.{text-fine}
-use Rattle.luck_linter.specs.Checks.{Check, checkOf, walkOf, answer}
-use Rattle.luck_linter.specs.StringLiteral.{LiteralAnswer, hasNumericEscape, skippedAnswer, withSpan, bodyOf, checkBody, checkShort, checkNamedLiteral, checkLiteral}
+use Rattle.luck_replacement.proofs.Unread.{unread}
+use Rattle.luck_replacement.proofs.Promises.{UnknownOrNine, allows-nine}
+use Rattle.luck_linter.specs.Computed.{computed}
+use Rattle.luck_linter.specs.Checks.{Check, replacement, checkOf, walkOf, answer}
+use Rattle.luck_linter.specs.StringLiteral.{LiteralAnswer, hasNumericEscape, skippedAnswer, unspanned, withSpan, bodyOf, checkBody, checkShort, checkNamedLiteral, checkLiteral}
 use Rattle.luck_linter.proofs.Checked.{whole-check}
 use Rattle.luck_linter.proofs.StringLiterals.{text-passes}
 
@@ -30,6 +34,10 @@ SkippedExactly a text = a .skipped ≡ (not (isShort text) || hasNumericEscape (
 -- the answer of a literal that is not skipped is that of the check on its body
 abbrev pub AnswersBody : Check → ℕ → LiteralAnswer → List ℕ → Type 0
 AnswersBody check version a text = a .skipped ≡ false → a .answer ≡ answer check version (bodyOf text)
+
+-- a literal that is a replacement of 5.1 with captures unknown, or 9 and more, is accepted if it is not skipped (F-6)
+abbrev pub SkippedOrAccepted : LiteralAnswer → Type 0
+SkippedOrAccepted a = a .skipped ≡ false → a ≡ unspanned (accepted 0)
 
 -- ---- Their proofs
 
@@ -86,10 +94,22 @@ module _ (kind version : ℕ) (captures : Option ℕ) (start : ℕ) (text : List
   pub literal-skipped : SkippedExactly literal text
   literal-skipped = ap (λ l. l .skipped) checked ∙ skips (isShort text) (hasNumericEscape (bodyOf text)) walked (span-keeps start (bodyOf text) _ .0)
 
+  kept : literal .skipped ≡ false → (isShort text ≡ true) × (literal ≡ walked)
+  kept h =
+      let p = passed (isShort text) (hasNumericEscape (bodyOf text)) walked (ap (λ l. l .skipped) (sym checked) ∙ h) in
+      (p .0, checked ∙ p .1)
+
   pub literal-answers : AnswersBody check version literal text
   literal-answers h =
-      let p = passed (isShort text) (hasNumericEscape (bodyOf text)) walked (ap (λ l. l .skipped) (sym checked) ∙ h) in
+      let p = kept h in
       let q = quotes-low text (p .0) in
       let plain = between-ascii text (q .0) (q .1) (q .2) (sym utf8) in
-      ap (λ l. l .answer) (checked ∙ p .1) ∙ span-keeps start (bodyOf text) (walkOf check (rulesOf version) (bodyOf text)) .1
+      ap (λ l. l .answer) (p .1) ∙ span-keeps start (bodyOf text) (walkOf check (rulesOf version) (bodyOf text)) .1
       ∙ text-fine version (bodyOf text) (walkOf check (rulesOf version) (bodyOf text)) known plain ∙ sym (whole-check check version (bodyOf text))
+
+pub literal-accepted : (captures : Option ℕ) (start : ℕ) (text : List ℕ) → UnknownOrNine captures → illFormed text ≡ none
+    → SkippedOrAccepted (checkLiteral (code "G") 1 captures start text)
+unfolding computed
+literal-accepted captures start text h utf8 e =
+    kept (code "G") 1 captures start text (replacement captures) refl refl utf8 e .1
+    ∙ ap (withSpan start (bodyOf text)) (unread captures (bodyOf text) 0 (allows-nine captures h))

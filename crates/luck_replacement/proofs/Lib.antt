@@ -1,3 +1,4 @@
 pub mod Replacements
 pub mod Counts
 pub mod Unread
+pub mod Promises

@@ -1,3 +1,4 @@
 pub mod Replacement
+pub mod Inner
 pub mod Counts
 pub mod Computed

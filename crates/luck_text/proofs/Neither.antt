@@ -1,10 +1,14 @@
 -- Laws of a test for neither of two bytes.
 -- Assumes nothing.
-use Prim.Native.Nat.{ℕ}
-use mathlib.Core.Path.{_≡_, refl, sym, _∙_}
+use Prim.Native.Nat.{ℕ, zero, suc, _+_, _-_, _<_, _≤_}
+use native.Mathlib.Omega.{arith}
+use mathlib.Core.Path.{_≡_, refl, sym, ap, _∙_}
 use mathlib.Core.Bool.{Bool, true, false, not, _||_, true≢false}
+use mathlib.Core.List.{List}
+use lib.ListN.{length}
 use lib.Dec.{eqb}
 use borrow.Author.Tests.{eq-eqb, ne-eqb}
+use Rattle.luck_text.specs.Bytes.{byteAt}
 use Rattle.luck_text.specs.Scan.{neither}
 
 module _ (a b x : ℕ) where
@@ -30,3 +34,18 @@ module _ (a b x : ℕ) where
       go : (t : Bool) → eqb x b ≡ true → not (t || eqb x b) ≡ false
       go true f = refl
       go false f = rw f
+
+-- what each byte but `a` leaves as it is, bytes that are none leave as it is
+module _ {A : Type 0} (a : ℕ) (text : List ℕ) (on : ℕ → A)
+    (passes : (p : ℕ) → p < length text → (byteAt text p ≡ a → ⊥) → on (p + 1) ≡ on p) where
+  passes-some : (n p : ℕ) → p + n ≤ length text → ((k : ℕ) → p ≤ k → k < p + n → byteAt text k ≡ a → ⊥) → on (p + n) ≡ on p
+  passes-some zero p h none = let e : p + 0 ≡ p = omega arith in ap on e
+  passes-some (suc n) p h none =
+      let e : p + suc n ≡ p + 1 + n = omega arith in
+      ap on e ∙ passes-some n (p + 1) (omega arith) (λ k l m. none k (omega arith) (omega arith))
+      ∙ passes p (omega arith) (none p (omega arith) (omega arith))
+
+  pub passes-all : (p q : ℕ) → p ≤ q → q ≤ length text → ((k : ℕ) → p ≤ k → k < q → neither a a (byteAt text k) ≡ true) → on q ≡ on p
+  passes-all p q l h none =
+      let e : q ≡ p + (q - p) = omega arith in
+      ap on e ∙ passes-some (q - p) p (omega arith) (λ k m n. neither-first a a (byteAt text k) (none k m (omega arith)))

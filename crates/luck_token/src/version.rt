@@ -124,16 +124,18 @@ pub fn is_version(version: u32) -> bool
     1 <= version && version <= 6
 }
 
-// The row of a version, read once by each entry.
+// The row of a version, read once by each entry. An index that is known when this is compiled makes the row a constant:
+// with one that is not, the whole table would be built at each call.
 pub fn rules_of(version: u32) -> Rules
     ensures { λ r. ⌜ r ≡ rulesOf version ⌝ }
 {
-    if version < 1 {
-        return NO_RULES;
+    match version {
+        1 => RULES[0],
+        2 => RULES[1],
+        3 => RULES[2],
+        4 => RULES[3],
+        5 => RULES[4],
+        6 => RULES[5],
+        _ => NO_RULES,
     }
-    if 6 < version {
-        return NO_RULES;
-    }
-    let row = version as usize - 1;
-    RULES[row]
 }

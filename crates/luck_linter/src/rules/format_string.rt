@@ -28,6 +28,7 @@ use luck_answer::answer::Answer;
 use luck_answer::format_pattern;
 use luck_answer::format_pattern::Text;
 use luck_replacement::replacement::Captures;
+use luck_text::blocks;
 use luck_text::scan;
 use luck_text::scan::Class;
 use luck_token::span::Span;
@@ -113,10 +114,11 @@ fn is_numeric_escape(byte: u8) -> bool
     byte == b'u'
 }
 
+// Escapes are rare: what stands between them is passed over by blocks.
 fn has_numeric_escape(body: &[u8]) -> bool
     ensures { λ r. ⌜ r ≡ hasNumericEscape (now (body .entry)) ⌝ }
 {
-    let mut at = 0;
+    let mut at = blocks::blocks_end(body, 0, b'\\', b'\\');
     while at < body.len() {
         if body[at] != b'\\' {
             at += 1;
@@ -129,7 +131,7 @@ fn has_numeric_escape(body: &[u8]) -> bool
         if is_numeric_escape(body[next]) {
             return true;
         }
-        at += 2;
+        at = blocks::blocks_end(body, at + 2, b'\\', b'\\');
     }
     false
 }

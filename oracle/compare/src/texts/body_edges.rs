@@ -9,6 +9,7 @@ pub fn texts() -> Vec<Vec<u8>> {
     texts.extend(captures());
     texts.extend(sizes());
     texts.extend(long_texts());
+    texts.extend(plain_runs());
     texts
 }
 
@@ -203,6 +204,22 @@ fn long_texts() -> Vec<Vec<u8>> {
     for piece in pieces {
         for end in ends {
             texts.push((piece.repeat(1500) + end).into_bytes());
+        }
+    }
+    texts
+}
+
+/// Runs of plain bytes of every length up to 100, a piece, a run of a length about 16, 32 or 48, and a piece again: what passes over
+/// plain bytes by blocks must stop at each of these places.
+fn plain_runs() -> Vec<Vec<u8>> {
+    const PIECES: [&str; 7] = ["", "%", "%1", "%9", "%%", "%x", "\\n"];
+    const LATER: [usize; 10] = [0, 15, 16, 17, 31, 32, 33, 34, 47, 49];
+    let ends = ["", "%", "%2", "%x", "\\6"];
+    let mut texts = Vec::new();
+    for before in 0..=100 {
+        for piece in PIECES {
+            let behind = LATER[before % LATER.len()];
+            texts.extend(ends.map(|end| [&"a".repeat(before), piece, &"b".repeat(behind), end].concat().into_bytes()));
         }
     }
     texts

@@ -1,0 +1,29 @@
+-- `luck_replacement::replacement::asked` meets its contract. Assumes nothing.
+use mathlib.Core.Path.{_≡_}
+use mathlib.Core.Bool.{Bool, true, false}
+use mathlib.Core.Logic.{⊎-elim}
+use Prim.Native.Nat.{_≤_}
+use native.Mathlib.Omega.{arith}
+use mir.Val.{boolByte}
+use Rattle.luck_text.specs.Bytes.{isDigit}
+use Rattle.luck_text.proofs.Bytes.{within, below, above}
+use Rattle.luck_replacement.proofs.Replacements as laws
+use borrow.Author.Needs.{needs}
+use Rattle.luck_replacement.proofs.replacement.asked.Statement.{statement}
+use Rattle.luck_replacement.proofs.replacement.asked.Tie as tie
+
+mul-result : tie.Need-mul-result
+mul-result c = let h = laws.bit (c .before .args .is-strict) in omega arith
+
+returns : tie.Need-returns
+unfolding isDigit
+returns c = let a = c .before .before .args in laws.asked-digit (a .is-strict) (a .byte) (within 48 57 (a .byte) (omega arith) (omega arith))
+
+returns-2 : tie.Need-returns-2
+unfolding isDigit
+returns-2 c =
+    let a = c .before .args in
+    laws.asked-other (a .is-strict) (a .byte) (⊎-elim (λ l. below 48 57 (a .byte) (omega arith)) (λ l. above 48 57 (a .byte) (omega arith)) (c .if1 .came))
+
+pub asked-spec : {M : Type 1} → statement M
+asked-spec = tie.close (tie.spec (λ c. search needs) mul-result returns returns-2)
