@@ -217,6 +217,37 @@ fn sequences(text: &[u8], from: usize, stop: usize) -> usize
     at
 }
 
+// The place behind the blocks of ASCII bytes at `at`, which may be none: one of 32 and those of 128 behind it, or, near the
+// end of the text, one of 8.
+fn ascii_end(text: &[u8], at: usize) -> usize
+    requires { ⌜ at ≤ length (now text) ⌝ }
+    ensures { λ r. ⌜ (at ≤ r) × (r ≤ length (now (text .entry))) × ((k : ℕ) → at ≤ k → k < r → byteAt (now (text .entry)) k < 0x80) ⌝ }
+{
+    if 32 <= text.len() - at {
+        if highest(&text[at..at + 32]) < 0x80 {
+            return ascii_blocks(text, at + 32);
+        }
+        return at;
+    }
+    if 8 <= text.len() - at {
+        if highest(&text[at..at + 8]) < 0x80 {
+            return at + 8;
+        }
+    }
+    at
+}
+
+// The end of the block of 32 bytes at `at`, or of the text.
+fn block_end(text: &[u8], at: usize) -> usize
+    requires { ⌜ at < length (now text) ⌝ }
+    ensures { λ r. ⌜ (at < r) × (r ≤ length (now (text .entry))) ⌝ }
+{
+    if text.len() - at < 32 {
+        return text.len();
+    }
+    at + 32
+}
+
 // Blocks of ASCII bytes are passed over whole. Where a block has another byte, its sequences are read one by one, and the
 // next block is tried behind them, so that text with few ASCII bytes pays for one test in 32 bytes.
 pub fn validate(text: &[u8]) -> Utf8
@@ -224,14 +255,12 @@ pub fn validate(text: &[u8]) -> Utf8
 {
     let mut at = 0;
     while at < text.len() {
-        let mut stop = text.len();
-        if 32 <= text.len() - at {
-            if highest(&text[at..at + 32]) < 0x80 {
-                at = ascii_blocks(text, at + 32);
-                continue;
-            }
-            stop = at + 32;
+        let end = ascii_end(text, at);
+        if at < end {
+            at = end;
+            continue;
         }
+        let stop = block_end(text, at);
         at = sequences(text, at, stop);
         if at < stop {
             return Utf8::IllFormed(at);
