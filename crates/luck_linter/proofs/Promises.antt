@@ -19,8 +19,7 @@ use Rattle.luck_token.specs.Version.{isVersion, rulesOf}
 use Rattle.luck_token.specs.Literal.{isShort}
 use Rattle.luck_answer.specs.Answer.{Answer, accepted}
 use Rattle.luck_answer.proofs.Texts.{text-fine}
-use Rattle.luck_replacement.proofs.Unread.{unread}
-use Rattle.luck_replacement.proofs.Promises.{UnknownOrNine, allows-nine}
+use Rattle.luck_replacement.proofs.Promises.{UnknownOrFromNine, walk-accepts}
 use Rattle.luck_linter.specs.Computed.{computed}
 use Rattle.luck_linter.specs.Checks.{Check, replacement, checkOf, walkOf, answer}
 use Rattle.luck_linter.specs.StringLiteral.{LiteralAnswer, hasNumericEscape, skippedAnswer, unspanned, withSpan, bodyOf, checkBody, checkShort, checkNamedLiteral, checkLiteral}
@@ -35,7 +34,7 @@ SkippedExactly a text = a .skipped ≡ (not (isShort text) || hasNumericEscape (
 abbrev pub AnswersBody : Check → ℕ → LiteralAnswer → List ℕ → Type 0
 AnswersBody check version a text = a .skipped ≡ false → a .answer ≡ answer check version (bodyOf text)
 
--- a literal that is a replacement of 5.1 with captures unknown, or 9 and more, is accepted if it is not skipped (F-6)
+-- accepted if it is not skipped; `literal-accepted` promises it of a replacement of 5.1 with captures unknown, or known to be 9 or more (F-6)
 abbrev pub SkippedOrAccepted : LiteralAnswer → Type 0
 SkippedOrAccepted a = a .skipped ≡ false → a ≡ unspanned (accepted 0)
 
@@ -107,9 +106,9 @@ module _ (kind version : ℕ) (captures : Option ℕ) (start : ℕ) (text : List
       ap (λ l. l .answer) (p .1) ∙ span-keeps start (bodyOf text) (walkOf check (rulesOf version) (bodyOf text)) .1
       ∙ text-fine version (bodyOf text) (walkOf check (rulesOf version) (bodyOf text)) known plain ∙ sym (whole-check check version (bodyOf text))
 
-pub literal-accepted : (captures : Option ℕ) (start : ℕ) (text : List ℕ) → UnknownOrNine captures → illFormed text ≡ none
+pub literal-accepted : (captures : Option ℕ) (start : ℕ) (text : List ℕ) → UnknownOrFromNine captures → illFormed text ≡ none
     → SkippedOrAccepted (checkLiteral (code "G") 1 captures start text)
 unfolding computed
 literal-accepted captures start text h utf8 e =
     kept (code "G") 1 captures start text (replacement captures) refl refl utf8 e .1
-    ∙ ap (withSpan start (bodyOf text)) (unread captures (bodyOf text) 0 (allows-nine captures h))
+    ∙ ap (withSpan start (bodyOf text)) (walk-accepts captures (bodyOf text) h)

@@ -18,7 +18,7 @@ use Rattle.luck_token.specs.Span.{u32-max, spanOf, shiftedBy}
 use Rattle.luck_token.specs.declared.version.Rules.{Rules}
 use Rattle.luck_token.specs.declared.span.Span.{Span}
 use Rattle.luck_text.proofs.Cases.{if-true, if-false}
-use Rattle.luck_text.proofs.Neither.{passes-all}
+use Rattle.luck_text.proofs.Neither.{passes-plain as over-plain}
 use Rattle.luck_token.proofs.Literals.{both-quotes}
 use Rattle.luck_answer.specs.Answer.{Answer, accepted, checkText}
 use Rattle.luck_linter.specs.Checks.{Check, checkOf, walkOf}
@@ -63,7 +63,7 @@ module _ (body : List ℕ) where
   passes-byte p h e = sym (rw (drop-cons body p 0 h, add-one p) (plain _ _ e))
 
   pub passes-plain : (p q : ℕ) → p ≤ q → q ≤ length body → ((k : ℕ) → p ≤ k → k < q → neither 92 92 (byteAt body k) ≡ true) → on q ≡ on p
-  passes-plain p q = passes-all 92 body on passes-byte p q
+  passes-plain p q = over-plain 92 body on passes-byte p q
 
   module _ (p : ℕ) (h : p < length body) where
     pub last-byte : length body ≤ p + 1 → false ≡ on p

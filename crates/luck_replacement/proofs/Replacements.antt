@@ -16,10 +16,10 @@ use borrow.Author.Tests.{eq-eqb, ne-eqb, leb-true, lt-ltb, le-ltb, lt-leb, le-le
 use Rattle.luck_text.specs.Bytes.{if_then_else_, byteAt, isDigit}
 use Rattle.luck_text.specs.Scan.{neither}
 use Rattle.luck_text.proofs.Cases.{by-test, if-true, if-false, and-right, order}
-use Rattle.luck_text.proofs.Neither.{passes-all}
+use Rattle.luck_text.proofs.Neither.{passes-plain as over-plain}
 use Rattle.luck_answer.specs.Answer.{Answer, accepted, refused}
 use Rattle.luck_replacement.specs.Replacement.{Piece, literal, digit, percent, other, lone, escaped, pieces, allowsDigit, piecesWalk}
-use Rattle.luck_replacement.specs.Inner.{isRefused, asked}
+use Rattle.luck_replacement.specs.Inner.{isRefused, rank}
 
 -- ---- Reading
 
@@ -58,62 +58,59 @@ pub bit : (b : Bool) → boolByte b ≤ 1
 bit true = omega arith
 bit false = omega arith
 
-abbrev digit-or-other : ℕ → Bool → Piece
-digit-or-other b is-digit = if is-digit then digit (b - 48) else other b
-
 module _ (strict : Bool) (b : ℕ) where
-  pub asked-digit : isDigit b ≡ true → b - 48 ≡ asked strict b
-  unfolding asked
-  asked-digit d = sym (if-true _ _ _ d)
+  pub rank-digit : isDigit b ≡ true → b - 48 ≡ rank strict b
+  unfolding rank
+  rank-digit d = sym (if-true _ _ _ d)
 
-  pub asked-other : isDigit b ≡ false → 10 * boolByte strict ≡ asked strict b
-  unfolding asked
-  asked-other d = ten strict ∙ sym (if-false _ _ _ d)
+  pub rank-other : isDigit b ≡ false → 10 * boolByte strict ≡ rank strict b
+  unfolding rank
+  rank-other d = ten strict ∙ sym (if-false _ _ _ d)
     where
       ten : (s : Bool) → 10 * boolByte s ≡ (if s then 10 else 0)
       ten true = unfold if_then_else_ in refl
       ten false = unfold if_then_else_ in refl
 
 -- the code's comparison
-module _ (largest : ℕ) (l : 1 ≤ largest) (h : largest ≤ 9) where
-  of-digit : (d : ℕ) → ltb (largest + 0) d ≡ not (allowsDigit (some largest) d)
+module _ (limit : ℕ) (l : 1 ≤ limit) (h : limit ≤ 9) where
+  of-digit : (d : ℕ) → ltb (limit + 0) d ≡ not (allowsDigit (some limit) d)
   unfolding allowsDigit
   of-digit d =
       ⊎-elim
-      (λ k. lt-ltb (largest + 0) d (omega arith) ∙ sym (ap not (lt-leb d (max largest 1) (omega arith))))
-      (λ k. le-ltb (largest + 0) d (omega arith) ∙ sym (ap not (le-leb d (max largest 1) (omega arith))))
-      (order largest d)
+      (λ k. lt-ltb (limit + 0) d (omega arith) ∙ sym (ap not (lt-leb d (max limit 1) (omega arith))))
+      (λ k. le-ltb (limit + 0) d (omega arith) ∙ sym (ap not (le-leb d (max limit 1) (omega arith))))
+      (order limit d)
 
   of-no-percent : (strict : Bool) (b : ℕ) (is-digit : Bool)
-      → ltb (largest + 0) (if is-digit then b - 48 else if strict then 10 else 0) ≡ isRefused strict (some largest) (digit-or-other b is-digit)
-  unfolding isRefused if_then_else_
+      → ltb (limit + 0) (if is-digit then b - 48 else if strict then 10 else 0)
+      ≡ (if is-digit then not (allowsDigit (some limit) (b - 48)) else strict)
+  unfolding if_then_else_
   of-no-percent strict b true = of-digit (b - 48)
-  of-no-percent true b false = lt-ltb (largest + 0) 10 (omega arith)
-  of-no-percent false b false = le-ltb (largest + 0) 0 (omega arith)
+  of-no-percent true b false = lt-ltb (limit + 0) 10 (omega arith)
+  of-no-percent false b false = le-ltb (limit + 0) 0 (omega arith)
 
-  pub compared : (strict : Bool) (b : ℕ)
-      → ltb (largest + 16 * boolByte (eqb b 37)) (asked strict b) ≡ isRefused strict (some largest) (escaped b)
-  unfolding asked escaped isDigit isRefused if_then_else_
+  pub compared : (strict : Bool) (b : ℕ) → ltb (limit + 16 * boolByte (eqb b 37)) (rank strict b) ≡ isRefused strict (some limit) b
+  unfolding rank isDigit isRefused if_then_else_
   compared strict b = go (eqb b 37)
     where
-      small : asked strict b ≤ 10
+      small : rank strict b ≤ 10
       small =
           by-test (λ n. n ≤ 10) _ _ _
           (λ d. let g = leb-true b 57 (and-right (leb 48 b) (leb b 57) d) in omega arith)
           (λ _. by-test (λ n. n ≤ 10) strict _ _ (λ _. omega arith) (λ _. omega arith))
 
       go : (is-percent : Bool)
-          → ltb (largest + 16 * boolByte is-percent) (asked strict b)
-          ≡ isRefused strict (some largest) (if is-percent then percent else digit-or-other b (isDigit b))
-      go true = le-ltb (largest + 16) (asked strict b) (omega (arith, small))
+          → ltb (limit + 16 * boolByte is-percent) (rank strict b)
+          ≡ (if is-percent then false else if isDigit b then not (allowsDigit (some limit) (b - 48)) else strict)
+      go true = le-ltb (limit + 16) (rank strict b) (omega (arith, small))
       go false = of-no-percent strict b (isDigit b)
 
--- the walk at the piece
+-- the walk at the piece that the byte makes
 refusal-of : (strict : Bool) (captures : Option ℕ) (b : ℕ) (more : List Piece) (p : ℕ) (is-percent is-digit : Bool)
-    → piecesWalk strict captures ((if is-percent then percent else digit-or-other b is-digit) ∷ more) p
-    ≡ (if isRefused strict captures (if is-percent then percent else digit-or-other b is-digit)
+    → piecesWalk strict captures ((if is-percent then percent else if is-digit then digit (b - 48) else other b) ∷ more) p
+    ≡ (if if is-percent then false else if is-digit then not (allowsDigit captures (b - 48)) else strict
     then (if is-digit then refused 21 (p + 1) else refused 20 (p + 1)) else piecesWalk strict captures more (p + 2))
-unfolding piecesWalk isRefused if_then_else_
+unfolding piecesWalk if_then_else_
 refusal-of strict captures b more p true is-digit = refl
 refusal-of strict captures b more p false true = go (allowsDigit captures (b - 48))
   where
@@ -137,7 +134,7 @@ module _ (strict : Bool) (captures : Option ℕ) (text : List ℕ) where
   passes-literal p h e = sym (ap (λ (l : List Piece). piecesWalk strict captures l p) (at-literal text p h e))
 
   pub passes-plain : (p q : ℕ) → p ≤ q → q ≤ length text → ((k : ℕ) → p ≤ k → k < q → neither 37 37 (byteAt text k) ≡ true) → on q ≡ on p
-  passes-plain p q = passes-all 37 text on passes-literal p q
+  passes-plain p q = over-plain 37 text on passes-literal p q
 
   module _ (p : ℕ) (h : p < length text) (e : byteAt text p ≡ 37) where
     pub lone-strict : length text ≤ p + 1 → strict ≡ true → refused 19 p ≡ on p
@@ -152,17 +149,17 @@ module _ (strict : Bool) (captures : Option ℕ) (text : List ℕ) where
       abbrev next : ℕ
       next = byteAt text (p + 1)
 
-      turn : on p ≡ (if isRefused strict captures (escaped next) then (if isDigit next then refused 21 (p + 1) else refused 20 (p + 1)) else on (p + 2))
-      unfolding escaped
+      turn : on p ≡ (if isRefused strict captures next then (if isDigit next then refused 21 (p + 1) else refused 20 (p + 1)) else on (p + 2))
+      unfolding escaped isRefused
       turn =
           ap (λ (x : List Piece). piecesWalk strict captures x p) (at-escape text p h e l)
           ∙ refusal-of strict captures next (pieces (drop (p + 2) text)) p (eqb next 37) (isDigit next)
 
-      pub passes-escape : isRefused strict captures (escaped next) ≡ false → on (p + 2) ≡ on p
+      pub passes-escape : isRefused strict captures next ≡ false → on (p + 2) ≡ on p
       passes-escape f = sym (turn ∙ if-false _ _ _ f)
 
-      pub beyond : isRefused strict captures (escaped next) ≡ true → isDigit next ≡ true → refused 21 (p + 1) ≡ on p
+      pub beyond : isRefused strict captures next ≡ true → isDigit next ≡ true → refused 21 (p + 1) ≡ on p
       beyond t d = sym (turn ∙ if-true _ _ _ t ∙ if-true _ _ _ d)
 
-      pub bad-escape : isRefused strict captures (escaped next) ≡ true → isDigit next ≡ false → refused 20 (p + 1) ≡ on p
+      pub bad-escape : isRefused strict captures next ≡ true → isDigit next ≡ false → refused 20 (p + 1) ≡ on p
       bad-escape t d = sym (turn ∙ if-true _ _ _ t ∙ if-false _ _ _ d)

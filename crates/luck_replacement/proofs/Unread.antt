@@ -1,22 +1,24 @@
 -- Where nothing can be refused (F-6 of document 02): a replacement of 5.1 with captures unknown, or known to be 9 or
 -- more, is accepted once it is known to be UTF-8.
 -- Assumes nothing.
-use Prim.Native.Nat.{ℕ, zero, suc, _+_, _-_, _≤_, _<_, max}
+use Prim.Native.Nat.{ℕ, zero, suc, _+_, _≤_, _<_, max}
 use native.Mathlib.Omega.{arith}
-use mathlib.Core.Path.{_≡_, refl, sym, ap, subst, _∙_}
+use mathlib.Core.Path.{_≡_, refl, sym, ap, _∙_}
 use mathlib.Core.Bool.{Bool, true, false, _&&_, true≢false}
 use mathlib.Core.List.{List, [], _∷_}
 use mathlib.Core.Option.{Option, none, some}
 use lib.Dec.{eqb, leb}
-use borrow.Author.Tests.{leb-true, le-leb}
-use Rattle.luck_text.specs.Bytes.{if_then_else_, isDigit, among}
-use Rattle.luck_text.proofs.Cases.{by-test, if-true, and-left, and-right}
-use Rattle.luck_token.specs.Version.{isVersion, versions, has, rulesOf}
+use borrow.Author.Tests.{leb-true, le-leb, lt-leb}
+use Rattle.luck_text.specs.Bytes.{if_then_else_, ascii, isDigit}
+use Rattle.luck_text.proofs.Bytes.{above}
+use Rattle.luck_text.proofs.Cases.{by-test, and-right}
+use Rattle.luck_token.specs.Version.{isVersion, rulesOf}
 use Rattle.luck_utf8.specs.Utf8.{illFormed}
-use Rattle.luck_token.specs.Text.{afterVersion, afterUtf8, afterText}
 use Rattle.luck_answer.specs.Answer.{Answer, accepted, refused, checkText}
+use Rattle.luck_answer.proofs.Texts.{text-fine}
 use Rattle.luck_replacement.specs.Replacement.{isStrict, Piece, literal, digit, percent, other, lone, escaped, pieces, allowsDigit, piecesWalk, checkReplacement}
 use Rattle.luck_replacement.specs.Counts.{from-to, for-every, checkRanged, largestDigit}
+use Rattle.luck_replacement.specs.Computed.{computed}
 use Rattle.luck_replacement.proofs.Counts.{accepted-for-every}
 
 -- no digit of a text is above 9
@@ -65,28 +67,59 @@ up-to-nine none t d h = refl
 up-to-nine (some count) t d h = le-leb d (max count 1) (omega (arith, leb-true 9 (max count 1) t))
 
 -- so the walk need not be made
-pub unread : (count : Option ℕ) (text : List ℕ) (p : ℕ) → allowsDigit count 9 ≡ true
-    → piecesWalk false count (pieces text) p ≡ accepted 0
-unread count text p t = same-digits false count none (up-to-nine count t) (pieces text) p (nine text) ∙ lenient (pieces text) p
+pub unread : (count : Option ℕ) (text : List ℕ) → allowsDigit count 9 ≡ true → piecesWalk false count (pieces text) 0 ≡ accepted 0
+unread count text t = same-digits false count none (up-to-nine count t) (pieces text) 0 (nine text) ∙ lenient (pieces text) 0
+
+pub unknown-allows : allowsDigit none 9 ≡ true
+unfolding allowsDigit
+unknown-allows = refl
+
+pub from-nine-allows : (count : ℕ) → 9 ≤ count → allowsDigit (some count) 9 ≡ true
+unfolding allowsDigit
+from-nine-allows count h = le-leb 9 (max count 1) (omega arith)
+
+-- ---- The check of 5.1
+
+pub is-version-1 : isVersion 1 ≡ true
+unfolding isVersion
+is-version-1 = refl
 
 lenient-51 : isStrict (rulesOf 1) ≡ false
-unfolding rulesOf has isVersion versions among
+unfolding computed
 lenient-51 = refl
 
--- and the whole check of 5.1 is that of the version and of UTF-8
-pub check-unread : (count : Option ℕ) (text : List ℕ) → allowsDigit count 9 ≡ true
+-- is that of the version and of UTF-8, where the walk accepts
+pub check-of-walk : (count : Option ℕ) (text : List ℕ) → piecesWalk false count (pieces text) 0 ≡ accepted 0
     → checkReplacement 1 count text ≡ checkText 1 text (accepted 0)
 unfolding checkReplacement
-check-unread count text t = ap (checkText 1 text) (ap (λ (strict : Bool). piecesWalk strict count (pieces text) 0) lenient-51 ∙ unread count text 0 t)
+check-of-walk count text e = ap (checkText 1 text) (ap (λ (strict : Bool). piecesWalk strict count (pieces text) 0) lenient-51 ∙ e)
 
--- and a range from 9 on is accepted for every count
+-- a range from 9 on is accepted for every count
 pub check-range : (low high : ℕ) (text : List ℕ) → 9 ≤ low → low ≤ high → illFormed text ≡ none
     → checkRanged 1 (from-to low high) text ≡ for-every
 check-range low high text h upwards e =
-    accepted-for-every 1 low high text upwards .1 (λ c i. check-unread (some c) text (allows c (omega (arith, i .0))) ∙ fine)
-  where
-    allows : (c : ℕ) → 9 ≤ c → allowsDigit (some c) 9 ≡ true
-    allows c k = unfold allowsDigit in le-leb 9 (max c 1) (omega arith)
+    accepted-for-every 1 low high text upwards .1
+    (λ c i. check-of-walk (some c) text (unread (some c) text (from-nine-allows c (omega (arith, i .0)))) ∙ sym (text-fine 1 text (accepted 0) is-version-1 (sym e)))
 
-    fine : checkText 1 text (accepted 0) ≡ accepted 0
-    fine = unfold checkText afterText afterVersion afterUtf8 isVersion if_then_else_ in rw e
+-- ---- With a lower count, and in another version
+
+pub nine-refused : (count : ℕ) → count < 9 → checkReplacement 1 (some count) (ascii "%9") ≡ refused 21 1
+unfolding computed
+nine-refused count h = rw (lt-leb 9 (max count 1) (omega arith))
+
+strict : (version : ℕ) → isVersion version ≡ true → (version ≡ 1 → ⊥) → isStrict (rulesOf version) ≡ true
+unfolding computed
+strict zero known n = absurd (true≢false (sym known))
+strict (suc zero) known n = absurd (n refl)
+strict (suc (suc zero)) known n = refl
+strict (suc (suc (suc zero))) known n = refl
+strict (suc (suc (suc (suc zero)))) known n = refl
+strict (suc (suc (suc (suc (suc zero))))) known n = refl
+strict (suc (suc (suc (suc (suc (suc zero)))))) known n = refl
+strict (suc (suc (suc (suc (suc (suc (suc v))))))) known n = absurd (true≢false (sym known ∙ above 1 6 (suc (suc (suc (suc (suc (suc (suc v))))))) (omega arith)))
+
+pub lone-refused : (version : ℕ) (captures : Option ℕ) → isVersion version ≡ true → (version ≡ 1 → ⊥)
+    → checkReplacement version captures (ascii "%") ≡ refused 19 0
+unfolding computed
+lone-refused version captures known n =
+    sym (text-fine version (ascii "%") _ known refl) ∙ ap (λ s. piecesWalk s captures (pieces (ascii "%")) 0) (strict version known n)

@@ -1,4 +1,5 @@
--- Every definition of this crate and of those below, for examples: `unfolding computed` lets them compute.
+-- Every definition of this crate but those of Inner.antt, and of the crates below, for examples: `unfolding computed`
+-- lets them compute.
 -- Assumes nothing.
 use Rattle.luck_replacement.specs.Replacement
 use Rattle.luck_replacement.specs.Counts

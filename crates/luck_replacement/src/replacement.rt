@@ -3,15 +3,8 @@ ghost use mathlib.Core.Path.{_≡_};
 ghost use mathlib.Core.Option.{some};
 ghost use Prim.Native.Nat.{ℕ, _≤_};
 ghost use Rattle.luck_answer.specs.Answer.{walkedOf, answerOf};
-ghost use Rattle.luck_replacement.specs.Replacement.{
-  escaped,
-  pieces,
-  countOf,
-  allowsDigit,
-  piecesWalk,
-  checkReplacement,
-};
-ghost use Rattle.luck_replacement.specs.Inner.{isRefused, asked};
+ghost use Rattle.luck_replacement.specs.Replacement.{countOf, pieces, allowsDigit, piecesWalk, checkReplacement};
+ghost use Rattle.luck_replacement.specs.Inner.{isRefused, rank};
 use luck_answer::format_pattern;
 use luck_answer::format_pattern::Checked;
 use luck_answer::format_pattern::PatternError;
@@ -28,9 +21,18 @@ pub enum Captures {
     Unknown,
 }
 
-// The largest digit that may stand behind a `%`, as a count of captures: `%0` is the whole match, and with no captures
-// so is `%1`.
-fn largest_digit(captures: Captures) -> u8
+// The rank of a byte that is no digit, where it is refused: above every digit.
+const NO_DIGIT: u8 = 10;
+
+// What `%%` is allowed in addition: with it the limit is above every rank.
+const ABOVE_ALL: u8 = 16;
+
+// So many plain bytes are looked at one by one before whole blocks of them are.
+const RUN: usize = 32;
+
+// The largest digit that may stand behind a `%`. As a count of captures it allows the same digits; with no captures
+// `%1` is the whole match, so it is at least 1.
+fn digit_limit(captures: Captures) -> u8
     ensures bounds { λ r. ⌜ (1 ≤ r) × (r ≤ 9) ⌝ }
     ensures digits { λ r. ⌜ ((d : ℕ) → d ≤ 9 → allowsDigit (some r) d ≡ allowsDigit (countOf captures) d) ⌝ }
 {
@@ -48,35 +50,36 @@ fn largest_digit(captures: Captures) -> u8
     }
 }
 
-fn asked(byte: u8, is_strict: bool) -> u8
-    ensures { λ r. ⌜ r ≡ asked «is_strict» byte ⌝ }
+// What a byte behind a `%` is judged by: a digit by its value, any other byte by whether it is refused.
+fn rank(byte: u8, is_strict: bool) -> u8
+    ensures { λ r. ⌜ r ≡ rank «is_strict» byte ⌝ }
 {
     match byte {
         b'0'..=b'9' => byte - b'0',
-        _ => 10 * is_strict as u8,
+        _ => NO_DIGIT * is_strict as u8,
     }
 }
 
-// Whether the walk stops at this byte behind a `%`. It is one comparison, and `%%` a sum that no byte exceeds: a branch for
-// each kind of byte is one that the processor cannot foresee.
-fn is_refused(byte: u8, largest: u8, is_strict: bool) -> bool
-    requires { ⌜ (1 ≤ largest) × (largest ≤ 9) ⌝ }
-    ensures { λ r. ⌜ r ≡ isRefused «is_strict» (some largest) (escaped byte) ⌝ }
+// Whether the walk stops at this byte behind a `%`. One comparison decides: with a branch for each kind of byte, the
+// processor often foresees the wrong one.
+fn is_refused(byte: u8, limit: u8, is_strict: bool) -> bool
+    requires { ⌜ (1 ≤ limit) × (limit ≤ 9) ⌝ }
+    ensures { λ r. ⌜ r ≡ isRefused «is_strict» (some limit) byte ⌝ }
 {
-    let allowed = largest + 16 * (byte == b'%') as u8;
-    allowed < asked(byte, is_strict)
+    let allowed = limit + ABOVE_ALL * (byte == b'%') as u8;
+    allowed < rank(byte, is_strict)
 }
 
-// The walk over the pieces. Behind 32 plain bytes in a row, `run` being where they begin, more of them are passed over by blocks.
-fn scan_pieces(text: &[u8], largest: u8, is_strict: bool) -> Walked
-    requires { ⌜ (1 ≤ largest) × (largest ≤ 9) ⌝ }
-    ensures { λ r. ⌜ walkedOf r ≡ piecesWalk «is_strict» (some largest) (pieces (now (text .entry))) 0 ⌝ }
+// The walk over the pieces. `run` is where the plain bytes begin that were looked at one by one.
+fn scan_pieces(text: &[u8], limit: u8, is_strict: bool) -> Walked
+    requires { ⌜ (1 ≤ limit) × (limit ≤ 9) ⌝ }
+    ensures { λ r. ⌜ walkedOf r ≡ piecesWalk «is_strict» (some limit) (pieces (now (text .entry))) 0 ⌝ }
 {
     let mut at = 0;
     let mut run = 0;
     while at < text.len() {
         if text[at] != b'%' {
-            if at - run == 32 {
+            if at - run == RUN {
                 at = blocks::blocks_end(text, at, b'%', b'%');
                 run = at;
                 continue;
@@ -92,7 +95,7 @@ fn scan_pieces(text: &[u8], largest: u8, is_strict: bool) -> Walked
         }
         let next = at + 1;
         let escaped = text[next];
-        if is_refused(escaped, largest, is_strict) {
+        if is_refused(escaped, limit, is_strict) {
             if scan::is_in(Class::Digit, escaped) {
                 return Walked::Refused(PatternError::CaptureIndexOutOfRange { offset: next });
             }
@@ -108,13 +111,13 @@ fn scan_pieces(text: &[u8], largest: u8, is_strict: bool) -> Walked
 pub fn scan_replacement(text: &[u8], captures: Captures, is_strict: bool) -> Walked
     ensures { λ r. ⌜ walkedOf r ≡ piecesWalk «is_strict» (countOf captures) (pieces (now (text .entry))) 0 ⌝ }
 {
-    let largest = largest_digit(captures);
+    let limit = digit_limit(captures);
     if !is_strict {
-        if largest == 9 {
+        if limit == 9 {
             return Walked::Accepted(0);
         }
     }
-    scan_pieces(text, largest, is_strict)
+    scan_pieces(text, limit, is_strict)
 }
 
 pub fn validate_gsub_replacement(version: u32, captures: Captures, text: &[u8]) -> Checked

@@ -1,4 +1,4 @@
--- Laws of a test for neither of two bytes.
+-- Laws of a test for neither of two bytes, and of runs in which a byte does not occur.
 -- Assumes nothing.
 use Prim.Native.Nat.{ℕ, zero, suc, _+_, _-_, _<_, _≤_}
 use native.Mathlib.Omega.{arith}
@@ -35,17 +35,17 @@ module _ (a b x : ℕ) where
       go true f = refl
       go false f = rw f
 
--- what each byte but `a` leaves as it is, bytes that are none leave as it is
+-- what stays the same over each byte other than `a` stays the same over any run of such bytes
 module _ {A : Type 0} (a : ℕ) (text : List ℕ) (on : ℕ → A)
     (passes : (p : ℕ) → p < length text → (byteAt text p ≡ a → ⊥) → on (p + 1) ≡ on p) where
-  passes-some : (n p : ℕ) → p + n ≤ length text → ((k : ℕ) → p ≤ k → k < p + n → byteAt text k ≡ a → ⊥) → on (p + n) ≡ on p
-  passes-some zero p h none = let e : p + 0 ≡ p = omega arith in ap on e
-  passes-some (suc n) p h none =
+  passes-run : (n p : ℕ) → p + n ≤ length text → ((k : ℕ) → p ≤ k → k < p + n → byteAt text k ≡ a → ⊥) → on (p + n) ≡ on p
+  passes-run zero p h none = let e : p + 0 ≡ p = omega arith in ap on e
+  passes-run (suc n) p h none =
       let e : p + suc n ≡ p + 1 + n = omega arith in
-      ap on e ∙ passes-some n (p + 1) (omega arith) (λ k l m. none k (omega arith) (omega arith))
+      ap on e ∙ passes-run n (p + 1) (omega arith) (λ k l m. none k (omega arith) (omega arith))
       ∙ passes p (omega arith) (none p (omega arith) (omega arith))
 
-  pub passes-all : (p q : ℕ) → p ≤ q → q ≤ length text → ((k : ℕ) → p ≤ k → k < q → neither a a (byteAt text k) ≡ true) → on q ≡ on p
-  passes-all p q l h none =
+  pub passes-plain : (p q : ℕ) → p ≤ q → q ≤ length text → ((k : ℕ) → p ≤ k → k < q → neither a a (byteAt text k) ≡ true) → on q ≡ on p
+  passes-plain p q l h none =
       let e : q ≡ p + (q - p) = omega arith in
-      ap on e ∙ passes-some (q - p) p (omega arith) (λ k m n. neither-first a a (byteAt text k) (none k m (omega arith)))
+      ap on e ∙ passes-run (q - p) p (omega arith) (λ k m n. neither-first a a (byteAt text k) (none k m (omega arith)))

@@ -1,5 +1,5 @@
--- A case of document 01: the versions, what is asked, and all that is told, by the definitions that the contracts of
--- the entries name.
+-- A case of document 01 or 02: the versions, what is asked, and all that is told, by the definitions that the contracts
+-- of the entries name.
 -- Assumes nothing.
 use Prim.Native.Nat.{ℕ}
 use mathlib.Core.Bool.{true, false}

@@ -209,17 +209,17 @@ fn long_texts() -> Vec<Vec<u8>> {
     texts
 }
 
-/// Runs of plain bytes of every length up to 100, a piece, a run of a length about 16, 32 or 48, and a piece again: what passes over
-/// plain bytes by blocks must stop at each of these places.
+/// Runs of plain bytes of every length up to 100, a piece, by turns no run or one of about 16, 32 or 48 bytes, and a piece again: what
+/// passes over plain bytes by blocks must stop at each of these places.
 fn plain_runs() -> Vec<Vec<u8>> {
     const PIECES: [&str; 7] = ["", "%", "%1", "%9", "%%", "%x", "\\n"];
     const LATER: [usize; 10] = [0, 15, 16, 17, 31, 32, 33, 34, 47, 49];
-    let ends = ["", "%", "%2", "%x", "\\6"];
+    const ENDS: [&str; 5] = ["", "%", "%2", "%x", "\\6"];
     let mut texts = Vec::new();
     for before in 0..=100 {
         for piece in PIECES {
             let behind = LATER[before % LATER.len()];
-            texts.extend(ends.map(|end| [&"a".repeat(before), piece, &"b".repeat(behind), end].concat().into_bytes()));
+            texts.extend(ENDS.map(|end| [&"a".repeat(before), piece, &"b".repeat(behind), end].concat().into_bytes()));
         }
     }
     texts

@@ -1,5 +1,5 @@
 -- `luck_replacement::replacement::is_refused` meets its contract. Assumes nothing.
-use mathlib.Core.Path.{_≡_, ap, _∙_}
+use mathlib.Core.Path.{ap, _∙_}
 use Prim.Native.Nat.{_+_, _*_}
 use native.Mathlib.Omega.{arith}
 use mir.Val.{boolByte}
@@ -19,7 +19,7 @@ returns : tie.Need-returns
 returns c =
     let a = c .before .args in
     let bounds = c .before .pre in
-    ap (ltb (a .largest + 16 * boolByte (eqb (a .byte) 37))) (c .asked .ensures) ∙ laws.compared (a .largest) (bounds .0) (bounds .1) (a .is-strict) (a .byte)
+    ap (ltb (a .limit + 16 * boolByte (eqb (a .byte) 37))) (c .rank .ensures) ∙ laws.compared (a .limit) (bounds .0) (bounds .1) (a .is-strict) (a .byte)
 
 pub is-refused-spec : {M : Type 1} → statement M
 is-refused-spec = tie.close (tie.spec (λ c. search needs) mul-allowed add-allowed (λ c κs. search needs) returns)

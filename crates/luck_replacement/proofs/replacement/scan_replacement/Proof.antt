@@ -1,8 +1,7 @@
 -- `luck_replacement::replacement::scan_replacement` meets its contract. Assumes nothing.
 use mathlib.Core.Path.{_≡_, sym, ap, _∙_}
-use Prim.Native.Nat.{_≤_}
 use native.Mathlib.Omega.{arith}
-use mathlib.Core.Bool.{Bool, true, false}
+use mathlib.Core.Bool.{Bool, true}
 use mathlib.Core.Option.{some}
 use borrow.Author.Tests.{not-true}
 use Rattle.luck_replacement.specs.Replacement.{countOf, pieces, allowsDigit, piecesWalk}
@@ -15,18 +14,18 @@ returns : tie.Need-returns
 unfolding allowsDigit
 returns c =
     let a = c .before .before .before .before .args in
-    let largest = c .before .before .largest-digit in
+    let limit = c .before .before .digit-limit in
     let allowed : allowsDigit (countOf (a .captures)) 9 ≡ true =
-    sym (largest .ensures .1 9 (omega arith)) ∙ ap (λ n. allowsDigit (some n) 9) (c .if2 .taken) in
-    sym (unread (countOf (a .captures)) (a .text .now) 0 allowed)
+    sym (limit .ensures .1 9 (omega arith)) ∙ ap (λ n. allowsDigit (some n) 9) (c .if2 .taken) in
+    sym (unread (countOf (a .captures)) (a .text .now) allowed)
     ∙ ap (λ (strict : Bool). piecesWalk strict (countOf (a .captures)) (pieces (a .text .now)) 0) (sym (not-true _ (c .before .if1 .taken)))
 
 returns-2 : tie.Need-returns-2
 returns-2 c =
     let a = c .before .before .before .before .args in
-    let largest = c .before .before .largest-digit in
+    let limit = c .before .before .digit-limit in
     c .scan-pieces .ensures
-    ∙ same-digits (a .is-strict) (some (largest .result)) (countOf (a .captures)) (largest .ensures .1) (pieces (a .text .now)) 0 (nine (a .text .now))
+    ∙ same-digits (a .is-strict) (some (limit .result)) (countOf (a .captures)) (limit .ensures .1) (pieces (a .text .now)) 0 (nine (a .text .now))
 
 pub scan-replacement-spec : {M : Type 1} → statement M
 scan-replacement-spec =

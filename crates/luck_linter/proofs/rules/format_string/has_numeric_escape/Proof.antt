@@ -1,5 +1,5 @@
 -- `luck_linter::rules::format_string::has_numeric_escape` meets its contract. The invariant: the answer from here on is the whole answer. Assumes nothing.
-use mathlib.Core.Path.{_≡_, refl, sym, _∙_}
+use mathlib.Core.Path.{_≡_, sym, _∙_}
 use Prim.Native.Nat.{_+_, _-_, _≤_}
 use native.Mathlib.Omega.{arith}
 use lib.ListN.{length}
