@@ -3,10 +3,12 @@
 -- Assumes nothing.
 use Prim.Native.Nat.{ℕ, _≤_, _<_}
 use mathlib.Core.Path.{_≡_, sym, _∙_}
+use mathlib.Core.Logic.{_⊎_, inl, inr, ⊎-elim}
 use mathlib.Core.Bool.{true, false}
 use mathlib.Core.List.{List}
 use mathlib.Core.Option.{Option, none, some}
 use Rattle.luck_text.specs.Bytes.{ascii}
+use Rattle.luck_text.proofs.Cases.{order}
 use Rattle.luck_token.specs.Version.{isVersion}
 use Rattle.luck_utf8.specs.Utf8.{illFormed}
 use Rattle.luck_answer.specs.Answer.{accepted, refused, checkText}
@@ -17,6 +19,14 @@ use Rattle.luck_replacement.proofs.Unread.{unknown-allows, from-nine-al
 abbrev pub UnknownOrFromNine : Option ℕ → Type 0
 UnknownOrFromNine none = Unit {0}
 UnknownOrFromNine (some count) = 9 ≤ count
+
+abbrev pub BelowNine : Option ℕ → Type 0
+BelowNine none = ⊥
+BelowNine (some count) = count < 9
+
+pub one-of-both : (captures : Option ℕ) → UnknownOrFromNine captures ⊎ BelowNine captures
+one-of-both none = inl tt
+one-of-both (some count) = ⊎-elim inr inl (order count 9)
 
 -- without strict rules the walk accepts, whatever the pieces of the text
 pub walk-accepts : (captures : Option ℕ) (text : List ℕ) → UnknownOrFromNine captures → piecesWalk false captures (pieces text) 0 ≡ accepted 0
@@ -31,9 +41,12 @@ pub accepted-once-utf8 : (captures : Option ℕ) (text : List ℕ) → UnknownOr
     → checkReplacement 1 captures text ≡ accepted 0
 accepted-once-utf8 captures text h utf8 = only-utf8 captures text h ∙ sym (text-fine 1 text (accepted 0) is-version-1 (sym utf8))
 
-pub refused-below-nine : (count : ℕ) → count < 9 → checkReplacement 1 (some count) (ascii "%9") ≡ refused 21 1
-refused-below-nine = nine-refused
+-- with every other count 5.1 refuses some text
+pub refused-below-nine : (captures : Option ℕ) → BelowNine captures → checkReplacement 1 captures (ascii "%9") ≡ refused 21 1
+refused-below-nine none h = absurd h
+refused-below-nine (some count) h = nine-refused count h
 
+-- and so does every other version, whatever the captures
 pub refused-in-other-versions : (version : ℕ) (captures : Option ℕ) → isVersion version ≡ true → (version ≡ 1 → ⊥)
     → checkReplacement version captures (ascii "%") ≡ refused 19 0
 refused-in-other-versions = lone-refused

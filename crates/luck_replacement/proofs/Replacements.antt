@@ -5,21 +5,21 @@ use native.Mathlib.Numerals.{add-one}
 use native.Mathlib.Omega.{arith}
 use mathlib.Core.Path.{_≡_, refl, sym, ap, _∙_}
 use mathlib.Core.Logic.{⊎-elim}
-use mathlib.Core.Bool.{Bool, true, false, not}
+use mathlib.Core.Bool.{Bool, true, false, not, true≢false}
 use mathlib.Core.List.{List, [], _∷_}
 use mathlib.Core.Option.{Option, some}
 use mir.Val.{boolByte}
 use lib.ListN.{length, drop, drop-of-length-le}
 use lib.Seq.{drop-cons}
 use lib.Dec.{eqb, leb, ltb}
-use borrow.Author.Tests.{eq-eqb, ne-eqb, leb-true, lt-ltb, le-ltb, lt-leb, le-leb}
+use borrow.Author.Tests.{eq-eqb, ne-eqb, not-false, leb-true, lt-ltb, le-ltb, lt-leb, le-leb}
 use Rattle.luck_text.specs.Bytes.{if_then_else_, byteAt, isDigit}
 use Rattle.luck_text.specs.Scan.{neither}
 use Rattle.luck_text.proofs.Cases.{by-test, if-true, if-false, and-right, order}
 use Rattle.luck_text.proofs.Neither.{passes-plain as over-plain}
 use Rattle.luck_answer.specs.Answer.{Answer, accepted, refused}
 use Rattle.luck_replacement.specs.Replacement.{Piece, literal, digit, percent, other, lone, escaped, pieces, allowsDigit, piecesWalk}
-use Rattle.luck_replacement.specs.Inner.{isRefused, rank}
+use Rattle.luck_replacement.specs.Inner.{canRefuse, isRefused, rank}
 
 -- ---- Reading
 
@@ -118,6 +118,21 @@ refusal-of strict captures b more p false true = go (allowsDigit captures (b - 4
     go true = refl
     go false = refl
 refusal-of strict captures b more p false false = refl
+
+-- ---- Whether anything can be refused
+
+pub below-nine : (limit : ℕ) → ltb limit 9 ≡ not (allowsDigit (some limit) 9)
+unfolding allowsDigit
+below-nine limit =
+    ⊎-elim
+    (λ k. lt-ltb limit 9 k ∙ sym (ap not (lt-leb 9 (max limit 1) (omega arith))))
+    (λ k. le-ltb limit 9 k ∙ sym (ap not (le-leb 9 (max limit 1) (omega arith))))
+    (order limit 9)
+
+pub nothing-refused : (strict : Bool) (count : Option ℕ) → canRefuse strict count ≡ false → (strict ≡ false) × (allowsDigit count 9 ≡ true)
+unfolding canRefuse
+nothing-refused true count e = absurd (true≢false e)
+nothing-refused false count e = (refl, not-false _ e)
 
 -- ---- The walk
 

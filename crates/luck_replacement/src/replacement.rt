@@ -4,7 +4,7 @@ ghost use mathlib.Core.Option.{some};
 ghost use Prim.Native.Nat.{ℕ, _≤_};
 ghost use Rattle.luck_answer.specs.Answer.{walkedOf, answerOf};
 ghost use Rattle.luck_replacement.specs.Replacement.{countOf, pieces, allowsDigit, piecesWalk, checkReplacement};
-ghost use Rattle.luck_replacement.specs.Inner.{isRefused, rank};
+ghost use Rattle.luck_replacement.specs.Inner.{canRefuse, isRefused, rank};
 use luck_answer::format_pattern;
 use luck_answer::format_pattern::Checked;
 use luck_answer::format_pattern::PatternError;
@@ -107,17 +107,25 @@ fn scan_pieces(text: &[u8], limit: u8, is_strict: bool) -> Walked
     Walked::Accepted(0)
 }
 
+// Whether the walk can refuse any text.
+fn can_refuse(limit: u8, is_strict: bool) -> bool
+    ensures { λ r. ⌜ r ≡ canRefuse «is_strict» (some limit) ⌝ }
+{
+    if is_strict {
+        return true;
+    }
+    limit < 9
+}
+
 // The walk over a text that is UTF-8. Where nothing can be refused, it reads no byte.
 pub fn scan_replacement(text: &[u8], captures: Captures, is_strict: bool) -> Walked
     ensures { λ r. ⌜ walkedOf r ≡ piecesWalk «is_strict» (countOf captures) (pieces (now (text .entry))) 0 ⌝ }
 {
     let limit = digit_limit(captures);
-    if !is_strict {
-        if limit == 9 {
-            return Walked::Accepted(0);
-        }
+    if can_refuse(limit, is_strict) {
+        return scan_pieces(text, limit, is_strict);
     }
-    scan_pieces(text, limit, is_strict)
+    Walked::Accepted(0)
 }
 
 pub fn validate_gsub_replacement(version: u32, captures: Captures, text: &[u8]) -> Checked
