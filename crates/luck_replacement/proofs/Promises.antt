@@ -2,6 +2,7 @@
 -- known to be UTF-8; under 5.1 with every lower count, and under every other version, some text is refused.
 -- Assumes nothing.
 use Prim.Native.Nat.{ℕ, _≤_, _<_}
+use native.Mathlib.Omega.{arith}
 use mathlib.Core.Path.{_≡_, sym, _∙_}
 use mathlib.Core.Logic.{_⊎_, inl, inr, ⊎-elim}
 use mathlib.Core.Bool.{true, false}
@@ -24,14 +25,10 @@ abbrev pub BelowNine : Option ℕ → Type 0
 BelowNine none = ⊥
 BelowNine (some count) = count < 9
 
-pub one-of-both : (captures : Option ℕ) → UnknownOrFromNine captures ⊎ BelowNine captures
-one-of-both none = inl tt
-one-of-both (some count) = ⊎-elim inr inl (order count 9)
-
 -- without strict rules the walk accepts, whatever the pieces of the text
 pub walk-accepts : (captures : Option ℕ) (text : List ℕ) → UnknownOrFromNine captures → piecesWalk false captures (pieces text) 0 ≡ accepted 0
 walk-accepts none text h = unread none text unknown-allows
-walk-accepts (some count) text h = unread (some count) text (from-nine-allows count h)
+walk-accepts (some count) text h = unread (some count) text (from-nine-allows count (omega (arith, h)))
 
 -- so under 5.1 no more is tested than the version and UTF-8
 pub only-utf8 : (captures : Option ℕ) (text : List ℕ) → UnknownOrFromNine captures → checkReplacement 1 captures text ≡ checkText 1 text (accepted 0)
@@ -46,7 +43,12 @@ pub refused-below-nine : (captures : Option ℕ) → BelowNine captures → chec
 refused-below-nine none h = absurd h
 refused-below-nine (some count) h = nine-refused count h
 
--- and so does every other version, whatever the captures
+-- no count is left out
+pub one-of-both : (captures : Option ℕ) → UnknownOrFromNine captures ⊎ BelowNine captures
+one-of-both none = inl tt
+one-of-both (some count) = ⊎-elim inr inl (order count 9)
+
+-- every other version refuses some text, whatever the captures
 pub refused-in-other-versions : (version : ℕ) (captures : Option ℕ) → isVersion version ≡ true → (version ≡ 1 → ⊥)
     → checkReplacement version captures (ascii "%") ≡ refused 19 0
 refused-in-other-versions = lone-refused
