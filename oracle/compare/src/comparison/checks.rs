@@ -7,8 +7,7 @@ use crate::reference::checks::{Body, Text};
 use crate::reference::{NO_VERSIONS, VERSIONS};
 
 /// Counts of captures, none for unknown.
-const CAPTURES: [Option<usize>; 9] =
-    [None, Some(0), Some(1), Some(2), Some(3), Some(8), Some(9), Some(32), Some(usize::MAX)];
+const CAPTURES: [Option<usize>; 9] = [None, Some(0), Some(1), Some(2), Some(3), Some(8), Some(9), Some(32), Some(usize::MAX)];
 
 /// Places of a literal in its source: a span saturates at the largest one.
 const STARTS: [u32; 9] = [0, 1, 1000, u32::MAX / 2, u32::MAX - 4, u32::MAX - 3, u32::MAX - 2, u32::MAX - 1, u32::MAX];

@@ -212,7 +212,8 @@ fn long_texts() -> Vec<Vec<u8>> {
 /// Runs of plain bytes of every length up to 100, a piece, by turns no run or one of about 16, 32 or 48 bytes, and a piece again: what
 /// passes over plain or ASCII bytes by blocks must stop at each of these places.
 fn plain_runs() -> Vec<Vec<u8>> {
-    const PIECES: [&[u8]; 11] = [b"", b"%", b"%1", b"%9", b"%%", b"%x", b"\\n", "é".as_bytes(), "😀".as_bytes(), b"\xFF", b"\xE2\x82"];
+    const PIECES: [&[u8]; 11] =
+        [b"", b"%", b"%1", b"%9", b"%%", b"%x", b"\\n", "é".as_bytes(), "😀".as_bytes(), b"\xFF", b"\xE2\x82"];
     const LATER: [usize; 10] = [0, 15, 16, 17, 31, 32, 33, 34, 47, 49];
     const ENDS: [&[u8]; 5] = [b"", b"%", b"%2", b"%x", b"\\6"];
     let mut texts = Vec::new();
