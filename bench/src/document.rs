@@ -10,7 +10,8 @@ const KEPT: &str = "<!-- The tables end here. What follows is not written by ben
 const HEAD: &str = "# Measured
 
 Times, memory and stack are written by `bench/` with `--write`; `bench/README.md` says what is measured and how to read it. A ratio is the
-library's time over the baseline's: less is better, and the aim is 1.0.
+library's time over the baseline's: less is better, and the aim is 1.0 (1.2 for the replacements of 5.1
+beside the UTF-8 test).
 ";
 
 pub fn write(file: &Path, machine: &str, tables: &str) -> Result<(), String> {

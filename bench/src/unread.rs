@@ -1,5 +1,5 @@
-//! Texts in which nothing can be refused but bytes that are not UTF-8: replacements of 5.1 with captures unknown, or known to be 9 or more.
-//! Each beside the library's UTF-8 test alone.
+//! Texts in which nothing can be refused but bytes that are not UTF-8: replacements of 5.1 with captures unknown, or known to be 9
+//! or more. Each beside the library's UTF-8 test alone.
 
 use std::hint::black_box;
 

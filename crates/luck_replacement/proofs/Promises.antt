@@ -43,10 +43,9 @@ pub refused-below-nine : (captures : Option ℕ) → BelowNine captures → chec
 refused-below-nine none h = absurd h
 refused-below-nine (some count) h = nine-refused count h
 
--- no count is left out
-pub one-of-both : (captures : Option ℕ) → UnknownOrFromNine captures ⊎ BelowNine captures
-one-of-both none = inl tt
-one-of-both (some count) = ⊎-elim inr inl (order count 9)
+pub no-count-left-out : (captures : Option ℕ) → UnknownOrFromNine captures ⊎ BelowNine captures
+no-count-left-out none = inl tt
+no-count-left-out (some count) = ⊎-elim inr inl (order count 9)
 
 -- every other version refuses some text, whatever the captures
 pub refused-in-other-versions : (version : ℕ) (captures : Option ℕ) → isVersion version ≡ true → (version ≡ 1 → ⊥)

@@ -1,5 +1,5 @@
 -- Where nothing can be refused (F-6 of document 02): a replacement of 5.1 with captures unknown, or known to be 9 or
--- more, is accepted once it is known to be UTF-8.
+-- more, is accepted once it is known to be UTF-8; and what is refused with lower counts and in other versions.
 -- Assumes nothing.
 use Prim.Native.Nat.{ℕ, zero, suc, _+_, _≤_, _<_, max}
 use native.Mathlib.Omega.{arith}
@@ -50,7 +50,7 @@ same-digits strict a b same (percent ∷ ps) p h = same-digits strict a b same p
 same-digits strict a b same (other c ∷ ps) p h = ap (λ (on : Answer). if strict then refused 20 (p + 1) else on) (same-digits strict a b same ps (p + 2) h)
 same-digits strict a b same (lone ∷ ps) p h = ap (λ (on : Answer). if strict then refused 19 p else on) (same-digits strict a b same ps (p + 1) h)
 
--- without strict replacements and with captures unknown, it refuses nothing
+-- without strict rules and with captures unknown, it refuses nothing
 lenient : (ps : List Piece) (p : ℕ) → piecesWalk false none ps p ≡ accepted 0
 unfolding piecesWalk allowsDigit if_then_else_
 lenient [] p = refl

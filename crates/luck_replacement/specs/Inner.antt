@@ -8,7 +8,7 @@ use lib.Dec.{eqb}
 use Rattle.luck_text.specs.Bytes.{if_then_else_, isDigit}
 use Rattle.luck_replacement.specs.Replacement.{allowsDigit}
 
--- some text is refused (F-6): under strict rules, or where the largest digit is too large
+-- some text is refused (F-6): under strict rules, or where the digit 9 is too large
 unfoldable pub canRefuse : Bool → Option ℕ → Bool
 canRefuse strict count = strict || not (allowsDigit count 9)
 

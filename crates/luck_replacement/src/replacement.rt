@@ -21,7 +21,7 @@ pub enum Captures {
     Unknown,
 }
 
-// The rank of a byte that is no digit, where it is refused: above every digit.
+// The rank, under strict rules, of a byte that is no digit: above every digit.
 const NO_DIGIT: u8 = 10;
 
 // What `%%` is allowed in addition: with it the limit is above every rank.
@@ -50,7 +50,7 @@ fn digit_limit(captures: Captures) -> u8
     }
 }
 
-// What a byte behind a `%` is judged by: a digit by its value, any other byte by whether it is refused.
+// What a byte behind a `%` is judged by: a digit by its value, any other byte by whether the rules are strict.
 fn rank(byte: u8, is_strict: bool) -> u8
     ensures { λ r. ⌜ r ≡ rank «is_strict» byte ⌝ }
 {
@@ -107,7 +107,7 @@ fn scan_pieces(text: &[u8], limit: u8, is_strict: bool) -> Walked
     Walked::Accepted(0)
 }
 
-// Whether the walk can refuse any text.
+// Whether there is a text that the walk refuses.
 fn can_refuse(limit: u8, is_strict: bool) -> bool
     ensures { λ r. ⌜ r ≡ canRefuse «is_strict» (some limit) ⌝ }
 {

@@ -209,8 +209,8 @@ fn long_texts() -> Vec<Vec<u8>> {
     texts
 }
 
-/// Runs of plain bytes of every length up to 100, a piece, by turns no run or one of about 16, 32 or 48 bytes, and a piece again: what
-/// passes over plain or ASCII bytes by blocks must stop at each of these places.
+/// Runs of plain bytes of every length up to 100, a piece, by turns no run or one of about 16, 32 or 48 bytes, and a piece again:
+/// what passes over plain or ASCII bytes by blocks must stop at each of these places.
 fn plain_runs() -> Vec<Vec<u8>> {
     const PIECES: [&[u8]; 11] =
         [b"", b"%", b"%1", b"%9", b"%%", b"%x", b"\\n", "é".as_bytes(), "😀".as_bytes(), b"\xFF", b"\xE2\x82"];
