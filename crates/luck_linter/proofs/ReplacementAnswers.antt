@@ -1,19 +1,19 @@
 -- The answers of the check of a replacement.
 -- Assumes nothing.
-use Prim.Native.Nat.{ℕ, suc, _+_, _≤_, max}
+use Prim.Native.Nat.{ℕ, suc, _+_, _≤_}
 use native.Mathlib.Omega.{arith}
 use mathlib.Core.Path.{_≡_, refl, sym, _∙_}
 use mathlib.Core.Bool.{Bool, true, false, true≢false}
 use mathlib.Core.List.{List, [], _∷_}
-use mathlib.Core.Option.{Option, none, some}
+use mathlib.Core.Option.{Option}
 use lib.ListN.{length}
-use lib.Dec.{leb}
-use borrow.Author.Tests.{leb-true, le-leb}
-use Rattle.luck_text.specs.Bytes.{among, isDigit}
-use Rattle.luck_text.proofs.Cases.{by-test, and-right}
+use Rattle.luck_text.specs.Bytes.{among}
+use Rattle.luck_text.proofs.Cases.{by-test}
 use Rattle.luck_answer.specs.Answer.{Answer, refused}
 use Rattle.luck_linter.specs.Checks.{replacement, numbers}
 use Rattle.luck_replacement.specs.Replacement.{Piece, literal, digit, percent, other, lone, escaped, pieces, allowsDigit, piecesWalk}
+use Rattle.luck_replacement.specs.Counts.{largestDigit}
+use Rattle.luck_replacement.proofs.Unread.{nine, up-to-nine}
 use Rattle.luck_linter.proofs.Counts.{Walked}
 
 -- ---- The pieces are as long as their text
@@ -42,42 +42,13 @@ pieces-width (b ∷ c ∷ more) =
     let one = pieces-width (c ∷ more) in
     by-test (λ (all : List Piece). widths all ≡ suc (suc (length more))) _ _ _ (λ _. omega (arith, escaped-width c, two)) (λ _. omega (arith, one))
 
--- ---- No digit is above 9
+-- ---- A digit that is refused
 
-abbrev SmallDigit : Piece → Type 0
-SmallDigit (literal b) = Unit {0}
-SmallDigit (digit d) = d ≤ 9
-SmallDigit percent = Unit {0}
-SmallDigit (other b) = Unit {0}
-SmallDigit lone = Unit {0}
-
-abbrev SmallDigits : List Piece → Type 0
-SmallDigits [] = Unit {0}
-SmallDigits (piece ∷ more) = SmallDigit piece × SmallDigits more
-
-escaped-small : (b : ℕ) → SmallDigit (escaped b)
-unfolding escaped isDigit
-escaped-small b = by-test SmallDigit _ _ _ (λ _. tt) (λ _. by-test SmallDigit _ _ _ (λ e. omega (arith, leb-true b 57 (and-right (leb 48 b) (leb b 57) e))) (λ _. tt))
-
-pieces-small : (text : List ℕ) → SmallDigits (pieces text)
-unfolding pieces
-pieces-small [] = tt
-pieces-small (b ∷ []) = (by-test SmallDigit _ _ _ (λ _. tt) (λ _. tt), tt)
-pieces-small (b ∷ c ∷ more) =
-    let two = pieces-small more in
-    let one = pieces-small (c ∷ more) in
-    by-test SmallDigits _ _ _ (λ _. (escaped-small c, two)) (λ _. (tt, one))
-
--- so 21 is one of the numbers where a digit is refused
-allows-less : (captures : Option ℕ) (d : ℕ) → d ≤ 9 → allowsDigit captures 9 ≡ true → allowsDigit captures d ≡ true
-unfolding allowsDigit
-allows-less none d h e = refl
-allows-less (some count) d h e = le-leb d (max count 1) (omega (arith, leb-true 9 (max count 1) e))
-
+-- no digit is above 9, so 21 is one of the numbers
 too-large : (captures : Option ℕ) (d : ℕ) → d ≤ 9 → allowsDigit captures d ≡ false → among 21 (numbers (replacement captures)) ≡ true
 unfolding among
 too-large captures d h f =
-    by-test (λ xs. among 21 xs ≡ true) (allowsDigit captures 9) [] (21 ∷ []) (λ e. absurd (true≢false (sym (allows-less captures d h e) ∙ f))) (λ _. refl)
+    by-test (λ xs. among 21 xs ≡ true) (allowsDigit captures 9) [] (21 ∷ []) (λ e. absurd (true≢false (sym (up-to-nine captures e d h) ∙ f))) (λ _. refl)
 
 -- ---- The walk
 
@@ -85,21 +56,21 @@ module _ (strict : Bool) (captures : Option ℕ) (len : ℕ) where
   abbrev AnswerIn : Answer → Type 0
   AnswerIn answer = Walked len (numbers (replacement captures)) answer
 
-  walk-bounded : (all : List Piece) (p : ℕ) → SmallDigits all → p + widths all ≤ len → AnswerIn (piecesWalk strict captures all p)
-  unfolding piecesWalk widths width among
+  walk-bounded : (all : List Piece) (p : ℕ) → largestDigit all ≤ 9 → p + widths all ≤ len → AnswerIn (piecesWalk strict captures all p)
+  unfolding piecesWalk largestDigit widths width among
   walk-bounded [] p small h = (omega arith, refl, omega arith)
-  walk-bounded (literal b ∷ more) p small h = walk-bounded more (p + 1) (small .1) (omega arith)
+  walk-bounded (literal b ∷ more) p small h = walk-bounded more (p + 1) small (omega arith)
   walk-bounded (digit d ∷ more) p small h =
-      let rest = walk-bounded more (p + 2) (small .1) (omega arith) in
-      by-test AnswerIn (allowsDigit captures d) (piecesWalk strict captures more (p + 2)) (refused 21 (p + 1)) (λ _. rest) (λ e. (omega arith, too-large captures d (small .0) e, omega arith))
-  walk-bounded (percent ∷ more) p small h = walk-bounded more (p + 2) (small .1) (omega arith)
+      let rest = walk-bounded more (p + 2) (omega arith) (omega arith) in
+      by-test AnswerIn (allowsDigit captures d) (piecesWalk strict captures more (p + 2)) (refused 21 (p + 1)) (λ _. rest) (λ e. (omega arith, too-large captures d (omega arith) e, omega arith))
+  walk-bounded (percent ∷ more) p small h = walk-bounded more (p + 2) small (omega arith)
   walk-bounded (other b ∷ more) p small h =
-      let rest = walk-bounded more (p + 2) (small .1) (omega arith) in
+      let rest = walk-bounded more (p + 2) small (omega arith) in
       by-test AnswerIn strict (refused 20 (p + 1)) (piecesWalk strict captures more (p + 2)) (λ _. (omega arith, refl, omega arith)) (λ _. rest)
   walk-bounded (lone ∷ more) p small h =
-      let rest = walk-bounded more (p + 1) (small .1) (omega arith) in
+      let rest = walk-bounded more (p + 1) small (omega arith) in
       by-test AnswerIn strict (refused 19 p) (piecesWalk strict captures more (p + 1)) (λ _. (omega arith, refl, omega arith)) (λ _. rest)
 
 module _ (captures : Option ℕ) (text : List ℕ) where
   pub replacement-bounded : (strict : Bool) → Walked (length text) (numbers (replacement captures)) (piecesWalk strict captures (pieces text) 0)
-  replacement-bounded strict = walk-bounded strict captures (length text) (pieces text) 0 (pieces-small text) (omega (arith, pieces-width text))
+  replacement-bounded strict = walk-bounded strict captures (length text) (pieces text) 0 (nine text) (omega (arith, pieces-width text))

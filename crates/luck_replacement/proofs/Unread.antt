@@ -61,13 +61,14 @@ lenient (other b ∷ ps) p = lenient ps (p + 2)
 lenient (lone ∷ ps) p = lenient ps (p + 1)
 
 -- a count that allows 9 allows each digit
-up-to-nine : (count : Option ℕ) → allowsDigit count 9 ≡ true → (d : ℕ) → d ≤ 9 → allowsDigit count d ≡ allowsDigit none d
+pub up-to-nine : (count : Option ℕ) → allowsDigit count 9 ≡ true → (d : ℕ) → d ≤ 9 → allowsDigit count d ≡ true
 unfolding allowsDigit
 up-to-nine none t d h = refl
 up-to-nine (some count) t d h = le-leb d (max count 1) (omega (arith, leb-true 9 (max count 1) t))
 
 -- so the walk need not be made
 pub unread : (count : Option ℕ) (text : List ℕ) → allowsDigit count 9 ≡ true → piecesWalk false count (pieces text) 0 ≡ accepted 0
+unfolding allowsDigit
 unread count text t = same-digits false count none (up-to-nine count t) (pieces text) 0 (nine text) ∙ lenient (pieces text) 0
 
 pub unknown-allows : allowsDigit none 9 ≡ true

@@ -20,9 +20,11 @@ use Rattle.lstr_gsub.specs.Gsub.{Report, report, outputAfter, gsub}
 pub data Asked : Type 0 where
   format pattern pack packsize date : List ℕ → Asked
   replacement : Option ℕ → List ℕ → Asked  -- the count of captures, the text
-  literal : ℕ → Option ℕ → ℕ → List ℕ → Asked  -- the kind letter, the count of captures, the literal's start, its text
+  -- the kind letter, the count of captures, the literal's start, its text
+  literal : ℕ → Option ℕ → ℕ → List ℕ → Asked
   decode : List ℕ → List ℕ → Asked  -- the text, the output
-  trial : List ℕ → List ℕ → List ℕ → ℕ → List ℕ → Asked  -- subject, pattern, replacement, the budget, the output
+  -- subject, pattern, replacement, the budget, the output
+  trial : List ℕ → List ℕ → List ℕ → ℕ → List ℕ → Asked
 
 -- an answer with all its fields; and the whole output at the end, where one was lent
 pub data Told : Type 0 where
