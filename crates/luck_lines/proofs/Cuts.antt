@@ -11,7 +11,7 @@ use lib.Seq.{drop-drop, drop-length}
 use lib.Dec.{eqb, ltb}
 use borrow.Author.Tests.{ltb-true, ltb-false, eqb-true, eqb-false}
 use Rattle.luck_text.specs.Bytes.{part}
-use Rattle.luck_text.proofs.Cases.{by-test, order}
+use Rattle.luck_text.proofs.Cases.{by-test, order, same}
 use Rattle.luck_line.specs.Line.{longest}
 use Rattle.luck_lines.specs.Stream.{lineLength, rowOf, Taken, taken, FeedState, feedState, unended, feed, rowsAfter}
 use Rattle.luck_lines.proofs.Listings.{after-line, after-long}
@@ -27,13 +27,6 @@ or-false false b e = (refl, e)
 or-true : (a b : Bool) → (a || b) ≡ true → a ≡ false → b ≡ true
 or-true true b e f = let z : _≡_ {A = ℕ} 0 1 = cc in absurd (omega arith)
 or-true false b e f = e
-
-pub same : (a b : ℕ) → (a ≡ b) ⊎ (a ≡ b → ⊥)
-same a b = go (eqb a b) refl
-  where
-    go : (t : Bool) → eqb a b ≡ t → (a ≡ b) ⊎ (a ≡ b → ⊥)
-    go true e = inl (eqb-true a b e)
-    go false e = inr (eqb-false a b e)
 
 -- What each turn hands back from the state after it to the state before it, a call has of the state that it begins in.
 module _ (input : List ℕ) (room : ℕ) (R : ℕ → FeedState → Taken → Type 0)

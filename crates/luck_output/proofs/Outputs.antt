@@ -22,7 +22,7 @@ module _ (output : List ℕ) (p : ℕ) (bytes : List ℕ) where
   stores-none h = sym (if-false _ _ _ (lt-leb (p + length bytes) (length output) h))
 
 -- bytes of a text, copied one by one
-sets-last : (bytes output : List ℕ) (p b : ℕ) → set (sets output p bytes) (p + length bytes) b ≡ sets output p (bytes ++ (b ∷ []))
+pub sets-last : (bytes output : List ℕ) (p b : ℕ) → set (sets output p bytes) (p + length bytes) b ≡ sets output p (bytes ++ (b ∷ []))
 sets-last [] output p b = rw (add-zero p)
 sets-last (x ∷ bytes) output p b =
     let e : p + suc (length bytes) ≡ suc p + length bytes = omega arith in

@@ -5,7 +5,7 @@ ghost use Prim.Native.Nat.{_+_, _-_, _<_, _≤_};
 ghost use lib.ListN.{length};
 ghost use lib.Seq.{sets};
 ghost use Rattle.luck_text.specs.Bytes.{part};
-ghost use Rattle.luck_utf8.specs.Utf8.{utf8Bytes};
+ghost use Rattle.luck_utf8.specs.Utf8.{lastCode, utf8Bytes};
 ghost use Rattle.luck_output.specs.Output.{stores};
 use crate::character;
 
@@ -33,7 +33,7 @@ pub fn put_byte(output: &mut [u8], at: usize, value: u8)
 }
 
 pub fn put_char(output: &mut [u8], at: usize, code: u32) -> usize
-    requires { ⌜ code < 0x110000 ⌝ }
+    requires { ⌜ code ≤ lastCode ⌝ }
     ensures { λ r. ⌜ (r ≡ length (utf8Bytes code)) × (now (output .exit) ≡ stores (now (output .entry)) at (utf8Bytes code)) ⌝ }
 {
     let width = character::char_width(code);

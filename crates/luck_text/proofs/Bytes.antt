@@ -1,10 +1,10 @@
 -- Laws of bytes: tests of a range, sets, parts, runs, and numbers that stay at the largest.
 -- Assumes nothing.
-use Prim.Native.Nat.{ℕ, zero, suc, _+_, _*_, _-_, _≤_, _<_, min}
+use Prim.Native.Nat.{ℕ, zero, suc, _+_, _*_, _-_, _/_, _%_, _≤_, _<_, min}
 use native.Mathlib.Nat.{mul-zero, mul-suc}
 use native.Mathlib.Numerals.{add-one}
 use native.Mathlib.Omega.{arith}
-use mathlib.Core.Path.{_≡_, refl, sym, ap, subst, _∙_}
+use mathlib.Core.Path.{_≡_, refl, sym, ap, ap₂, subst, _∙_}
 use mathlib.Core.Logic.{_⊎_, inl, inr, ⊎-elim}
 use mathlib.Core.Bool.{Bool, true, false, _||_, not}
 use mathlib.Core.List.{List, [], _∷_}
@@ -12,15 +12,21 @@ use lib.ListN.{length, drop, length-append, length-drop, drop-of-length-le}
 use lib.Seq.{drop-cons, take-nil, getD-take, getD-drop, length-take-le}
 use lib.Dec.{leb}
 use borrow.Author.Tests.{le-leb, lt-leb, leb-true, leb-false, eq-eqb, ne-eqb, not-true, not-false}
-use Rattle.luck_text.specs.Bytes.{if_then_else_, byteAt, part, inFront, between, among, isDigit, isXdigit, run, digitValue, numeralFrom}
+use Rattle.luck_text.specs.Bytes.{if_then_else_, byteAt, part, inFront, between, among, isDigit, isXdigit, run, digitValue, numeralFrom, numeral}
 use Rattle.luck_text.specs.Scan.{most, grown}
-use Rattle.luck_text.proofs.Cases.{by-test, order, and-right, second-false}
+use Rattle.luck_text.proofs.Cases.{by-test, order, and-left, and-right, second-false}
 
 -- ---- A range
 
 module _ (low high b : ℕ) where
   pub within : low ≤ b → b ≤ high → between low high b ≡ true
   within l h = rw (le-leb low b l, le-leb b high h)
+
+  abbrev pub Between : Type 0
+  Between = (low ≤ b) × (b ≤ high)
+
+  pub between-true : between low high b ≡ true → Between
+  between-true t = (leb-true low b (and-left (leb low b) (leb b high) t), leb-true b high (and-right (leb low b) (leb b high) t))
 
   pub below : b < low → between low high b ≡ false
   below l = rw (lt-leb low b l)
@@ -130,11 +136,11 @@ module _ {test : ℕ → Bool} {text : List ℕ} {at end : ℕ} (i : InRun test 
 
 -- a number that stays at the largest, with one more digit
 module _ (value digit : ℕ) where
-  large : (base : ℕ) → most ≤ value → min (most * base + digitValue digit) most ≡ min (value * base + digitValue digit) most
+  large : (base : ℕ) → most ≤ value → min (most * base + digit) most ≡ min (value * base + digit) most
   large zero h = rw (mul-zero most, mul-zero value)
   large (suc base) h = omega (arith, mul-suc value base, mul-suc most base)
 
-  pub grown-min : (base : ℕ) → grown (min value most) base digit ≡ min (value * base + digitValue digit) most
+  pub grown-min : (base : ℕ) → grown (min value most) base digit ≡ min (value * base + digit) most
   unfolding grown
   grown-min base =
       ⊎-elim (λ h. let e : min value most ≡ value = omega arith in rw e)
@@ -153,6 +159,31 @@ module _ (base : ℕ) (text : List ℕ) (to : ℕ) where
   unfolding numeralFrom
   digit-end high p (inl h) = let e : to - p ≡ 0 = omega arith in rw e
   digit-end high p (inr h) = rw (drop-of-length-le text {i = p} h, take-nil (to - p))
+
+-- A number that is read digit by digit from `at` up to `to`: `end` is reached, the number so far stays at the largest, and the exact one beside it is
+-- made the whole one by the digits that are left.
+module _ (base : ℕ) (text : List ℕ) (at to : ℕ) where
+  abbrev pub Spelled : ℕ → ℕ → Type 0
+  Spelled end value = (exact : ℕ) × (value ≡ min exact most) × (numeralFrom base exact (part text end to) ≡ numeral base (part text at to))
+
+  pub spelled-none : Spelled at 0
+  unfolding numeral
+  spelled-none = (0, omega arith, refl)
+
+  module _ (end value : ℕ) (s : Spelled end value) where
+    pub spelled-more : (next digit : ℕ) → end < to → end < length text → digit ≡ digitValue (byteAt text end) → next ≡ grown value base digit → Spelled (end + 1) next
+    spelled-more next digit h l d e =
+        let v = digitValue (byteAt text end) in (
+          s .0 * base + v,
+          e ∙ ap₂ (λ (x y : ℕ). grown x base y) (s .1) d ∙ grown-min (s .0) v base,
+          sym (digit-more base text to (s .0) end h l) ∙ s .2,
+        )
+
+    pub spelled-whole : at ≤ end → end ≡ to → value ≡ min (numeral base (part text at (at + (end - at)))) most
+    spelled-whole b e =
+        let f : at + (end - at) ≡ to = omega arith in
+        s .1 ∙ ap (λ (n : ℕ). min n most)
+        (sym (digit-end base text to (s .0) end (inl (omega arith))) ∙ s .2 ∙ ap (λ (q : ℕ). numeral base (part text at q)) (sym f))
 
 -- ---- The value of a digit
 
@@ -186,25 +217,32 @@ module _ (b : ℕ) where
   unfolding digitValue
   digit-small h = by-test (λ x. x < 256) _ _ _ (λ _. omega arith) (λ _. by-test (λ x. x < 256) _ _ _ (λ e. omega (arith, leb-true b 70 e)) (λ _. omega arith))
 
--- a hexadecimal digit's is below 16
-pub hex-value : (b : ℕ) → isXdigit b ≡ true → digitValue b < 16
-unfolding isXdigit isDigit digitValue
-hex-value b e =
-    by-test (λ x. x < 16) (leb b 57) _ _ (λ d. omega (arith, leb-true b 57 d))
-    (λ n. by-test (λ x. x < 16) (leb b 70) _ _ (λ l. omega (arith, leb-true b 70 l)) (λ h. omega (arith, letter n h)))
+-- a hexadecimal digit is one of three kinds
+pub hex-case : (P : Type 0) (b : ℕ) → isXdigit b ≡ true → (48 ≤ b → b ≤ 57 → P) → (97 ≤ b → b ≤ 102 → P) → (65 ≤ b → b ≤ 70 → P) → P
+unfolding isXdigit isDigit
+hex-case P b e digit small capital =
+    or-case (between 48 57 b || between 97 102 b) (between 65 70 b) e
+    (λ d. or-case (between 48 57 b) (between 97 102 b) d (λ t. in-range 48 57 t digit) (λ t. in-range 97 102 t small))
+    (λ t. in-range 65 70 t capital)
   where
-    letter : leb b 57 ≡ false → leb b 70 ≡ false → b ≤ 102
-    letter n h =
-        let no-digit = above 48 57 b (leb-false b 57 n) in
-        let no-capital = above 65 70 b (leb-false b 70 h) in
-        leb-true b 102 (and-right (leb 97 b) (leb b 102) (small (between 97 102 b) (sym (cong no-digit no-capital) ∙ e)))
-      where
-        small : (t : Bool) → (false || t || false) ≡ true → t ≡ true
-        small true q = refl
-        small false q = q
+    or-case : (x y : Bool) → (x || y) ≡ true → (x ≡ true → P) → (y ≡ true → P) → P
+    or-case true y q f g = f refl
+    or-case false y q f g = g q
 
-        cong : between 48 57 b ≡ false → between 65 70 b ≡ false → (between 48 57 b || between 97 102 b || between 65 70 b) ≡ (false || between 97 102 b || false)
-        cong p q = rw (p, q)
+    in-range : (low high : ℕ) → between low high b ≡ true → (low ≤ b → b ≤ high → P) → P
+    in-range low high t f = let r = between-true low high b t in f (r .0) (r .1)
+
+-- its value is below 16
+pub hex-value : (b : ℕ) → isXdigit b ≡ true → digitValue b < 16
+hex-value b e =
+    hex-case (digitValue b < 16) b e (λ l h. omega (arith, digit-decimal b l h)) (λ l h. omega (arith, digit-small-letter b l))
+    (λ l h. omega (arith, digit-capital b l h))
+
+-- and made from the halves of its code
+pub hex-halves : (b : ℕ) → isXdigit b ≡ true → b % 16 + b / 64 * 9 ≡ digitValue b
+hex-halves b e =
+    hex-case (b % 16 + b / 64 * 9 ≡ digitValue b) b e (λ l h. omega (arith, digit-decimal b l h)) (λ l h. omega (arith, digit-small-letter b l))
+    (λ l h. omega (arith, digit-capital b l h))
 
 -- ---- The front of an output
 

@@ -1,14 +1,15 @@
 -- Cases on a test, and what a byte that is there says of its place.
 -- Assumes nothing.
-use Prim.Native.Nat.{ℕ, _<_, _≤_}
+use Prim.Native.Nat.{ℕ, _+_, _<_, _≤_}
 use native.Mathlib.Omega.{arith}
 use mathlib.Core.Path.{_≡_, refl, sym}
 use mathlib.Core.Logic.{_⊎_, inl, inr, ⊎-elim}
-use mathlib.Core.Bool.{Bool, true, false, _&&_, true≢false}
+use mathlib.Core.Bool.{Bool, true, false, _&&_, _||_, true≢false}
 use mathlib.Core.List.{List}
 use lib.ListN.{length, List·getD-eq-default}
-use lib.Dec.{ltb}
-use borrow.Author.Tests.{ltb-true, ltb-false}
+use lib.Dec.{eqb, ltb}
+use borrow.Author.Tests.{lt-ltb, ltb-true, ltb-false, eqb-true, eqb-false}
+use mir.Val.{boolByte}
 use Rattle.luck_text.specs.Bytes.{if_then_else_, byteAt}
 
 -- what holds of both branches holds of the choice
@@ -51,8 +52,28 @@ order a b = go (ltb a b) refl
     go true e = inl (ltb-true a b e)
     go false e = inr (ltb-false a b e)
 
+pub same : (a b : ℕ) → (a ≡ b) ⊎ (a ≡ b → ⊥)
+same a b = go (eqb a b) refl
+  where
+    go : (t : Bool) → eqb a b ≡ t → (a ≡ b) ⊎ (a ≡ b → ⊥)
+    go true e = inl (eqb-true a b e)
+    go false e = inr (eqb-false a b e)
+
 -- a byte that is not 0 is there
 pub present : (text : List ℕ) (p : ℕ) → 0 < byteAt text p → p < length text
 present text p h =
     ⊎-elim (λ l. l)
     (λ g. let e = List·getD-eq-default text 0 g in absurd (omega arith)) (order p (length text))
+
+-- ---- Sums of tests
+
+pub bit : (b : Bool) → boolByte b ≤ 1
+bit true = omega arith
+bit false = omega arith
+
+-- a sum of three is above 0 where one of them is true
+pub any-of-three : (a b c : Bool) → ltb 0 (boolByte a + boolByte b + boolByte c) ≡ (a || b || c)
+any-of-three true b c = lt-ltb 0 (boolByte true + boolByte b + boolByte c) (omega arith)
+any-of-three false true c = lt-ltb 0 (boolByte false + boolByte true + boolByte c) (omega arith)
+any-of-three false false true = refl
+any-of-three false false false = refl

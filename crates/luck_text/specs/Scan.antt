@@ -3,7 +3,7 @@
 use Prim.Native.Nat.{ℕ, _+_, _*_, min}
 use mathlib.Core.Bool.{Bool, not, _||_}
 use lib.Dec.{eqb}
-use Rattle.luck_text.specs.Bytes.{isDigit, isXdigit, isLuaWhitespace, digitValue}
+use Rattle.luck_text.specs.Bytes.{isDigit, isXdigit, isLuaWhitespace}
 use Rattle.luck_text.specs.declared.scan.Class.{Class}
 use Rattle.luck_text.specs.declared.scan.Class.the-variants.{Digit, HexDigit, Whitespace, Byte}
 
@@ -22,5 +22,6 @@ neither a b x = not (eqb x a || eqb x b)
 abbrev pub most : ℕ
 most = 0x8000_0000
 
+-- a number with one more digit, of this value
 unfoldable pub grown : ℕ → ℕ → ℕ → ℕ
-grown value base digit = min (value * base + digitValue digit) most
+grown value base digit = min (value * base + digit) most

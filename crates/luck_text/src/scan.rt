@@ -1,8 +1,9 @@
 // Bytes of a class or a set, the byte at a place, runs, and the number that digits spell.
 ghost use mathlib.Core.Path.{_≡_};
-ghost use Prim.Native.Nat.{_≤_, min};
+ghost use Prim.Native.Nat.{_+_, _<_, _≤_, min};
+ghost use mathlib.Core.Bool.{true};
 ghost use lib.ListN.{drop};
-ghost use Rattle.luck_text.specs.Bytes.{byteAt, part, among, run as runOf, digitValue, numeral as numeralOf};
+ghost use Rattle.luck_text.specs.Bytes.{byteAt, between, part, among, isDigit, isXdigit, run as runOf, digitValue, numeral as numeralOf};
 ghost use Rattle.luck_text.specs.Scan.{inClass, most, grown};
 
 // What a run is made of.
@@ -22,15 +23,31 @@ fn is_digit(byte: u8) -> bool
     }
 }
 
+fn is_between(byte: u8, low: u8, high: u8) -> bool
+    ensures { λ r. ⌜ r ≡ between low high byte ⌝ }
+{
+    if byte < low {
+        return false;
+    }
+    byte <= high
+}
+
+// A sum instead of branches: which of the three a digit is can't be foreseen.
 fn is_hex_digit(byte: u8) -> bool
     ensures { λ r. ⌜ r ≡ inClass Class.HexDigit byte ⌝ }
 {
-    match byte {
-        b'0'..=b'9' => true,
-        b'a'..=b'f' => true,
-        b'A'..=b'F' => true,
-        _ => false,
-    }
+    let digit = is_between(byte, b'0', b'9') as u8;
+    let small = is_between(byte, b'a', b'f') as u8;
+    let capital = is_between(byte, b'A', b'F') as u8;
+    0 < digit + small + capital
+}
+
+// `0` is 30, `A` 41 and `a` 61 (hexadecimal): a letter's low half is 9 below its value.
+pub fn hex_value(digit: u8) -> u8
+    requires { ⌜ isXdigit digit ≡ true ⌝ }
+    ensures { λ r. ⌜ (r ≡ digitValue digit) × (r < 16) ⌝ }
+{
+    digit % 16 + digit / 64 * 9
 }
 
 fn is_lua_whitespace(byte: u8) -> bool
@@ -109,7 +126,7 @@ pub fn run_in(text: &[u8], at: usize, set: &[u8]) -> usize
 }
 
 fn digit_value(byte: u8) -> u64
-    ensures { λ r. ⌜ r ≡ digitValue byte ⌝ }
+    ensures { λ r. ⌜ (r ≡ digitValue byte) × (r < 256) ⌝ }
 {
     if byte < b'0' {
         return 0;
@@ -129,12 +146,12 @@ fn digit_value(byte: u8) -> u64
     byte as u64 - 87
 }
 
-// A number with one more digit. What is larger than every limit that a check has stays at one such number.
-fn with_digit(value: u64, base: u32, digit: u8) -> u64
-    requires { ⌜ value ≤ most ⌝ }
+// A number with one more digit, of this value. What is larger than every limit that a check has stays at one such number.
+fn with_digit(value: u64, base: u32, digit: u64) -> u64
+    requires { ⌜ (value ≤ most) × (digit < 256) ⌝ }
     ensures { λ r. ⌜ r ≡ grown value base digit ⌝ }
 {
-    let larger = value * (base as u64) + digit_value(digit);
+    let larger = value * (base as u64) + digit;
     if 0x8000_0000 < larger {
         return 0x8000_0000;
     }
@@ -151,8 +168,59 @@ pub fn numeral(text: &[u8], from: usize, to: usize, base: u32) -> u32
         if text.len() <= at {
             return value as u32;
         }
-        value = with_digit(value, base, text[at]);
+        value = with_digit(value, base, digit_value(text[at]));
         at += 1;
     }
     value as u32
+}
+
+// The number that digits in a row spell, or 80000000 (hexadecimal) where it is larger.
+pub struct Number {
+    pub count: usize,
+    pub value: u32,
+}
+
+// The hexadecimal digits from `at` on, counted and read in one go.
+pub fn hex_digits(text: &[u8], at: usize) -> Number
+    ensures count { λ r. ⌜ r .count ≡ runOf isXdigit (drop at (now (text .entry))) ⌝ }
+    ensures value { λ r. ⌜ r .value ≡ min (numeralOf 16 (part (now (text .entry)) at (at + r .count))) most ⌝ }
+{
+    let mut end = at;
+    let mut value: u64 = 0;
+    while end < text.len() {
+        let digit = text[end];
+        if !is_hex_digit(digit) {
+            break;
+        }
+        value = with_digit(value, 16, hex_value(digit) as u64);
+        end += 1;
+    }
+    Number {
+        count: end - at,
+        value: value as u32,
+    }
+}
+
+// The decimal digits from `at` on, `limit` of them at most.
+pub fn digits(text: &[u8], at: usize, limit: usize) -> Number
+    ensures count { λ r. ⌜ r .count ≡ min limit (runOf isDigit (drop at (now (text .entry)))) ⌝ }
+    ensures value { λ r. ⌜ r .value ≡ min (numeralOf 10 (part (now (text .entry)) at (at + r .count))) most ⌝ }
+{
+    let mut end = at;
+    let mut value: u64 = 0;
+    while end < text.len() {
+        if limit <= end - at {
+            break;
+        }
+        let digit = text[end];
+        if !is_digit(digit) {
+            break;
+        }
+        value = with_digit(value, 10, (digit - b'0') as u64);
+        end += 1;
+    }
+    Number {
+        count: end - at,
+        value: value as u32,
+    }
 }

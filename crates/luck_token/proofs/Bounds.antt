@@ -13,7 +13,6 @@ use borrow.Author.Tests.{eqb-true, eqb-false, leb-true, leb-false}
 use Rattle.luck_text.specs.Bytes.{byteAt, part, among, isXdigit, run, numeral}
 use Rattle.luck_text.proofs.Cases.{by-test, and-left, and-right, present}
 use Rattle.luck_text.proofs.Keeps.{Turns, walk-keeps}
-use Rattle.luck_utf8.specs.Utf8.{utf8Bytes}
 use Rattle.luck_token.specs.Version.{rulesOf}
 use Rattle.luck_token.specs.Whitespace.{lineBreak, stripLineBreak}
 use Rattle.luck_token.specs.Literal.{
@@ -44,6 +43,7 @@ use Rattle.luck_token.specs.Decode.{DecodeOutcome, value, refused, withR
 use Rattle.luck_token.specs.declared.version.Rules.{Rules}
 use Rattle.luck_token.specs.declared.string.Escape.{Escape}
 use Rattle.luck_token.specs.declared.string.Escape.the-variants.{Simple, LineBreak, Hex, Whitespace, Decimal, Unicode, Itself, Undefined}
+use Rattle.luck_token.proofs.Literals.{exact, allowed-small, allowed-some, in-width}
 use Rattle.luck_token.proofs.Texts.{in-any-case}
 
 -- ---- Pieces
@@ -52,17 +52,6 @@ use Rattle.luck_token.proofs.Texts.{in-any-case}
 abbrev Small : List ℕ → ℕ → LiteralPiece → Type 0
 Small body p (piece bytes width) = (length bytes ≤ width) × (p + length bytes ≤ length body)
 Small body p malformed = Unit {0}
-
--- a code point has at most four bytes
-four-bytes : (c : ℕ) → length (utf8Bytes c) ≤ 4
-unfolding utf8Bytes
-four-bytes c =
-    by-test Four (ltb c 0x80) _ _ (λ _. omega arith)
-    (λ _. by-test Four (ltb c 0x800) _ _ (λ _. omega arith)
-    (λ _. by-test Four (ltb c 0x10000) _ _ (λ _. omega arith) (λ _. omega arith)))
-  where
-    Four : List ℕ → Type 0
-    Four bytes = length bytes ≤ 4
 
 module _ (body : List ℕ) (p : ℕ) (h : p < length body) where
   one-byte : (b width : ℕ) → 1 ≤ width → Small body p (piece (b ∷ []) width)
@@ -83,19 +72,21 @@ module _ (body : List ℕ) (p : ℕ) (h : p < length body) where
   unfolding decimalEscape
   decimal-small = by-test (Small body p) _ _ _ (λ _. (omega arith, omega arith)) (λ _. tt)
 
-  -- `\u{` and `}` are four bytes by themselves
   unicode-small : (rules : Rules) → Small body p (unicodeEscape rules body p)
-  unfolding unicodeEscape
+  unfolding unicodeEscape exact
   unicode-small rules =
       let count = run isXdigit (drop (p + 3) body) in
-      let exact = numeral 16 (part body (p + 3) (p + 3 + count)) in
+      let value = numeral 16 (part body (p + 3) (p + 3 + count)) in
       let opens = eqb (byteAt body (p + 2)) 123 in
       let closes = eqb (byteAt body (p + 3 + count)) 125 in
-      by-test (Small body p) (opens && closes && allowsCodePoint rules count exact) _ _
+      by-test (Small body p) (opens && closes && allowsCodePoint rules count value) _ _
       (λ e.
-      let brace = eqb-true (byteAt body (p + 3 + count)) 125 (and-right opens closes (and-left (opens && closes) (allowsCodePoint rules count exact) e)) in
+      let brace = eqb-true (byteAt body (p + 3 + count)) 125 (and-right opens closes (and-left (opens && closes) (allowsCodePoint rules count value) e)) in
       let there = present body (p + 3 + count) (omega arith) in
-      (omega (arith, four-bytes exact), omega (arith, four-bytes exact)))
+      let allowed = and-right (opens && closes) (allowsCodePoint rules count value) e in
+      let small = allowed-small rules value count allowed in
+      let few = in-width rules body p count refl value (omega arith) (allowed-some rules value count allowed) small in
+      (few, omega arith))
       (λ _. tt)
 
   escape-small : (rules : Rules) (escape : Escape) → Small body p (escapePiece rules escape body p)

@@ -3,15 +3,15 @@
 use Prim.Native.Nat.{ℕ, suc, _+_, _*_, _-_, _%_, _≤_, _<_, min}
 use native.Mathlib.Omega.{arith}
 use mathlib.Core.Path.{_≡_, refl, sym, ap, ap₂, _∙_}
-use mathlib.Core.Bool.{Bool, true, false, _&&_, _||_, true≢false}
+use mathlib.Core.Bool.{Bool, true, false, not, _&&_, _||_, true≢false}
 use mathlib.Core.List.{List, [], _∷_}
 use lib.ListN.{length, take, drop, length-drop, List·getD-eq-default}
 use lib.Seq.{take-all}
 use lib.Dec.{eqb, leb}
-use borrow.Author.Tests.{lt-ltb, le-ltb, le-leb, lt-leb, eq-eqb, ne-eqb, leb-true}
+use borrow.Author.Tests.{lt-ltb, le-ltb, le-leb, lt-leb, eq-eqb, ne-eqb, leb-true, eqb-false, not-true}
 use mathlib.Core.Logic.{inl, ⊎-elim}
 use Rattle.luck_text.specs.Bytes.{if_then_else_, byteAt, between, part, isDigit, isXdigit, run, digitValue, numeralFrom, numeral}
-use Rattle.luck_utf8.specs.Utf8.{isChar, utf8Bytes}
+use Rattle.luck_utf8.specs.Utf8.{lastCode, isChar, utf8Bytes}
 use Rattle.luck_token.specs.Whitespace.{lineBreak, stripLineBreak}
 use Rattle.luck_text.specs.Scan.{most}
 use Rattle.luck_token.specs.Literal.{
@@ -23,7 +23,7 @@ use Rattle.luck_token.specs.Literal.{
   hexEscape,
   decimalEscape,
   allowsDigits,
-  codePointLimit,
+  allowsValue,
   allowsCodePoint,
   unicodeEscape,
   escapePiece,
@@ -40,10 +40,10 @@ use Rattle.luck_token.specs.declared.version.Rules.{Rules}
 use Rattle.luck_token.specs.declared.string.Piece.{Piece as Found}
 use Rattle.luck_token.specs.declared.string.Escape.{Escape}
 use Rattle.luck_token.specs.declared.string.Escape.the-variants.{Decimal}
-use Rattle.luck_text.proofs.Cases.{by-test, if-true, if-false, and-left, and-right, both-true, first-false, second-false, order}
-use Rattle.luck_text.proofs.Bytes.{within, above, run-more, run-first, digit-more, digit-end, hex-value}
-use Rattle.luck_token.proofs.Breaks.{no-break}
-use Rattle.luck_text.proofs.Neither.{neither-first, neither-second}
+use Rattle.luck_text.proofs.Cases.{by-test, if-true, if-false, and-left, and-right, both-true, first-false, second-false, order, same}
+use Rattle.luck_text.proofs.Bytes.{within, above, run-first, digit-more, digit-end, hex-value}
+use Rattle.luck_utf8.proofs.CodePoints.{few-bytes, one-byte}
+use Rattle.luck_token.proofs.Breaks.{no-break, lone-lf}
 
 -- ---- The text
 
@@ -85,40 +85,42 @@ module _ (rules : Rules) (b : ℕ) where
 -- ---- A code point that a version allows
 
 module _ (rules : Rules) (value : ℕ) where
-  in-limit : value ≤ 0x10_FFFF → leb value (codePointLimit rules) ≡ true
-  unfolding codePointLimit
-  in-limit h =
-      by-test (λ l. leb value l ≡ true) (rules .«extended_unicode_escape») 0x7FFF_FFFF 0x10_FFFF
-      (λ _. le-leb value 0x7FFF_FFFF (omega arith)) (λ _. le-leb value 0x10_FFFF h)
+  pub extended : rules .«extended_unicode_escape» ≡ true → leb value lastCode ≡ allowsValue rules value
+  unfolding allowsValue
+  extended e = sym (if-true _ _ _ e)
 
-  char-small : isChar value ≡ true → value ≤ 0x10_FFFF
-  unfolding isChar
-  char-small e =
-      ⊎-elim (λ l. omega arith)
-      (λ g. leb-true value 0x10_FFFF (and-right (leb 0xE000 value) (leb value 0x10_FFFF) (sym (ap (λ t. t || between 0xE000 0x10_FFFF value) (le-ltb value 0xD800 g)) ∙ e)))
-      (order value 0xD800)
+  pub characters : rules .«extended_unicode_escape» ≡ false → isChar value ≡ allowsValue rules value
+  unfolding allowsValue
+  characters e = sym (if-false _ _ _ e)
 
-  pub allowed : (count : ℕ) → allowsDigits rules count ≡ true → (t : Bool) → isChar value ≡ t → t ≡ allowsCodePoint rules count value
+  -- a value above every limit
+  no-value : lastCode < value → allowsValue rules value ≡ false
+  unfolding allowsValue isChar
+  no-value h =
+      by-test (λ t. t ≡ false) (rules .«extended_unicode_escape») _ _ (λ _. lt-leb value lastCode h)
+      (λ _. rw (le-ltb value 0xD800 (omega arith), above 0xE000 0x10_FFFF value (omega arith)))
+
+  none-allowed : (count : ℕ) → lastCode < value → allowsCodePoint rules count value ≡ false
   unfolding allowsCodePoint
-  allowed count d true e = rw (d, in-limit (char-small e), e)
-  allowed count d false e = sym (second-false (allowsDigits rules count && leb value (codePointLimit rules)) (isChar value) e)
+  none-allowed count h = second-false (allowsDigits rules count) (allowsValue rules value) (no-value h)
 
-  pub not-allowed : (count : ℕ) → allowsDigits rules count ≡ false → false ≡ allowsCodePoint rules count value
-  unfolding allowsCodePoint
-  not-allowed count d = rw d
+  module _ (count : ℕ) where
+    pub by-value : allowsDigits rules count ≡ true → allowsValue rules value ≡ allowsCodePoint rules count value
+    unfolding allowsCodePoint
+    by-value d = rw d
 
-  -- a value that is larger than every limit
-  no-char : 0x10_FFFF < value → isChar value ≡ false
-  unfolding isChar
-  no-char h = rw (le-ltb value 0xD800 (omega arith), above 0xE000 0x10_FFFF value h)
+    pub by-digits : allowsDigits rules count ≡ false → false ≡ allowsCodePoint rules count value
+    unfolding allowsCodePoint
+    by-digits d = rw d
 
-  none-allowed : (count : ℕ) → 0x10_FFFF < value → allowsCodePoint rules count value ≡ false
-  unfolding allowsCodePoint
-  none-allowed count h = second-false (allowsDigits rules count && leb value (codePointLimit rules)) (isChar value) (no-char h)
+    module _ (e : allowsCodePoint rules count value ≡ true) where
+      pub allowed-small : value ≤ lastCode
+      allowed-small = ⊎-elim (λ l. absurd (true≢false (sym e ∙ none-allowed count l))) (λ g. g) (order lastCode value)
 
-  pub allowed-small : (count : ℕ) → allowsCodePoint rules count value ≡ true → value ≤ 0x10_FFFF
-  unfolding allowsCodePoint
-  allowed-small count e = char-small (and-right (allowsDigits rules count && leb value (codePointLimit rules)) (isChar value) e)
+      pub allowed-some : 1 ≤ count
+      unfolding allowsCodePoint allowsDigits
+      allowed-some =
+          leb-true 1 count (and-left (leb 1 count) (not (rules .«unicode_escape_digit_limit») || leb count 16) (and-left (allowsDigits rules count) (allowsValue rules value) e))
 
 -- a number that stays at the largest is allowed where the exact one is
 pub capped : (rules : Rules) (count value : ℕ) → allowsCodePoint rules count (min value most) ≡ allowsCodePoint rules count value
@@ -143,45 +145,10 @@ module _ (lfcr : Bool) (body : List ℕ) (p : ℕ) where
 
 -- `\x`
 module _ (body : List ℕ) (p : ℕ) where
-  digit : ℕ → Bool
-  digit q = isXdigit (byteAt body q)
-
-  -- a run that begins with a digit goes on behind it
-  one-more : p + 2 < length body → digit (p + 2) ≡ true → run isXdigit (drop (p + 2) body) ≡ suc (run isXdigit (drop (p + 3) body))
-  unfolding digit
-  one-more h e = let next : p + 2 + 1 ≡ p + 3 = omega arith in run-more isXdigit body (p + 2) h e ∙ ap (λ (q : ℕ). suc (run isXdigit (drop q body))) next
-
-  -- the two digits of an escape: both are there where their run has two, else one of them is none
-  two : 2 ≤ run isXdigit (drop (p + 2) body) → (p + 4 ≤ length body) × ((digit (p + 2) ≡ true) × (digit (p + 3) ≡ true))
-  unfolding digit
-  two h =
-      let first = run-first isXdigit body (p + 2) (omega arith) in
-      let more = one-more (first .0) (first .1) in
-      let second = run-first isXdigit body (p + 3) (omega arith) in
-      (omega (arith, second .0), (first .1, second .1))
-
-  not-two : run isXdigit (drop (p + 2) body) < 2 → (digit (p + 2) && digit (p + 3)) ≡ false
-  unfolding digit
-  not-two h = go (digit (p + 2) && digit (p + 3)) refl
-    where
-      there : (q : ℕ) → digit q ≡ true → q < length body
-      there q e = ⊎-elim (λ l. l) (λ g. absurd (true≢false (sym e ∙ ap isXdigit (List·getD-eq-default body 0 {n = q} g) ∙ zero-byte))) (order q (length body))
-        where
-          zero-byte : isXdigit 0 ≡ false
-          zero-byte = unfold isXdigit isDigit in refl
-
-      go : (t : Bool) → (digit (p + 2) && digit (p + 3)) ≡ t → (digit (p + 2) && digit (p + 3)) ≡ false
-      go false e = e
-      go true e =
-          let a = and-left (digit (p + 2)) (digit (p + 3)) e in
-          let b = and-right (digit (p + 2)) (digit (p + 3)) e in
-          let first = one-more (there (p + 2) a) a in
-          let second = run-more isXdigit body (p + 3) (there (p + 3) b) b in
-          absurd (omega arith)
-
-  pub hex-bad : run isXdigit (drop (p + 2) body) < 2 → malformed ≡ hexEscape body p
-  unfolding hexEscape digit
-  hex-bad h = sym (if-false _ _ _ (not-two h))
+  -- there is no digit behind the text
+  no-digit : (q : ℕ) → length body ≤ q → isXdigit (byteAt body q) ≡ false
+  unfolding isXdigit isDigit
+  no-digit q g = ap isXdigit (List·getD-eq-default body 0 {n = q} g)
 
   two-digits : p + 4 ≤ length body → numeral 16 (part body (p + 2) (p + 4)) ≡ digitValue (byteAt body (p + 2)) * 16 + digitValue (byteAt body (p + 3))
   unfolding numeral
@@ -194,18 +161,21 @@ module _ (body : List ℕ) (p : ℕ) where
       ∙ digit-more 16 body (p + 4) (digitValue (byteAt body (p + 2))) (p + 3) (omega arith) (omega arith)
       ∙ digit-end 16 body (p + 4) _ (p + 3 + 1) (inl (omega arith))
 
-  pub hex-inside : 2 ≤ run isXdigit (drop (p + 2) body) → p + 4 ≤ length body
-  hex-inside h = two h .0
+  pub hex-first : isXdigit (byteAt body (p + 2)) ≡ false → malformed ≡ hexEscape body p
+  unfolding hexEscape
+  hex-first e = sym (if-false _ _ _ (first-false _ _ e))
 
-  pub hex-byte : (value : ℕ) → 2 ≤ run isXdigit (drop (p + 2) body) → value ≡ min (numeral 16 (part body (p + 2) (p + 4))) most
-      → piece (value % 256 ∷ []) 4 ≡ hexEscape body p
-  unfolding hexEscape digit
-  hex-byte value h e =
-      let t = two h in
-      let a = t .1 .0 in
-      let b = t .1 .1 in
-      let small : value % 256 ≡ numeral 16 (part body (p + 2) (p + 4)) = omega (arith, two-digits (t .0), hex-value (byteAt body (p + 2)) a, hex-value (byteAt body (p + 3)) b) in
-      ap (λ (v : ℕ). piece (v ∷ []) 4) small ∙ sym (if-true _ _ _ (both-true _ _ a b))
+  pub hex-second : isXdigit (byteAt body (p + 3)) ≡ false → malformed ≡ hexEscape body p
+  unfolding hexEscape
+  hex-second e = sym (if-false _ _ _ (second-false (isXdigit (byteAt body (p + 2))) _ e))
+
+  pub hex-cut : length body < p + 4 → malformed ≡ hexEscape body p
+  hex-cut h = hex-second (no-digit (p + 3) (omega arith))
+
+  pub hex-byte : p + 4 ≤ length body → isXdigit (byteAt body (p + 2)) ≡ true → isXdigit (byteAt body (p + 3)) ≡ true
+      → piece ((digitValue (byteAt body (p + 2)) * 16 + digitValue (byteAt body (p + 3))) ∷ []) 4 ≡ hexEscape body p
+  unfolding hexEscape
+  hex-byte h a b = ap (λ (v : ℕ). piece (v ∷ []) 4) (sym (two-digits h)) ∙ sym (if-true _ _ _ (both-true _ _ a b))
 
 -- `\ddd`
 module _ (body : List ℕ) (p count value : ℕ) (n : count ≡ min 3 (run isDigit (drop (p + 1) body))) (v : value ≡ min (numeral 10 (part body (p + 1) (p + 1 + count))) most) where
@@ -246,6 +216,19 @@ module _ (rules : Rules) (body : List ℕ) (p : ℕ) where
       same-answer : allowsCodePoint rules count exact ≡ allowsCodePoint rules count value
       same-answer = sym (ap (allowsCodePoint rules count) v ∙ capped rules count exact)
 
+      -- it has no more bytes than the escape takes: one digit is a code point of one byte, and with two there are six bytes
+      pub in-width : 1 ≤ count → value ≤ lastCode → length (utf8Bytes value) ≤ count + 4
+      unfolding exact numeral
+      in-width some small =
+          ⊎-elim (λ one. omega (arith, ap length (one-byte value (omega (arith, one-digit one))))) (λ more. omega (arith, few-bytes value)) (order count 2)
+        where
+          one-digit : count < 2 → value < 16
+          one-digit h =
+              let first = run-first isXdigit body (p + 3) (omega arith) in
+              let d = digitValue (byteAt body (p + 3)) in
+              let spelled : exact ≡ 0 * 16 + d = digit-more 16 body (p + 3 + count) 0 (p + 3) (omega arith) (first .0) ∙ digit-end 16 body (p + 3 + count) (0 * 16 + d) (p + 3 + 1) (inl (omega arith)) in
+              omega (arith, hex-value (byteAt body (p + 3)) (first .1))
+
       pub no-code-point : allowsCodePoint rules count value ≡ false → malformed ≡ unicodeEscape rules body p
       no-code-point h = sym (by-count ∙ if-false _ _ _ (second-false braces (allowsCodePoint rules count exact) (same-answer ∙ h)))
 
@@ -285,13 +268,43 @@ module _ (rules : Rules) (body : List ℕ) (p : ℕ) where
   unfolding pieceAt
   piece-short long e = rw e
 
--- a plain byte is a piece by itself
-pub plain-is : (long : Bool) (rules : Rules) (body : List ℕ) (p : ℕ) → plain long (byteAt body p) ≡ true → piece (byteAt body p ∷ []) 1 ≡ pieceAt long rules body p
+-- ---- Plain bytes
+
+module _ (body : List ℕ) (p : ℕ) where
+  pub plain-lf : byteAt body p ≡ 10 → not (eqb (byteAt body (p + 1)) 13) ≡ plain true body p
+  plain-lf e = rw e
+
+  pub plain-other : (byteAt body p ≡ 10 → ⊥) → not (eqb (byteAt body p) 13) ≡ plain true body p
+  plain-other h = rw (ne-eqb (byteAt body p) 10 h) (alike (not (eqb (byteAt body p) 13)))
+    where
+      alike : (t : Bool) → t ≡ (t && true)
+      alike true = refl
+      alike false = refl
+
+  -- no CR here nor behind
+  pub plain-long : (byteAt body p ≡ 13 → ⊥) → (byteAt body p ≡ 10 → byteAt body (p + 1) ≡ 13 → ⊥) → plain true body p ≡ true
+  plain-long h g =
+      ⊎-elim (λ lf. sym (plain-lf lf) ∙ ap not (ne-eqb (byteAt body (p + 1)) 13 (g lf))) (λ no-lf. sym (plain-other no-lf) ∙ ap not (ne-eqb (byteAt body p) 13 h))
+      (same (byteAt body p) 10)
+
+  pub plain-short : (byteAt body p ≡ 92 → ⊥) → plain false body p ≡ true
+  plain-short h = ap not (ne-eqb (byteAt body p) 92 h)
+
+-- a plain byte is a piece by itself; in a long string it begins no break, or is a lone LF, which stands for a newline
+pub plain-is : (long : Bool) (rules : Rules) (body : List ℕ) (p : ℕ) → plain long body p ≡ true → piece (byteAt body p ∷ []) 1 ≡ pieceAt long rules body p
 plain-is true rules body p e =
     let lfcr = rules .«lfcr_line_break» in
-    long-byte lfcr body p (sym (no-break lfcr body p (neither-first 13 10 (byteAt body p) e) (neither-second 13 10 (byteAt body p) e)))
+    let cr = eqb (byteAt body p) 13 in
+    let pair = eqb (byteAt body p) 10 && eqb (byteAt body (p + 1)) 13 in
+    let no-cr = eqb-false (byteAt body p) 13 (not-true cr (and-left (not cr) (not pair) e)) in
+    let no-pair = not-true pair (and-right (not cr) (not pair) e) in
+    ⊎-elim (λ lf. ap (λ (b : ℕ). piece (b ∷ []) 1) lf ∙ long-break lfcr body p 1 (lone-lf lfcr body p lf (alone lf no-pair)) (λ z. absurd (omega arith)))
+    (λ no-lf. long-byte lfcr body p (sym (no-break lfcr body p no-cr no-lf))) (same (byteAt body p) 10)
     ∙ piece-long rules body p true refl
-plain-is false rules body p e = short-byte rules body p (neither-first 92 92 (byteAt body p) e) ∙ piece-short rules body p false refl
+  where
+    alone : byteAt body p ≡ 10 → (eqb (byteAt body p) 10 && eqb (byteAt body (p + 1)) 13) ≡ false → byteAt body (p + 1) ≡ 13 → ⊥
+    alone lf f e = true≢false (sym (both-true (eqb (byteAt body p) 10) (eqb (byteAt body (p + 1)) 13) (eq-eqb _ _ lf) (eq-eqb _ _ e)) ∙ f)
+plain-is false rules body p e = short-byte rules body p (eqb-false (byteAt body p) 92 (not-true _ e)) ∙ piece-short rules body p false refl
 
 -- a piece that was found is the one that is wanted
 pub as-piece : {body : List ℕ} {p : ℕ} {found : Found} (v w : LiteralPiece) → v ≡ w → IsPiece v body p found → IsPiece w body p found

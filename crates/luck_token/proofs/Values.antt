@@ -16,7 +16,7 @@ use Rattle.luck_text.specs.Bytes.{if_then_else_, byteAt, part}
 use Rattle.luck_text.specs.Walk.{Turn, walkFrom}
 use Rattle.luck_text.specs.Walk.Turn.{stop}
 use Rattle.luck_token.specs.Version.{isVersion, rulesOf}
-use Rattle.luck_utf8.specs.Utf8.{utf8Bytes, illFormed}
+use Rattle.luck_utf8.specs.Utf8.{illFormed}
 use Rattle.luck_token.specs.Whitespace.{lineBreak, stripLineBreak}
 use Rattle.luck_token.specs.Literal.{
   LiteralPiece,
@@ -50,16 +50,6 @@ use Rattle.luck_text.proofs.Walk.{walk-end, walk-stop, walk-goes, walk-related}
 
 -- ---- The walk over the pieces
 
--- a character has at most four bytes
-pub four-bytes : (c : ℕ) → length (utf8Bytes c) ≤ 4
-unfolding utf8Bytes
-four-bytes c =
-    by-test Few _ _ _ (λ _. omega arith)
-    (λ _. by-test Few _ _ _ (λ _. omega arith) (λ _. by-test Few _ _ _ (λ _. omega arith) (λ _. omega arith)))
-  where
-    Few : List ℕ → Type 0
-    Few l = length l ≤ 4
-
 module _ (long : Bool) (rules : Rules) (body : List ℕ) where
   abbrev pub item : ℕ → List ℕ → Turn (List ℕ) (Option (List ℕ))
   item p before = pieceTurn before (pieceAt long rules body p)
@@ -85,11 +75,11 @@ module _ (long : Bool) (rules : Rules) (body : List ℕ) where
     done l = sym (walk-end item wholeValue (length body) p before l) ∙ h
 
   -- a plain byte is a piece
-  pub plain-piece : (p : ℕ) → plain long (byteAt body p) ≡ true → piece (byteAt body p ∷ []) 1 ≡ pieceAt long rules body p
+  pub plain-piece : (p : ℕ) → plain long body p ≡ true → piece (byteAt body p ∷ []) 1 ≡ pieceAt long rules body p
   plain-piece p e = plain-is long rules body p e
 
   module _ (whole : Option (List ℕ)) where
-    passed : (k p : ℕ) (before : List ℕ) → on p before ≡ whole → p + k ≤ length body → ((j : ℕ) → p ≤ j → j < p + k → plain long (byteAt body j) ≡ true)
+    passed : (k p : ℕ) (before : List ℕ) → on p before ≡ whole → p + k ≤ length body → ((j : ℕ) → p ≤ j → j < p + k → plain long body j ≡ true)
         → on (p + k) (before ++ take k (drop p body)) ≡ whole
     passed zero p before h i f = rw (add-zero p, append-nil before) h
     passed (suc k) p before h i f =
@@ -101,7 +91,7 @@ module _ (long : Bool) (rules : Rules) (body : List ℕ) where
         ap₂ on (sym e) (sym split) ∙ more
 
     -- plain bytes stand for themselves
-    pub plain-part : (p end : ℕ) (before : List ℕ) → on p before ≡ whole → p ≤ end → end ≤ length body → ((j : ℕ) → p ≤ j → j < end → plain long (byteAt body j) ≡ true)
+    pub plain-part : (p end : ℕ) (before : List ℕ) → on p before ≡ whole → p ≤ end → end ≤ length body → ((j : ℕ) → p ≤ j → j < end → plain long body j ≡ true)
         → on end (before ++ part body p end) ≡ whole
     plain-part p end before h l i f =
         let e : p + (end - p) ≡ end = omega arith in
@@ -112,7 +102,7 @@ module _ (long : Bool) (rules : Rules) (body : List ℕ) where
   seen {p} shape e t = subst (λ (x : Found). IsPiece (pieceAt long rules body p) body p x) e t
 
   -- a body of plain bytes is its value
-  pub plain-value : ((k : ℕ) → k < length body → plain long (byteAt body k) ≡ true) → some body ≡ valueOf long rules body
+  pub plain-value : ((k : ℕ) → k < length body → plain long body k ≡ true) → some body ≡ valueOf long rules body
   plain-value f =
       let all = plain-part (valueOf long rules body) 0 (length body) [] start (omega arith) (le-refl (length body)) (λ j l m. f j m) in
       let e : part body 0 (length body) ≡ body = take-all (length body - 0) body (omega arith) in
@@ -173,48 +163,83 @@ module _ (output : List ℕ) (p : ℕ) (bytes : List ℕ) where
   unfolding stores
   stores-nothing e = rw e (by-test (λ (l : List ℕ). output ≡ l) (leb (p + 0) (length output)) output output (λ _. refl) (λ _. refl))
 
--- ---- The loop: the bytes so far, of which the output holds all if they fit, and from which the walk on gives the whole value
+-- ---- The loops: the bytes so far, from which the walk on gives the whole value. Measuring keeps their number, writing an output that holds all of
+-- them if they fit.
 
-abbrev pub Kept : Bool → Rules → List ℕ → List ℕ → List ℕ → ℕ → ℕ → Type 0
-Kept long rules body output₀ output at n =
-    (before : List ℕ) × (n ≡ length before) × (n ≤ at) × (at ≤ length body) × (on long rules body at before ≡ valueOf long rules body) × Holds before output₀ output
+pub record Read (long : Bool) (rules : Rules) (body : List ℕ) (at n : ℕ) (before : List ℕ) : Type 0 where
+  pub number : n ≡ length before
+  pub no-more : n ≤ at
+  pub inside : at ≤ length body
+  pub rest : on long rules body at before ≡ valueOf long rules body
 
-module _ (long : Bool) (rules : Rules) (body output₀ output : List ℕ) (at n : ℕ) (kept : Kept long rules body output₀ output at n) where
-  kept-bytes : (bytes new : List ℕ) (end : ℕ) → length bytes ≤ end - at → at ≤ end → end ≤ length body → on long rules body end (kept .0 ++ bytes) ≡ valueOf long rules body
-      → new ≡ stores output n bytes → Kept long rules body output₀ new end (n + length bytes)
-  kept-bytes bytes new end s l i o w = (
-    kept .0 ++ bytes,
-    omega (arith, length-append (kept .0) bytes),
-    omega arith,
-    i,
-    o,
-    holds-more output n bytes (kept .0) output₀ new (kept .1) w (kept .5),
-  )
+module _ (long : Bool) (rules : Rules) (body : List ℕ) where
+  pub read-none : Read long rules body 0 0 []
+  read-none = record { number = refl; no-more = omega arith; inside = omega arith; rest = start long rules body }
 
-  pub kept-piece : (bytes new : List ℕ) (width m : ℕ) → m ≡ length bytes → piece bytes width ≡ pieceAt long rules body at → LiesInText 1 width at (length body) → m ≤ width
-      → new ≡ stores output n bytes → Kept long rules body output₀ new (at + width) (n + m)
-  kept-piece bytes new width m q e l s w =
-      subst (λ (k : ℕ). Kept long rules body output₀ new (at + width) (n + k)) (sym q)
-      (kept-bytes bytes new (at + width) (omega arith) (omega arith) (l .1) (turn long rules body at (kept .0) (valueOf long rules body) (kept .4) bytes width e (l .0) (l .1)) w)
+  module _ (at n : ℕ) (before : List ℕ) (read : Read long rules body at n before) where
+    pub read-piece : (bytes : List ℕ) (width m : ℕ) → m ≡ length bytes → piece bytes width ≡ pieceAt long rules body at → LiesInText 1 width at (length body) → m ≤ width
+        → Read long rules body (at + width) (n + m) (before ++ bytes)
+    read-piece bytes width m q e l s =
+        record {
+          number = omega (arith, length-append before bytes, read .number);
+          no-more = omega (arith, read .no-more);
+          inside = l .1;
+          rest = turn long rules body at before (valueOf long rules body) (read .rest) bytes width e (l .0) (l .1);
+        }
 
-  pub kept-part : (new : List ℕ) (end : ℕ) → at ≤ end → end ≤ length body → ((j : ℕ) → at ≤ j → j < end → plain long (byteAt body j) ≡ true)
-      → new ≡ stores output n (part body at end) → Kept long rules body output₀ new end (n + (end - at))
-  kept-part new end l i f w =
-      let s = part-length body at end l i in
-      subst (λ (k : ℕ). Kept long rules body output₀ new end (n + k)) s
-      (kept-bytes (part body at end) new end (omega arith) l i (plain-part long rules body (valueOf long rules body) at end (kept .0) (kept .4) l i f) w)
+    pub read-part : (end : ℕ) → at ≤ end → end ≤ length body → ((j : ℕ) → at ≤ j → j < end → plain long body j ≡ true)
+        → Read long rules body end (n + (end - at)) (before ++ part body at end)
+    read-part end l i f =
+        record {
+          number = omega (arith, length-append before (part body at end), read .number, part-length body at end l i);
+          no-more = omega (arith, read .no-more);
+          inside = i;
+          rest = plain-part long rules body (valueOf long rules body) at end before (read .rest) l i f;
+        }
 
-  pub kept-end : length body ≤ at
-      → (size.Length n ≡ sizeOf (valueOf long rules body)) × (SizeWithin (size.Length n) (length body) × Written (valueOf long rules body) output₀ output)
-  kept-end l =
-      let e = done long rules body at (kept .0) (valueOf long rules body) (kept .4) l in
-      (ap size.Length (kept .1) ∙ ap sizeOf e, (omega (arith, kept .2, kept .3), subst (λ (o : Option (List ℕ)). Written o output₀ output) e (kept .5 .front)))
+    pub read-end : length body ≤ at → size.Length n ≡ sizeOf (valueOf long rules body)
+    read-end l = ap size.Length (read .number) ∙ ap sizeOf (done long rules body at before (valueOf long rules body) (read .rest) l)
 
-  pub kept-bad : malformed ≡ pieceAt long rules body at → at < length body
-      → (size.Malformed ≡ sizeOf (valueOf long rules body)) × (SizeWithin size.Malformed (length body) × Written (valueOf long rules body) output₀ output)
-  kept-bad q l =
-      let e = bad long rules body at (kept .0) (valueOf long rules body) (kept .4) q l in
-      (ap sizeOf e, (tt, subst (λ (o : Option (List ℕ)). Written o output₀ output) e tt))
+    pub read-bad : malformed ≡ pieceAt long rules body at → at < length body → none ≡ valueOf long rules body
+    read-bad q l = bad long rules body at before (valueOf long rules body) (read .rest) q l
+
+  -- of the bytes so far the loops know their number only
+  abbrev pub Measured : ℕ → ℕ → Type 0
+  Measured at n = (before : List ℕ) × Read long rules body at n before
+
+  module _ (at n : ℕ) (m : Measured at n) where
+    pub measured-piece : (bytes : List ℕ) (width k : ℕ) → k ≡ length bytes → piece bytes width ≡ pieceAt long rules body at → LiesInText 1 width at (length body) → k ≤ width
+        → Measured (at + width) (n + k)
+    measured-piece bytes width k q e l s = (m .0 ++ bytes, read-piece at n (m .0) (m .1) bytes width k q e l s)
+
+    pub measured-part : (end : ℕ) → at ≤ end → end ≤ length body → ((j : ℕ) → at ≤ j → j < end → plain long body j ≡ true) → Measured end (n + (end - at))
+    measured-part end l i f = (m .0 ++ part body at end, read-part at n (m .0) (m .1) end l i f)
+
+  abbrev pub Kept : List ℕ → List ℕ → ℕ → ℕ → Type 0
+  Kept output₀ output at n = (before : List ℕ) × Read long rules body at n before × Holds before output₀ output
+
+  module _ (output₀ output : List ℕ) (at n : ℕ) (kept : Kept output₀ output at n) where
+    pub kept-piece : (bytes new : List ℕ) (width m : ℕ) → m ≡ length bytes → piece bytes width ≡ pieceAt long rules body at → LiesInText 1 width at (length body) → m ≤ width
+        → new ≡ stores output n bytes → Kept output₀ new (at + width) (n + m)
+    kept-piece bytes new width m q e l s w =
+        (kept .0 ++ bytes, read-piece at n (kept .0) (kept .1) bytes width m q e l s, holds-more output n bytes (kept .0) output₀ new (kept .1 .number) w (kept .2))
+
+    pub kept-part : (new : List ℕ) (end : ℕ) → at ≤ end → end ≤ length body → ((j : ℕ) → at ≤ j → j < end → plain long body j ≡ true)
+        → new ≡ stores output n (part body at end) → Kept output₀ new end (n + (end - at))
+    kept-part new end l i f w =
+        (kept .0 ++ part body at end, read-part at n (kept .0) (kept .1) end l i f, holds-more output n (part body at end) (kept .0) output₀ new (kept .1 .number) w (kept .2))
+
+    pub kept-end : length body ≤ at
+        → (size.Length n ≡ sizeOf (valueOf long rules body)) × (SizeWithin (size.Length n) (length body) × Written (valueOf long rules body) output₀ output)
+    kept-end l =
+        let e = done long rules body at (kept .0) (valueOf long rules body) (kept .1 .rest) l in
+        (read-end at n (kept .0) (kept .1) l, (omega (arith, kept .1 .no-more, kept .1 .inside), subst (λ (o : Option (List ℕ)). Written o output₀ output) e (kept .2 .front)))
+
+    pub kept-bad : malformed ≡ pieceAt long rules body at → at < length body
+        → (size.Malformed ≡ sizeOf (valueOf long rules body)) × (SizeWithin size.Malformed (length body) × Written (valueOf long rules body) output₀ output)
+    kept-bad q l =
+        let e = read-bad at n (kept .0) (kept .1) q l in
+        (ap sizeOf e, (tt, subst (λ (o : Option (List ℕ)). Written o output₀ output) e tt))
 
 pub written : (o : Option (List ℕ)) (before output₀ : List ℕ) → some before ≡ o → length before ≤ length output₀
     → before ++ drop (length before) output₀ ≡ outputOf (withRoom (length output₀) o) output₀

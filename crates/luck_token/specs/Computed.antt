@@ -15,7 +15,7 @@ unfolding
     Whitespace.lineBreak Whitespace.stripLineBreak
     Literal.isShort Literal.shortStringBody Literal.equals Literal.bracketAt Literal.bracketWidth
     Literal.longStringBody Literal.longPiece Literal.otherEscape Literal.escapeKind Literal.lineBreakEscape
-    Literal.hexEscape Literal.whitespaceEscape Literal.decimalEscape Literal.allowsDigits Literal.codePointLimit
+    Literal.hexEscape Literal.whitespaceEscape Literal.decimalEscape Literal.allowsDigits Literal.allowsValue
     Literal.allowsCodePoint Literal.unicodeEscape Literal.escapePiece Literal.escapePieceAt Literal.shortPiece
     Literal.pieceAt Literal.pieceTurn Literal.wholeValue Literal.valueOf Literal.literalValue
     Decode.withRoom Decode.decodeString Decode.decodingOf Decode.numbered Decode.outputOf

@@ -1,15 +1,15 @@
 -- What the inner functions of the decoder promise each other. No public contract rests on these.
 -- Assumes nothing.
-use Prim.Native.Nat.{ℕ, _+_, _<_, _≤_}
+use Prim.Native.Nat.{ℕ, _+_, _≤_}
 use mathlib.Core.Path.{_≡_}
-use mathlib.Core.Bool.{Bool, true, false}
+use mathlib.Core.Bool.{Bool, true, false, not, _&&_}
 use mathlib.Core.List.{List, [], _∷_}
 use mathlib.Core.Option.{Option, none, some}
 use Prim.Native.Char.{code}
 use lib.ListN.{length}
-use Rattle.luck_text.specs.Bytes.{inFront}
-use Rattle.luck_text.specs.Scan.{neither}
-use Rattle.luck_utf8.specs.Utf8.{utf8Bytes}
+use lib.Dec.{eqb}
+use Rattle.luck_text.specs.Bytes.{byteAt, inFront}
+use Rattle.luck_utf8.specs.Utf8.{lastCode, utf8Bytes}
 use Rattle.luck_token.specs.Literal.{LiteralPiece, piece, malformed}
 use Rattle.luck_token.specs.declared.string.Piece.{Piece as Found}
 use Rattle.luck_token.specs.declared.string.Piece.the-variants.{Byte, Character, Nothing, Malformed}
@@ -29,7 +29,7 @@ LiesInText least width p len = (least ≤ width) × (p + width ≤ len)
 
 abbrev pub Inside : Found → ℕ → ℕ → Type 0
 Inside (Byte b width) p len = LiesInText 1 width p len
-Inside (Character c width) p len = (c < 0x110000) × LiesInText 4 width p len
+Inside (Character c width) p len = (c ≤ lastCode) × (length (utf8Bytes c) ≤ width) × LiesInText 1 width p len
 Inside (Nothing width) p len = LiesInText 1 width p len
 Inside Malformed p len = Unit {0}
 
@@ -42,11 +42,12 @@ abbrev pub sizeOf : Option (List ℕ) → Size
 sizeOf none = size.Malformed
 sizeOf (some bytes) = size.Length (length bytes)
 
--- a byte that is a piece by itself: in a long string one that begins no line break, in a short one no backslash, which
--- `neither` is given twice
-abbrev pub plain : Bool → ℕ → Bool
-plain true b = neither (code "\r") (code "\n") b
-plain false b = neither (code "\\") (code "\\") b
+-- the byte at place p is a piece by itself: in a long string it begins no line break but a lone LF, which stands for
+-- itself; in a short one it is no backslash
+abbrev pub plain : Bool → List ℕ → ℕ → Bool
+plain true body p =
+    not (eqb (byteAt body p) (code "\r")) && not (eqb (byteAt body p) (code "\n") && eqb (byteAt body (p + 1)) (code "\r"))
+plain false body p = not (eqb (byteAt body p) (code "\\"))
 
 -- a value has no more bytes than its body
 abbrev pub SizeWithin : Size → ℕ → Type 0

@@ -1,5 +1,5 @@
 -- String literals: section 3.1 of the manuals of 5.2 to 5.5 (2.1 of 5.1), Luau's grammar, and string.rs of luck where
--- it differs (points 4, 5 and 12 of document 03).
+-- it differs (points 4, 5 and 12 of document 03); `\u{}` of 5.4 and 5.5 as F-4 of document 02 has it.
 -- A literal's text is taken apart into what stands between its quotes or brackets, and that into pieces; its value is
 -- the pieces' bytes.
 -- Assumes nothing.
@@ -12,7 +12,7 @@ use lib.ListN.{length, drop}
 use lib.Dec.{eqb, leb, ltb}
 use Rattle.luck_text.specs.Bytes.{if_then_else_, byteAt, part, isDigit, isXdigit, isLuaWhitespace, run, numeral}
 use Rattle.luck_text.specs.Walk.{Turn, stop, goes, walkFrom}
-use Rattle.luck_utf8.specs.Utf8.{isChar, utf8Bytes}
+use Rattle.luck_utf8.specs.Utf8.{lastCode, isChar, utf8Bytes}
 use Rattle.luck_token.specs.Whitespace.{lineBreak, stripLineBreak}
 use Rattle.luck_token.specs.declared.version.Rules.{Rules}
 use Rattle.luck_token.specs.declared.string.ShortString.{ShortString}
@@ -125,17 +125,17 @@ decimalEscape body p =
     let value = numeral 10 (part body (p + 1) (p + 1 + count)) in
     if leb value 255 then piece (value ∷ []) (1 + count) else malformed
 
--- unicode_escape_codepoint of luck: how many digits the version allows, and its largest value
+-- unicode_escape_codepoint of luck: how many digits the version allows
 unfoldable pub allowsDigits : Rules → ℕ → Bool
 allowsDigits rules count = leb 1 count && (not (rules .«unicode_escape_digit_limit») || leb count 16)
 
-unfoldable pub codePointLimit : Rules → ℕ
-codePointLimit rules = if rules .«extended_unicode_escape» then 0x7FFF_FFFF else 0x10_FFFF
+-- and of which value: 5.4 and 5.5 take each one up to 7FFFFFFF (F-4 of document 02), the others a character only
+-- (char::from_u32 of luck)
+unfoldable pub allowsValue : Rules → ℕ → Bool
+allowsValue rules value = if rules .«extended_unicode_escape» then leb value lastCode else isChar value
 
--- and char::from_u32: a character has the value. There is none above 10FFFF, so the limit 7FFFFFFF of 5.4 and 5.5 has
--- no effect.
 unfoldable pub allowsCodePoint : Rules → ℕ → ℕ → Bool
-allowsCodePoint rules count value = allowsDigits rules count && leb value (codePointLimit rules) && isChar value
+allowsCodePoint rules count value = allowsDigits rules count && allowsValue rules value
 
 -- hexadecimal digits in braces, as many and of such a value as the version allows
 unfoldable pub unicodeEscape : Rules → List ℕ → ℕ → LiteralPiece

@@ -4,9 +4,9 @@ ghost use mathlib.Core.Bool.{true, false};
 ghost use mathlib.Core.Option.{some};
 ghost use Prim.Native.Nat.{ℕ, _+_, _-_, _<_, _≤_};
 ghost use lib.ListN.{length};
-ghost use Rattle.luck_text.specs.Bytes.{byteAt, part};
+ghost use Rattle.luck_text.specs.Bytes.{part};
 ghost use Rattle.luck_token.specs.Whitespace.{stripLineBreak};
-ghost use Rattle.luck_token.specs.Literal.{isShort, shortStringBody, placesOf, bracketAt, bracketWidth, otherEscape, escapeKind, lineBreakEscape, hexEscape, decimalEscape, allowsDigits, allowsCodePoint, unicodeEscape, escapePieceAt, longPiece, pieceAt, valueOf, literalValue};
+ghost use Rattle.luck_token.specs.Literal.{isShort, shortStringBody, placesOf, bracketAt, bracketWidth, otherEscape, escapeKind, lineBreakEscape, hexEscape, decimalEscape, allowsDigits, allowsValue, allowsCodePoint, unicodeEscape, escapePieceAt, longPiece, pieceAt, valueOf, literalValue};
 ghost use Rattle.luck_token.specs.Decode.{withRoom, decodeString, decodingOf, numbered, outputOf};
 ghost use Rattle.luck_token.specs.Inner.{IsPiece, sizeOf, plain, SizeWithin, Written};
 use crate::version;
@@ -153,13 +153,19 @@ fn hex_escape(body: &[u8], at: usize) -> Piece
     requires { ⌜ at + 1 < length (now body) ⌝ }
     ensures { λ r. ⌜ IsPiece (hexEscape (now (body .entry)) at) (now (body .entry)) at r ⌝ }
 {
-    if scan::run(body, at + 2, Class::HexDigit) < 2 {
+    if body.len() - at < 4 {
         return Piece::Malformed;
     }
-    // below 256, which the contract of `numeral` does not say
-    let value = scan::numeral(body, at + 2, at + 4, 16);
+    let high = body[at + 2];
+    let low = body[at + 3];
+    if !scan::is_in(Class::HexDigit, high) {
+        return Piece::Malformed;
+    }
+    if !scan::is_in(Class::HexDigit, low) {
+        return Piece::Malformed;
+    }
     Piece::Byte {
-        value: (value % 256) as u8,
+        value: scan::hex_value(high) * 16 + scan::hex_value(low),
         width: 4,
     }
 }
@@ -169,19 +175,13 @@ fn decimal_escape(body: &[u8], at: usize) -> Piece
     requires { ⌜ at + 1 < length (now body) ⌝ }
     ensures { λ r. ⌜ IsPiece (decimalEscape (now (body .entry)) at) (now (body .entry)) at r ⌝ }
 {
-    let from = at + 1;
-    let digits = scan::run(body, from, Class::Digit);
-    let mut count = digits;
-    if 3 < digits {
-        count = 3;
-    }
-    let value = scan::numeral(body, from, from + count, 10);
-    if 255 < value {
+    let digits = scan::digits(body, at + 1, 3);
+    if 255 < digits.value {
         return Piece::Malformed;
     }
     Piece::Byte {
-        value: value as u8,
-        width: 1 + count,
+        value: digits.value as u8,
+        width: 1 + digits.count,
     }
 }
 
@@ -198,13 +198,22 @@ fn allows_digits(rules: Rules, count: usize) -> bool
     true
 }
 
-// Whether the version allows that many digits and a character has this value. Each version's limit is no smaller than the
-// largest character.
+// Whether `\u{}` has this value in the version: 5.4 and 5.5 know the code points of the original UTF-8, the others
+// characters only.
+fn allows_value(rules: Rules, value: u32) -> bool
+    ensures { λ r. ⌜ r ≡ allowsValue rules value ⌝ }
+{
+    if rules.extended_unicode_escape {
+        return value <= 0x7FFF_FFFF;
+    }
+    character::is_char(value)
+}
+
 fn allows_code_point(rules: Rules, count: usize, value: u32) -> bool
     ensures { λ r. ⌜ r ≡ allowsCodePoint rules count value ⌝ }
 {
     if allows_digits(rules, count) {
-        return character::is_char(value);
+        return allows_value(rules, value);
     }
     false
 }
@@ -217,17 +226,14 @@ fn unicode_escape(body: &[u8], at: usize, rules: Rules) -> Piece
     if scan::byte_at(body, at + 2) != b'{' {
         return Piece::Malformed;
     }
-    let from = at + 3;
-    let count = scan::run(body, from, Class::HexDigit);
-    let close = from + count;
-    if scan::byte_at(body, close) != b'}' {
+    let digits = scan::hex_digits(body, at + 3);
+    if scan::byte_at(body, at + 3 + digits.count) != b'}' {
         return Piece::Malformed;
     }
-    let value = scan::numeral(body, from, close, 16);
-    if allows_code_point(rules, count, value) {
+    if allows_code_point(rules, digits.count, digits.value) {
         return Piece::Character {
-            code: value,
-            width: count + 4,
+            code: digits.value,
+            width: digits.count + 4,
         };
     }
     Piece::Malformed
@@ -294,33 +300,45 @@ fn piece_at(body: &[u8], at: usize, long: bool, rules: Rules) -> Piece
     Piece::Byte { value, width: 1 }
 }
 
-// Whether the byte is a piece by itself.
-fn is_plain(byte: u8, long: bool) -> bool
-    ensures { λ r. ⌜ r ≡ plain long byte ⌝ }
+// Whether the byte at `at` is a piece by itself.
+fn is_plain(body: &[u8], at: usize, long: bool) -> bool
+    requires { ⌜ at < length (now body) ⌝ }
+    ensures { λ r. ⌜ r ≡ plain long (now (body .entry)) at ⌝ }
 {
-    if long {
-        return blocks::neither(b'\r', b'\n', byte);
+    let byte = body[at];
+    if !long {
+        return byte != b'\\';
     }
-    blocks::neither(b'\\', b'\\', byte)
+    if byte == b'\n' {
+        return scan::byte_at(body, at + 1) != b'\r';
+    }
+    byte != b'\r'
 }
 
-// The place behind the blocks that follow `at` and have no other byte than such.
+// The place behind the blocks that follow `at` and have no other byte than such. An LF at the end of the last is left out,
+// since it may be a break with a CR behind it.
 fn plain_blocks(body: &[u8], at: usize, long: bool) -> usize
     requires { ⌜ at ≤ length (now body) ⌝ }
-    ensures { λ r. ⌜ (at ≤ r) × (r ≤ length (now (body .entry))) × ((k : ℕ) → at ≤ k → k < r → plain long (byteAt (now (body .entry)) k) ≡ true) ⌝ }
+    ensures { λ r. ⌜ (at ≤ r) × (r ≤ length (now (body .entry))) × ((k : ℕ) → at ≤ k → k < r → plain long (now (body .entry)) k ≡ true) ⌝ }
 {
-    if long {
-        return blocks::blocks_end(body, at, b'\r', b'\n');
+    if !long {
+        return blocks::blocks_end(body, at, b'\\', b'\\');
     }
-    blocks::blocks_end(body, at, b'\\', b'\\')
+    let end = blocks::blocks_end(body, at, b'\r', b'\r');
+    if at < end {
+        if body[end - 1] == b'\n' {
+            return end - 1;
+        }
+    }
+    end
 }
 
-// Whether a body has a byte that is no piece by itself.
+// Whether a body has a byte that is no piece by itself. Each line break but a lone LF has a CR.
 fn has_special(body: &[u8], long: bool) -> bool
-    ensures { λ r. ⌜ (r ≡ false → (k : ℕ) → k < length (now (body .entry)) → plain long (byteAt (now (body .entry)) k) ≡ true) ⌝ }
+    ensures { λ r. ⌜ (r ≡ false → (k : ℕ) → k < length (now (body .entry)) → plain long (now (body .entry)) k ≡ true) ⌝ }
 {
     if long {
-        return blocks::has_either(body, b'\r', b'\n');
+        return blocks::has_either(body, b'\r', b'\r');
     }
     blocks::has_either(body, b'\\', b'\\')
 }
@@ -330,8 +348,47 @@ pub enum Size {
     Malformed,
 }
 
-// Answers how many bytes the value has, and writes it to the front of an output that has room for it. Blocks of plain bytes are tried for behind every
-// 16 pieces.
+// How many bytes the value has. Blocks of plain bytes are tried for behind every 16 pieces.
+fn measure(body: &[u8], long: bool, rules: Rules) -> Size
+    ensures size { λ r. ⌜ r ≡ sizeOf (valueOf long rules (now (body .entry))) ⌝ }
+{
+    let mut at = 0;
+    let mut size = 0;
+    let mut singles: u32 = 0;
+    while at < body.len() {
+        if singles == 0 {
+            singles = 16;
+            let end = plain_blocks(body, at, long);
+            size += end - at;
+            at = end;
+            continue;
+        }
+        singles -= 1;
+        if is_plain(body, at, long) {
+            size += 1;
+            at += 1;
+            continue;
+        }
+        let piece = piece_at(body, at, long, rules);
+        match piece {
+            Piece::Byte { value: _, width } => {
+                size += 1;
+                at += width;
+            }
+            Piece::Character { code, width } => {
+                size += character::char_width(code);
+                at += width;
+            }
+            Piece::Nothing { width } => {
+                at += width;
+            }
+            Piece::Malformed => return Size::Malformed,
+        }
+    }
+    Size::Length(size)
+}
+
+// The same, and the value is written to the front of an output that has room for it.
 fn write(body: &[u8], long: bool, rules: Rules, output: &mut [u8]) -> Size
     ensures size { λ r. ⌜ r ≡ sizeOf (valueOf long rules (now (body .entry))) ⌝ }
     ensures within { λ r. ⌜ SizeWithin r (length (now (body .entry))) ⌝ }
@@ -350,9 +407,8 @@ fn write(body: &[u8], long: bool, rules: Rules, output: &mut [u8]) -> Size
             continue;
         }
         singles -= 1;
-        let byte = body[at];
-        if is_plain(byte, long) {
-            output::put_byte(output, size, byte);
+        if is_plain(body, at, long) {
+            output::put_byte(output, size, body[at]);
             size += 1;
             at += 1;
             continue;
@@ -412,8 +468,9 @@ fn decode_long(body: &[u8], long: bool, rules: Rules, output: &mut [u8]) -> Deco
     }
 }
 
-// A value of up to 64 bytes is read once, into a buffer. Any other is measured first: a refusal leaves the output untouched.
-fn decode_pieces(body: &[u8], long: bool, rules: Rules, output: &mut [u8]) -> Decoded
+// A body of up to 64 bytes is read once, into a buffer: a refusal leaves the output untouched.
+fn decode_buffered(body: &[u8], long: bool, rules: Rules, output: &mut [u8]) -> Decoded
+    requires { ⌜ length (now body) ≤ 64 ⌝ }
     ensures answer { λ r. ⌜ numbered r ≡ decodingOf (withRoom (length (now (output .entry))) (valueOf long rules (now (body .entry)))) ⌝ }
     ensures output { λ r. ⌜ now (output .exit) ≡ outputOf (withRoom (length (now (output .entry))) (valueOf long rules (now (body .entry)))) (now (output .entry)) ⌝ }
 {
@@ -425,9 +482,26 @@ fn decode_pieces(body: &[u8], long: bool, rules: Rules, output: &mut [u8]) -> De
             if output.len() < n {
                 return Decoded::OutputTooShort;
             }
-            if n <= 64 {
-                output::copy(&buffer, 0, n, output, 0);
-                return Decoded::Value(n);
+            output::copy(&buffer, 0, n, output, 0);
+            Decoded::Value(n)
+        }
+    }
+}
+
+// A longer one is measured first, and then written.
+fn decode_pieces(body: &[u8], long: bool, rules: Rules, output: &mut [u8]) -> Decoded
+    ensures answer { λ r. ⌜ numbered r ≡ decodingOf (withRoom (length (now (output .entry))) (valueOf long rules (now (body .entry)))) ⌝ }
+    ensures output { λ r. ⌜ now (output .exit) ≡ outputOf (withRoom (length (now (output .entry))) (valueOf long rules (now (body .entry)))) (now (output .entry)) ⌝ }
+{
+    if body.len() <= 64 {
+        return decode_buffered(body, long, rules, output);
+    }
+    let size = measure(body, long, rules);
+    match size {
+        Size::Malformed => Decoded::Undecodable,
+        Size::Length(n) => {
+            if output.len() < n {
+                return Decoded::OutputTooShort;
             }
             write(body, long, rules, output);
             Decoded::Value(n)
@@ -435,15 +509,12 @@ fn decode_pieces(body: &[u8], long: bool, rules: Rules, output: &mut [u8]) -> De
     }
 }
 
-// A short body is read at once: looking for a special byte first would cost more than it saves.
 fn decode_body(body: &[u8], long: bool, rules: Rules, output: &mut [u8]) -> Decoded
     ensures answer { λ r. ⌜ numbered r ≡ decodingOf (withRoom (length (now (output .entry))) (valueOf long rules (now (body .entry)))) ⌝ }
     ensures output { λ r. ⌜ now (output .exit) ≡ outputOf (withRoom (length (now (output .entry))) (valueOf long rules (now (body .entry)))) (now (output .entry)) ⌝ }
 {
-    if 64 <= body.len() {
-        if !has_special(body, long) {
-            return decode_plain(body, output);
-        }
+    if !has_special(body, long) {
+        return decode_plain(body, output);
     }
     if long {
         if body.len() <= output.len() {

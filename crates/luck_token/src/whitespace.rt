@@ -13,29 +13,23 @@ pub fn is_lua_whitespace(byte: u8) -> bool
     scan::is_in(Class::Whitespace, byte)
 }
 
-// How many bytes the line break at `at` has, 0 where there is none.
+// How many bytes the line break at `at` has, 0 where there is none. Sums instead of branches: which of the breaks a text
+// has next can't be foreseen.
 pub fn line_break(text: &[u8], at: usize, lfcr: bool) -> usize
     ensures { λ r. ⌜ r ≡ lineBreak lfcr (now (text .entry)) at ⌝ }
 {
-    let here = scan::byte_at(text, at);
-    if here == b'\r' {
-        if scan::byte_at(text, at + 1) == b'\n' {
-            return 2;
-        }
-        if lfcr {
-            return 1;
-        }
+    if text.len() <= at {
         return 0;
     }
-    if here == b'\n' {
-        if lfcr {
-            if scan::byte_at(text, at + 1) == b'\r' {
-                return 2;
-            }
-        }
-        return 1;
+    let here = text[at];
+    let next = scan::byte_at(text, at + 1);
+    let cr = (here == b'\r') as usize;
+    let lf = (here == b'\n') as usize;
+    let cr_lf = cr * (next == b'\n') as usize;
+    if lfcr {
+        return cr + lf + cr_lf + lf * (next == b'\r') as usize;
     }
-    0
+    lf + cr_lf + cr_lf
 }
 
 // The text without the line break that it starts with, and the whole text where it starts with none.

@@ -1,11 +1,12 @@
--- UTF-8 as RFC 3629 has it: well-formed sequences, the character at a place, and the bytes of a character.
+-- UTF-8 as RFC 3629 has it: well-formed sequences, and the character at a place. The bytes of a code point, as RFC 2279
+-- has them: those of a character are the same in both.
 -- Assumes nothing.
-use Prim.Native.Nat.{ℕ, suc, _+_, _*_, _-_, _/_, _%_}
+use Prim.Native.Nat.{ℕ, zero, suc, _+_, _*_, _-_, _/_, _%_}
 use mathlib.Core.Bool.{Bool, true, _&&_, _||_}
 use mathlib.Core.List.{List, [], _∷_}
 use mathlib.Core.Option.{Option, none, some}
 use lib.ListN.{length}
-use lib.Dec.{eqb, ltb}
+use lib.Dec.{eqb, leb, ltb}
 use Rattle.luck_text.specs.Bytes.{if_then_else_, byteAt, between}
 use Rattle.luck_text.specs.Walk.{Turn, stop, goes, walkFrom}
 use Rattle.luck_utf8.specs.declared.utf8.Char.{Char}
@@ -100,10 +101,40 @@ charAt text p =
 unfoldable pub isChar : ℕ → Bool
 isChar c = ltb c 0xD800 || between 0xE000 0x10FFFF c
 
--- the bytes of a code point of at most 10FFFF
+-- A row of the table in section 2 of RFC 2279, the original scheme, which RFC 3629 cut off at 10FFFF: the largest code
+-- point that is written so, the bits that mark its first byte, and how many bytes of six bits follow.
+pub record Length : Type 0 where
+  pub last : ℕ
+  pub mark : ℕ
+  pub tails : ℕ
+
+abbrev pub upTo : ℕ → ℕ → ℕ → Length
+upTo last mark tails = record { last = last; mark = mark; tails = tails }
+
+unfoldable pub rfc2279 : List Length
+rfc2279 =
+    upTo 0x7F 0x00 0 ∷
+    upTo 0x7FF 0xC0 1 ∷
+    upTo 0xFFFF 0xE0 2 ∷
+    upTo 0x1F_FFFF 0xF0 3 ∷
+    upTo 0x3FF_FFFF 0xF8 4 ∷
+    upTo 0x7FFF_FFFF 0xFC 5 ∷ []
+
+-- the largest code point that the scheme writes
+abbrev pub lastCode : ℕ
+lastCode = 0x7FFF_FFFF
+
+-- so many bytes of six bits, the last of them the lowest, before the bytes that are already there; and in front of them
+-- the marked byte with the bits that are left
+unfoldable pub sixBits : ℕ → ℕ → ℕ → List ℕ → List ℕ
+sixBits mark zero c after = (mark + c) ∷ after
+sixBits mark (suc n) c after = sixBits mark n (c / 0x40) ((0x80 + c % 0x40) ∷ after)
+
+-- by the first row that has the code point
+unfoldable pub bytesBy : List Length → ℕ → List ℕ
+bytesBy [] c = []
+bytesBy (r ∷ rows) c = let more = bytesBy rows c in if leb c (r .last) then sixBits (r .mark) (r .tails) c [] else more
+
+-- the bytes of a code point of at most 7FFFFFFF; a larger number has none
 unfoldable pub utf8Bytes : ℕ → List ℕ
-utf8Bytes c =
-    if ltb c 0x80 then c ∷ []
-    else if ltb c 0x800 then (0xC0 + c / 0x40) ∷ (0x80 + c % 0x40) ∷ []
-    else if ltb c 0x10000 then (0xE0 + c / 0x1000) ∷ (0x80 + c / 0x40 % 0x40) ∷ (0x80 + c % 0x40) ∷ []
-    else (0xF0 + c / 0x40000) ∷ (0x80 + c / 0x1000 % 0x40) ∷ (0x80 + c / 0x40 % 0x40) ∷ (0x80 + c % 0x40) ∷ []
+utf8Bytes c = bytesBy rfc2279 c

@@ -6,22 +6,22 @@ use Rattle.luck_text.proofs.scan.digit_value.Statement.{statement}
 use Rattle.luck_text.proofs.scan.digit_value.Tie as tie
 
 returns : tie.Need-returns
-returns c = digit-none (c .before .args .byte) (omega arith)
+returns c = (digit-none (c .before .args .byte) (omega arith), omega arith)
 
 returns-2 : tie.Need-returns-2
-returns-2 c = digit-decimal (c .before .before .args .byte) (omega arith) (omega arith)
+returns-2 c = (digit-decimal (c .before .before .args .byte) (omega arith) (omega arith), omega arith)
 
 returns-3 : tie.Need-returns-3
-returns-3 c = digit-between (c .before .before .before .args .byte) (omega arith) (omega arith)
+returns-3 c = (digit-between (c .before .before .before .args .byte) (omega arith) (omega arith), omega arith)
 
 returns-4 : tie.Need-returns-4
-returns-4 c = digit-capital (c .before .before .before .before .args .byte) (omega arith) (omega arith)
+returns-4 c = (digit-capital (c .before .before .before .before .args .byte) (omega arith) (omega arith), omega arith)
 
 returns-5 : tie.Need-returns-5
-returns-5 c = digit-above (c .before .before .before .before .before .args .byte) (omega arith) (omega arith)
+returns-5 c = (digit-above (c .before .before .before .before .before .args .byte) (omega arith) (omega arith), omega arith)
 
 returns-6 : tie.Need-returns-6
-returns-6 c = digit-small-letter (c .before .before .before .before .before .args .byte) (omega arith)
+returns-6 c = (digit-small-letter (c .before .before .before .before .before .args .byte) (omega arith), omega arith)
 
 pub digit-value-spec : {M : Type 1} → statement M
 digit-value-spec =

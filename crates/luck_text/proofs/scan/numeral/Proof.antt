@@ -1,5 +1,5 @@
 -- `luck_text::scan::numeral` meets its contract. The number so far stays at the largest; the invariant has the exact one beside it. Assumes nothing.
-use mathlib.Core.Path.{_≡_, refl, sym, ap, _∙_}
+use mathlib.Core.Path.{_≡_, refl, sym, ap, ap₂, _∙_}
 use Prim.Native.Nat.{ℕ, _+_, _-_, _*_, min}
 use native.Mathlib.Omega.{arith}
 use mathlib.Core.Logic.{inl, inr}
@@ -29,16 +29,16 @@ returns c =
     l .inv .1 ∙ ap (λ (n : ℕ). min n most) (sym (bytes.digit-end (c .before .before .before .before .args .base) (c .before .before .before .before .args .text .now) (c .before .before .before .before .args .to) (l .inv .0) (l .at) (inr (c .if1 .taken))) ∙ l .inv .2)
 
 with-digit-requires : tie.Need-with-digit-requires Inv-loop μ-loop
-with-digit-requires c κs = omega (arith, c .before .before .before .loop .inv .1)
+with-digit-requires c κs = (omega (arith, c .before .before .before .before .loop .inv .1), c .digit-value .ensures .1)
 
 loop-again : tie.Need-loop-again Inv-loop μ-loop
 loop-again c =
-    let l = c .before .before .before .before .loop in
-    let a = c .before .before .before .before .before .before .args in
-    let d = byteAt (a .text .now) (l .at) in (
-      l .inv .0 * a .base + digitValue d,
-      c .with-digit .ensures ∙ ap (λ (v : ℕ). grown v (a .base) d) (l .inv .1) ∙ bytes.grown-min (l .inv .0) d (a .base),
-      sym (bytes.digit-more (c .before .before .before .before .before .before .args .base) (c .before .before .before .before .before .before .args .text .now) (c .before .before .before .before .before .before .args .to) (l .inv .0) (l .at) (c .before .before .before .loop-test .taken) (c .before .before .if1 .left)) ∙ l .inv .2,
+    let l = c .before .before .before .before .before .loop in
+    let a = c .before .before .before .before .before .before .before .args in
+    let d = digitValue (byteAt (a .text .now) (l .at)) in (
+      l .inv .0 * a .base + d,
+      c .with-digit .ensures ∙ ap₂ (λ (v w : ℕ). grown v (a .base) w) (l .inv .1) (c .before .digit-value .ensures .0) ∙ bytes.grown-min (l .inv .0) d (a .base),
+      sym (bytes.digit-more (a .base) (a .text .now) (a .to) (l .inv .0) (l .at) (c .before .before .before .before .loop-test .taken) (c .before .before .before .if1 .left)) ∙ l .inv .2,
     )
 
 cast-result-2 : tie.Need-cast-result-2 Inv-loop μ-loop
@@ -58,7 +58,7 @@ numeral-spec =
     loop-holds
     cast-result
     returns
-    (λ c. search needs)
+    (λ c. search needs) (λ c κs. search needs)
     with-digit-requires
     (λ c. search needs) (λ c. search needs)
     loop-again

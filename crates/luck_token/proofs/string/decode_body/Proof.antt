@@ -13,8 +13,8 @@ use Rattle.luck_token.proofs.string.decode_body.Tie as tie
 
 returns : tie.Need-returns
 returns c =
-    let a = c .before .before .before .before .before .before .before .before .before .args in
-    let e = values.plain-value (a .long) (a .rules) (a .body .now) (c .before .before .before .before .before .has-special .ensures (not-true _ (c .before .before .before .before .if2 .taken))) in (
+    let a = c .before .before .before .before .before .before .before .before .args in
+    let e = values.plain-value (a .long) (a .rules) (a .body .now) (c .before .before .before .before .before .has-special .ensures (not-true _ (c .before .before .before .before .if1 .taken))) in (
       c .before .before .decode-plain .ensures .0 ∙ ap (λ (o : Option (List ℕ)). decodingOf (withRoom (length (a .output .now)) o)) e,
       c .before .before .decode-plain .ensures .1 ∙ ap (λ (o : Option (List ℕ)). outputOf (withRoom (length (a .output .now)) o) (a .output .now)) e,
     )

@@ -6,7 +6,7 @@ use lib.ListN.{length}
 use Rattle.luck_text.specs.Bytes.{byteAt, isXdigit}
 use Rattle.luck_text.proofs.Bytes.{run-inside}
 use Rattle.luck_text.proofs.Cases.{present}
-use Rattle.luck_token.proofs.Literals.{exact, allowed-small, no-open, no-close, no-code-point, code-point}
+use Rattle.luck_token.proofs.Literals.{exact, allowed-small, allowed-some, in-width, no-open, no-close, no-code-point, code-point}
 use borrow.Author.Needs.{needs}
 use Rattle.luck_token.proofs.string.unicode_escape.Statement.{statement}
 use Rattle.luck_token.proofs.string.unicode_escape.Tie as tie
@@ -18,55 +18,58 @@ opened c = sym (c .before .byte-at .ensures) ∙ c .if1 .left
 open-inside : (c : tie.Else1) → c .before .before .before .args .at + 2 < length (c .before .before .before .args .body .now)
 open-inside c = let a = c .before .before .before .args in present (a .body .now) (a .at + 2) (omega (arith, opened c))
 
--- the closing one
-closed : (c : tie.Else2) → byteAt (c .before .before .before .before .before .before .args .body .now) (c .before .before .before .before .before .before .args .at + 3 + c .before .before .run .result) ≡ 125
+-- the digits lie in it too
+digits-inside : (c : tie.After-hex-digits) → c .before .before .before .before .args .at + 3 + c .hex-digits .result .count < length (c .before .before .before .before .args .body .now) + 1
+digits-inside c =
+    let a = c .before .before .before .before .args in
+    omega (arith, c .hex-digits .ensures .0, run-inside isXdigit (a .body .now) (a .at + 3) (omega (arith, open-inside (c .before))))
+
+-- and the closing brace
+closed : (c : tie.Else2) → byteAt (c .before .before .before .before .before .before .before .args .body .now) (c .before .before .before .before .before .before .before .args .at + 3 + c .before .before .before .hex-digits .result .count) ≡ 125
 closed c = sym (c .before .byte-at2 .ensures) ∙ c .if2 .left
 
-close-inside : (c : tie.Else2) → c .before .before .before .before .before .before .args .at + 3 + c .before .before .run .result < length (c .before .before .before .before .before .before .args .body .now)
-close-inside c = let a = c .before .before .before .before .before .before .args in present (a .body .now) (a .at + 3 + c .before .before .run .result) (omega (arith, closed c))
+close-inside : (c : tie.Else2) → c .before .before .before .before .before .before .before .args .at + 3 + c .before .before .before .hex-digits .result .count < length (c .before .before .before .before .before .before .before .args .body .now)
+close-inside c =
+    let a = c .before .before .before .before .before .before .before .args in
+    present (a .body .now) (a .at + 3 + c .before .before .before .hex-digits .result .count) (omega (arith, closed c))
 
 returns : tie.Need-returns
 returns c =
     let a = c .before .before .before .args in
     record { is = no-open (a .rules) (a .body .now) (a .at) (λ e. c .if1 .taken (c .before .byte-at .ensures ∙ e)); inside = tt }
 
-add-from : tie.Need-add-from
-add-from c = omega (arith, open-inside c)
-
-add-close : tie.Need-add-close
-add-close c =
-    let a = c .before .before .before .before .args in
-    omega (arith, c .run .ensures, run-inside isXdigit (a .body .now) (a .at + 3) (omega (arith, open-inside (c .before))))
-
 returns-2 : tie.Need-returns-2
 returns-2 c =
-    let x = c .before .before in
-    let a = x .before .before .before .before .args in
-    record { is = no-close (a .rules) (a .body .now) (a .at) (x .run .result) (x .run .ensures) (λ e. c .if2 .taken (c .before .byte-at2 .ensures ∙ e)); inside = tt }
-
-add-t13 : tie.Need-add-t13
-add-t13 c = omega (arith, close-inside (c .before .before .before))
+    let a = c .before .before .before .before .before .before .before .args in
+    let d = c .before .before .before .hex-digits in
+    record { is = no-close (a .rules) (a .body .now) (a .at) (d .result .count) (d .ensures .0) (λ e. c .if2 .taken (c .before .byte-at2 .ensures ∙ e)); inside = tt }
 
 returns-3 : tie.Need-returns-3
 unfolding exact
 returns-3 c =
-    let n = c .before .before in
-    let x = n .before .before .before in
+    let e = c .before .before .before in
+    let x = e .before .before .before in
     let a = x .before .before .before .before .args in
-    let allowed = sym (c .before .allows-code-point .ensures) ∙ c .if3 .taken in
+    let d = x .hex-digits in
+    let allowed = sym (c .before .before .allows-code-point .ensures) ∙ c .before .if3 .taken in
+    let small = allowed-small (a .rules) (d .result .value) (d .result .count) allowed in
     record {
-      is = code-point (a .rules) (a .body .now) (a .at) (x .run .result) (x .run .ensures) (n .numeral .result) (n .numeral .ensures) (opened (x .before)) (closed (n .before)) allowed;
-      inside = (omega (arith, allowed-small (a .rules) (n .numeral .result) (x .run .result) allowed), (omega arith, omega (arith, close-inside (n .before))));
+      is = code-point (a .rules) (a .body .now) (a .at) (d .result .count) (d .ensures .0) (d .result .value) (d .ensures .1) (opened (x .before)) (closed e) allowed;
+      inside = (
+        small,
+        in-width (a .rules) (a .body .now) (a .at) (d .result .count) (d .ensures .0) (d .result .value) (d .ensures .1) (allowed-some (a .rules) (d .result .value) (d .result .count) allowed) small,
+        (omega arith, omega (arith, close-inside e)),
+      );
     }
 
 returns-4 : tie.Need-returns-4
 unfolding exact
 returns-4 c =
-    let n = c .before .before in
-    let x = n .before .before .before in
+    let x = c .before .before .before .before .before in
     let a = x .before .before .before .before .args in
+    let d = x .hex-digits in
     record {
-      is = no-code-point (a .rules) (a .body .now) (a .at) (x .run .result) (x .run .ensures) (n .numeral .result) (n .numeral .ensures) (sym (c .before .allows-code-point .ensures) ∙ c .if3 .left);
+      is = no-code-point (a .rules) (a .body .now) (a .at) (d .result .count) (d .ensures .0) (d .result .value) (d .ensures .1) (sym (c .before .allows-code-point .ensures) ∙ c .if3 .left);
       inside = tt;
     }
 
@@ -76,12 +79,9 @@ unicode-escape-spec =
     (tie.spec
     (λ c. search needs) (λ c κs. search needs)
     returns
-    add-from
-    (λ c κs. search needs)
-    add-close
-    (λ c κs. search needs)
+    (λ c. omega (arith, open-inside c)) (λ c κs. search needs)
+    (λ c. omega (arith, digits-inside c)) (λ c. omega (arith, digits-inside (c .before))) (λ c κs. search needs)
     returns-2
-    (λ c κs. search needs) (λ c κs. search needs)
-    add-t13
+    (λ c κs. search needs) (λ c. omega (arith, close-inside (c .before .before .before)))
     returns-3
     returns-4)

@@ -1,83 +1,69 @@
 -- `luck_token::whitespace::line_break` meets its contract. Assumes nothing.
-use mathlib.Core.Path.{sym, _∙_}
+use mathlib.Core.Path.{_≡_}
 use native.Mathlib.Omega.{arith}
-use Rattle.luck_text.proofs.Cases.{present}
+use Prim.Native.Nat.{ℕ}
+use lib.Dec.{eqb}
+use Rattle.luck_text.specs.Bytes.{byteAt}
+use Rattle.luck_text.proofs.Cases.{bit}
 use Rattle.luck_token.proofs.Breaks as breaks
 use borrow.Author.Needs.{needs}
 use Rattle.luck_token.proofs.whitespace.line_break.Statement.{statement}
 use Rattle.luck_token.proofs.whitespace.line_break.Tie as tie
 
-add-byte-at : tie.Need-add-byte-at
-add-byte-at c =
-    let x = c .before in
-    let a = x .before .before .args in
-    omega (arith, present (a .text .now) (a .at) (omega (arith, x .byte-at .ensures)))
-
 returns : tie.Need-returns
-returns c =
-    let x = c .before .before .before in
-    let a = x .before .before .args in
-    breaks.cr-lf (a .lfcr) (a .text .now) (a .at) (sym (x .byte-at .ensures) ∙ c .before .before .if1 .taken) (sym (c .before .byte-at2 .ensures) ∙ c .if2 .taken)
+returns c = let a = c .before .before .args in breaks.past-end (a .lfcr) (a .text .now) (a .at) (c .if1 .taken)
+
+-- each bit and each product of two is at most 1
+module _ (c : tie.After-byte-at) where
+  abbrev here : ℕ
+  here = byteAt (c .before .before .before .before .args .text .now) (c .before .before .before .before .args .at)
+
+mul-cr-lf : tie.Need-mul-cr-lf
+mul-cr-lf c = omega (arith, breaks.bit-of-both (eqb (here c) 13) (eqb (c .byte-at .result) 10))
+
+add-result : tie.Need-add-result
+add-result c = omega (arith, bit (eqb (here (c .before)) 13), bit (eqb (here (c .before)) 10))
+
+add-result-2 : tie.Need-add-result-2
+add-result-2 c = omega (arith, bit (eqb (here (c .before)) 13), bit (eqb (here (c .before)) 10), breaks.bit-of-both (eqb (here (c .before)) 13) (eqb (c .before .byte-at .result) 10))
+
+mul-result : tie.Need-mul-result
+mul-result c = omega (arith, breaks.bit-of-both (eqb (here (c .before)) 10) (eqb (c .before .byte-at .result) 13))
+
+add-result-3 : tie.Need-add-result-3
+add-result-3 c =
+    omega (arith, bit (eqb (here (c .before)) 13), bit (eqb (here (c .before)) 10), breaks.bit-of-both (eqb (here (c .before)) 13) (eqb (c .before .byte-at .result) 10),
+    breaks.bit-of-both (eqb (here (c .before)) 10) (eqb (c .before .byte-at .result) 13))
 
 returns-2 : tie.Need-returns-2
 returns-2 c =
-    let y = c .before .before in
-    let x = y .before .before in
-    let a = x .before .before .args in
-    breaks.lone-cr (a .lfcr) (a .text .now) (a .at) (sym (x .byte-at .ensures) ∙ y .before .if1 .taken) (λ e. c .before .if2 .left (y .byte-at2 .ensures ∙ e)) (c .if3 .taken)
+    let a = c .before .before .before .before .before .args in
+    rw (c .before .byte-at .ensures) (breaks.sum-with (a .lfcr) (a .text .now) (a .at) (c .if2 .taken))
+
+add-result-4 : tie.Need-add-result-4
+add-result-4 c = omega (arith, bit (eqb (here (c .before)) 10), breaks.bit-of-both (eqb (here (c .before)) 13) (eqb (c .before .byte-at .result) 10))
+
+add-result-5 : tie.Need-add-result-5
+add-result-5 c = omega (arith, bit (eqb (here (c .before)) 10), breaks.bit-of-both (eqb (here (c .before)) 13) (eqb (c .before .byte-at .result) 10))
 
 returns-3 : tie.Need-returns-3
 returns-3 c =
-    let y = c .before .before in
-    let x = y .before .before in
-    let a = x .before .before .args in
-    breaks.plain-cr (a .lfcr) (a .text .now) (a .at) (sym (x .byte-at .ensures) ∙ y .before .if1 .taken) (λ e. c .before .if2 .left (y .byte-at2 .ensures ∙ e)) (c .if3 .left)
-
-add-byte-at-2 : tie.Need-add-byte-at-2
-add-byte-at-2 c =
-    let x = c .before .before .before in
-    let a = x .before .before .args in
-    omega (arith, present (a .text .now) (a .at) (omega (arith, x .byte-at .ensures)))
-
-returns-4 : tie.Need-returns-4
-returns-4 c =
-    let y = c .before in
-    let x = y .before .before .before .before in
-    let a = x .before .before .args in
-    breaks.lf-cr (a .lfcr) (a .text .now) (a .at) (sym (x .byte-at .ensures) ∙ y .before .before .if4 .taken) (sym (y .byte-at3 .ensures) ∙ c .if6 .taken) (y .before .if5 .taken)
-
-returns-5 : tie.Need-returns-5
-returns-5 c =
-    let y = c .before in
-    let x = y .before .before .before .before in
-    let a = x .before .before .args in
-    breaks.lf-without-cr (a .lfcr) (a .text .now) (a .at) (sym (x .byte-at .ensures) ∙ y .before .before .if4 .taken) (λ e. c .if6 .left (y .byte-at3 .ensures ∙ e))
-
-returns-6 : tie.Need-returns-6
-returns-6 c =
-    let x = c .before .before .before in
-    let a = x .before .before .args in
-    breaks.lone-lf (a .lfcr) (a .text .now) (a .at) (sym (x .byte-at .ensures) ∙ c .before .if4 .taken) (c .if5 .left)
-
-returns-7 : tie.Need-returns-7
-returns-7 c =
-    let x = c .before .before in
-    let a = x .before .before .args in
-    breaks.no-break (a .lfcr) (a .text .now) (a .at) (λ e. c .before .if1 .left (x .byte-at .ensures ∙ e)) (λ e. c .if4 .left (x .byte-at .ensures ∙ e))
+    let a = c .before .before .before .before .before .args in
+    rw (c .before .byte-at .ensures) (breaks.sum-without (a .lfcr) (a .text .now) (a .at) (c .if2 .left))
 
 pub line-break-spec : {M : Type 1} → statement M
 line-break-spec =
     tie.close
     (tie.spec
-    (λ c κs. search needs)
-    add-byte-at
-    (λ c κs. search needs)
     returns
+    (λ c. search needs) (λ c. search needs) (λ c κs. search needs) (λ c. search needs) (λ c. search needs) (λ c. search needs)
+    mul-cr-lf
+    add-result
+    add-result-2
+    (λ c. search needs)
+    mul-result
+    add-result-3
     returns-2
-    returns-3
-    add-byte-at-2
-    (λ c κs. search needs)
-    returns-4
-    returns-5
-    returns-6
-    returns-7)
+    add-result-4
+    add-result-5
+    returns-3)
