@@ -17,17 +17,23 @@ const VERSION: u32 = 4;
 const BASELINES: [&str; 2] = ["luck", "luck and a copy"];
 
 pub fn run(plan: &Plan, tables: &mut Tables) -> Result<(), String> {
-    short(plan, tables)?;
-    long(plan, tables, "no escapes", texts::plain_literal)?;
-    long(plan, tables, "escapes", texts::escaped_literal)?;
-    long(plan, tables, "long brackets", texts::long_literal)
+    short(plan, tables, "decode, 1,000 of 5 to 40 bytes", &texts::short_literals())?;
+    short(plan, tables, "decode, no escapes, 1,000 of 5 to 40 bytes", &texts::short_plain_literals())?;
+    growing(plan, tables, "no escapes", texts::plain_literal)?;
+    growing(plan, tables, "escapes", texts::escaped_literal)?;
+    long(plan, tables, "hexadecimal escapes", texts::hexadecimal_literal)?;
+    long(plan, tables, "decimal escapes", texts::decimal_literal)?;
+    long(plan, tables, "escaped line breaks", texts::line_break_literal)?;
+    long(plan, tables, "escapes of a letter", texts::letter_literal)?;
+    long(plan, tables, "code points", texts::code_point_literal)?;
+    growing(plan, tables, "long brackets", texts::long_literal)?;
+    long(plan, tables, "long brackets, LF", texts::long_lf_literal)?;
+    long(plan, tables, "long brackets, CR LF", texts::long_crlf_literal)
 }
 
-fn short(plan: &Plan, tables: &mut Tables) -> Result<(), String> {
-    let literals = texts::short_literals();
-    let name = "decode, 1,000 of 5 to 40 bytes";
+fn short(plan: &Plan, tables: &mut Tables, name: &str, literals: &[Vec<u8>]) -> Result<(), String> {
     literals.iter().try_for_each(|literal| compare(name, literal))?;
-    rows(plan, tables, name, &literals)
+    rows(plan, tables, name, literals)
 }
 
 fn by_library(literal: &[u8], output: &mut [u8]) -> Decoded {
@@ -76,16 +82,27 @@ fn compare(name: &str, literal: &[u8]) -> Result<(), String> {
     }
 }
 
+/// Answer and value are luck's, and luck has a value.
+fn compare_decoded(name: &str, literal: &[u8]) -> Result<(), String> {
+    compare(name, literal)?;
+    reference::value(VERSION, literal).map(drop).map_err(|refusal| format!("{name}: {refusal:?}"))
+}
+
 fn long(plan: &Plan, tables: &mut Tables, name: &str, make: fn(usize) -> Vec<u8>) -> Result<(), String> {
     let size = plan.size(MIB);
-    let unit = size / 8;
+    let name = format!("decode, {name}, {}", size_name(size));
+    let literal = make(size);
+    compare_decoded(&name, &literal)?;
+    rows(plan, tables, &name, &[literal])
+}
+
+/// The same, with a row of growth.
+fn growing(plan: &Plan, tables: &mut Tables, name: &str, make: fn(usize) -> Vec<u8>) -> Result<(), String> {
+    long(plan, tables, name, make)?;
+    let unit = plan.size(MIB) / 8;
     let literals = TIMES.map(|times| make(times * unit));
     let name = format!("decode, {name}");
-    for literal in &literals {
-        compare(&name, literal)?;
-        reference::value(VERSION, literal).map_err(|refusal| format!("{name}: {refusal:?}"))?;
-    }
-    rows(plan, tables, &format!("{name}, {}", size_name(size)), &literals[TIMES.len() - 1..])?;
+    literals.iter().try_for_each(|literal| compare_decoded(&name, literal))?;
     let grown = literals.iter().map(|literal| {
         let mut output = vec![0; literal.len()];
         Grown { work: literal.len() as f64, side: side(move || by_library(literal, &mut output)) }

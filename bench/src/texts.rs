@@ -88,10 +88,35 @@ pub fn short_bodies(kind: Kind) -> Vec<Vec<u8>> {
     (0..SHORT_COUNT).map(|_| short(&mut random, |random, text| bodies::body(random, kind, text))).collect()
 }
 
-/// Literals by the grammar, some of them at fault.
+/// Literals by the grammar, some of them at fault. None has a code point that version 4 takes and luck does not (F-4).
 pub fn short_literals() -> Vec<Vec<u8>> {
     let mut random = Random::new(SEED);
-    (0..SHORT_COUNT).map(|_| short(&mut random, grammar::literal)).collect()
+    let is_wanted = |text: &[u8]| SHORT.contains(&text.len()) && !has_wide_escape(text);
+    (0..SHORT_COUNT).map(|_| first(&mut random, grammar::literal, is_wanted)).collect()
+}
+
+/// Whether something in the text is spelled as the escape of a number up to 7FFFFFFF that is no character.
+fn has_wide_escape(text: &[u8]) -> bool {
+    let is_wide = |rest: &[u8]| {
+        let digits = rest.strip_prefix(b"\\u{").and_then(|rest| rest.split(|&byte| byte == b'}').next());
+        let number = digits.and_then(|digits| u32::from_str_radix(str::from_utf8(digits).ok()?, 16).ok());
+        number.is_some_and(|number| number <= 0x7FFF_FFFF && char::from_u32(number).is_none())
+    };
+    (0..text.len()).any(|at| is_wide(&text[at..]))
+}
+
+/// Literals in quotes with nothing to decode.
+pub fn short_plain_literals() -> Vec<Vec<u8>> {
+    let mut random = Random::new(SEED);
+    let text: Vec<u8> = ascii(SHORT_COUNT).iter().map(|&byte| if byte == b'\n' { b' ' } else { byte }).collect();
+    let quotes = quoted(b"").len();
+    let (least, most) = (SHORT.start() - quotes, SHORT.end() - quotes);
+    (0..SHORT_COUNT)
+        .map(|_| {
+            let start = random.below(text.len() - most);
+            quoted(&text[start..start + least + random.below(most - least + 1)])
+        })
+        .collect()
 }
 
 /// The first of the texts that is short.
@@ -153,9 +178,70 @@ fn escaped_piece(random: &mut Random) -> Vec<u8> {
     [&literal[1..literal.len() - 1], b" "].concat()
 }
 
-/// A literal in long brackets, with line breaks that become one byte.
+/// A literal in quotes of these escapes alone. Each begins with a backslash, which ends the digits of the one before.
+fn literal_of(size: usize, escape: impl Fn(&mut Random) -> String) -> Vec<u8> {
+    let mut random = Random::new(SEED);
+    quoted(&filled(size, || escape(&mut random).into_bytes()))
+}
+
+pub fn hexadecimal_literal(size: usize) -> Vec<u8> {
+    literal_of(size, |random| {
+        let byte = random.byte();
+        if random.one_in(2) { format!("\\x{byte:02x}") } else { format!("\\x{byte:02X}") }
+    })
+}
+
+/// Of one to three digits.
+pub fn decimal_literal(size: usize) -> Vec<u8> {
+    literal_of(size, |random| {
+        let digits = 1 + random.below(3);
+        let number = random.below([10, 100, 256][digits - 1]);
+        format!("\\{number:0digits$}")
+    })
+}
+
+pub fn line_break_literal(size: usize) -> Vec<u8> {
+    literal_of(size, |random| random.pick(&["\\\n", "\\\r", "\\\r\n", "\\\n\r"]).to_owned())
+}
+
+/// Of a letter, a quote or a backslash.
+pub fn letter_literal(size: usize) -> Vec<u8> {
+    const ESCAPES: [&str; 10] = ["\\a", "\\b", "\\f", "\\n", "\\r", "\\t", "\\v", "\\\\", "\\\"", "\\'"];
+    literal_of(size, |random| random.pick(&ESCAPES).to_owned())
+}
+
+/// Characters, by one to six digits.
+pub fn code_point_literal(size: usize) -> Vec<u8> {
+    const AFTER_LAST: usize = 0x11_0000;
+    literal_of(size, |random| {
+        loop {
+            let digits = 1 + random.below(6);
+            let number = random.below(AFTER_LAST.min(1 << (4 * digits)));
+            if char::from_u32(number as u32).is_some() {
+                return format!("\\u{{{number:0digits$X}}}");
+            }
+        }
+    })
+}
+
+/// A literal in long brackets, with line breaks of one CR, which become LF.
 pub fn long_literal(size: usize) -> Vec<u8> {
-    let lines: Vec<u8> = ascii(size).iter().map(|&byte| if byte == b'\n' { b'\r' } else { byte }).collect();
+    bracketed("\r", size)
+}
+
+/// The same with line breaks that stay as they are.
+pub fn long_lf_literal(size: usize) -> Vec<u8> {
+    bracketed("\n", size)
+}
+
+/// The same with line breaks of two bytes, which become one.
+pub fn long_crlf_literal(size: usize) -> Vec<u8> {
+    bracketed("\r\n", size)
+}
+
+fn bracketed(line_break: &str, size: usize) -> Vec<u8> {
+    let mut random = Random::new(SEED);
+    let lines = filled(size, || random.pick(&ASCII_WORDS).replace('\n', line_break).into_bytes());
     [b"[==[", lines.as_slice(), b"]==]"].concat()
 }
 
