@@ -304,6 +304,68 @@ static void decode(const char *what, uint32_t version, const char *text, size_t 
     same_output(what, value, wanted.written);
 }
 
+/* Code points by \u{}: the versions from 5.3 on that take it, and its bytes. 5.4 and 5.5 take each up to 7FFFFFFF, the others characters. */
+typedef struct {
+    const char *text;
+    size_t len;
+    const char *versions;
+    const char *value;
+    size_t value_len;
+} code_point;
+
+static const code_point code_points[] = {
+    {TEXT("'\\u{0}'"), "3456", TEXT("\0")},
+    {TEXT("'\\u{7F}'"), "3456", TEXT("\x7F")},
+    {TEXT("'\\u{80}'"), "3456", TEXT("\xC2\x80")},
+    {TEXT("'\\u{7FF}'"), "3456", TEXT("\xDF\xBF")},
+    {TEXT("'\\u{800}'"), "3456", TEXT("\xE0\xA0\x80")},
+    {TEXT("'\\u{D7FF}'"), "3456", TEXT("\xED\x9F\xBF")},
+    {TEXT("'\\u{D800}'"), "45", TEXT("\xED\xA0\x80")},
+    {TEXT("'\\u{dfff}'"), "45", TEXT("\xED\xBF\xBF")},
+    {TEXT("'\\u{E000}'"), "3456", TEXT("\xEE\x80\x80")},
+    {TEXT("'\\u{FFFF}'"), "3456", TEXT("\xEF\xBF\xBF")},
+    {TEXT("'\\u{10000}'"), "3456", TEXT("\xF0\x90\x80\x80")},
+    {TEXT("'\\u{10FFFF}'"), "3456", TEXT("\xF4\x8F\xBF\xBF")},
+    {TEXT("'\\u{110000}'"), "45", TEXT("\xF4\x90\x80\x80")},
+    {TEXT("'\\u{1FFFFF}'"), "45", TEXT("\xF7\xBF\xBF\xBF")},
+    {TEXT("'\\u{200000}'"), "45", TEXT("\xF8\x88\x80\x80\x80")},
+    {TEXT("'\\u{3FFFFFF}'"), "45", TEXT("\xFB\xBF\xBF\xBF\xBF")},
+    {TEXT("'\\u{4000000}'"), "45", TEXT("\xFC\x84\x80\x80\x80\x80")},
+    {TEXT("'\\u{7fffFFFF}'"), "45", TEXT("\xFD\xBF\xBF\xBF\xBF\xBF")},
+    {TEXT("'\\u{" TEN("00") "7FFFFFFF}'"), "45", TEXT("\xFD\xBF\xBF\xBF\xBF\xBF")},
+    {TEXT("'\\u{00000000" "00000041}'"), "3456", TEXT("A")},
+    {TEXT("'\\u{00000000" "000000041}'"), "345", TEXT("A")},
+    {TEXT("'\\u{80000000}'"), "", TEXT("")},
+    {TEXT("'\\u{FFFFFFFF}'"), "", TEXT("")},
+    {TEXT("'\\u{100000041}'"), "", TEXT("")},
+    {TEXT("'\\u{10000000000000041}'"), "", TEXT("")},
+};
+
+/* Of the versions from 5.3 on. A value that only two of them have is not UTF-8, and a check of any kind and version refuses it. */
+static void check_code_points(void)
+{
+    const luck_decoded undecodable = {LUCK_UNDECODABLE, 0, 0};
+    const luck_decoded too_short = {LUCK_OUTPUT_TOO_SHORT, 0, 0};
+    const luck_answer not_utf8 = {LUCK_NOT_UTF8, 0, 0, 0, 0};
+    for (size_t i = 0; i < sizeof code_points / sizeof code_points[0]; i++) {
+        const code_point *at = &code_points[i];
+        const luck_decoded decoded = {0, 0, at->value_len};
+        for (uint32_t version = LUCK_LUA_53; version <= LUCK_LUAU; version++) {
+            bool taken = strchr(at->versions, (int)('0' + version)) != NULL;
+            decode(at->text, version, at->text, at->len, ROOM, taken ? decoded : undecodable, at->value);
+            if (taken) {
+                decode(at->text, version, at->text, at->len, at->value_len, decoded, at->value);
+                decode(at->text, version, at->text, at->len, at->value_len - 1, too_short, "");
+            }
+        }
+        for (uint32_t version = 1; version <= 6 && strcmp(at->versions, "45") == 0; version++) {
+            for (const char *kind = kinds; *kind != 0; kind++) {
+                same_answer(at->text, check(*kind, version, at->value, at->value_len), not_utf8);
+            }
+        }
+    }
+}
+
 static void check_decoding(void)
 {
     const luck_decoded empty = {0, 0, 0};
@@ -421,6 +483,7 @@ int main(void)
     check_rows_as_literals();
     check_literals();
     check_decoding();
+    check_code_points();
     check_trials();
     printf("include/luck.h: %d values of the library compared, %d differ\n", asked, wrong);
     return wrong == 0 ? 0 : 1;

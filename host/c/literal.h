@@ -6,7 +6,7 @@
 #define LUCK_LITERAL_H
 
 #include "luck.h"
-#include "wide_escape.h"
+#include "unicode_escape.h"
 
 #include <stdlib.h>
 #include <string.h>
@@ -17,7 +17,7 @@ enum literal_fault {
     NO_CLOSING,  /* the quote or bracket that it begins with is never closed; at the text's end */
     BYTES_AFTER, /* at the first byte after the closing quote or bracket */
     NO_ESCAPE,   /* a backslash that begins no escape of the version; at that backslash */
-    WIDE_ESCAPE  /* nothing is wrong but escapes that Lua itself takes; at the backslash of the first one */
+    TAKEN_BY_LUA /* nothing is wrong but escapes that Lua itself takes; at the backslash of the first one */
 };
 
 /* What was found, up to the first fault. `breaks` tells of what Lua does not load and decoding takes: in quotes a line break that stands
@@ -98,16 +98,16 @@ static size_t end_of_piece(const uint8_t *text, size_t len, size_t at, literal *
     return at;
 }
 
-/* Notes the fault of the escape at `at`, if it has one. Wide ones are faults only where there is no other. */
+/* Notes the fault of the escape at `at`, if it has one. One that Lua itself takes is a fault only where there is no other. */
 static void judge_escape(uint32_t version, const uint8_t *piece, size_t len, size_t at, literal *found, uint8_t *copy)
 {
     uint32_t code;
     if (!is_bad_piece(version, piece, len, copy))
         return;
-    bool wide = unicode_escape(piece, len, &code) != 0 && is_wide(version, code);
-    if (wide && found->fault == WIDE_ESCAPE)
+    bool taken = unicode_escape(piece, len, &code) != 0 && is_refused_here_only(version, code);
+    if (taken && found->fault == TAKEN_BY_LUA)
         return;
-    found->fault = wide ? WIDE_ESCAPE : NO_ESCAPE;
+    found->fault = taken ? TAKEN_BY_LUA : NO_ESCAPE;
     found->place = at;
 }
 

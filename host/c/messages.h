@@ -262,6 +262,9 @@ static message of_escape(const question *asked)
     static const message surrogate = {"`$e` is no character: D800 to DFFF are halves of a pair",
                                       "write the character's own number, up to 10FFFF"};
     static const message large = {"`$e` is too large", "write a number up to 10FFFF"};
+    static const message larger = {"`$e` is too large", "write a number up to 7FFFFFFF"};
+    static const message digits = {"`$e` is too long: $v takes 16 digits", "leave out zeros at its front, as in `\\u{E9}`"};
+    bool extended = asked->version == LUCK_LUA_54 || asked->version == LUCK_LUA_55;
     const uint8_t *escape = asked->source + asked->shape.place;
     size_t len = asked->source_len - asked->shape.place;
     uint8_t letter = len > 1 ? escape[1] : 0;
@@ -274,7 +277,9 @@ static message of_escape(const question *asked)
         return other;
     if (unicode_escape(escape, len, &code) <= 4)
         return braces;
-    return code >= 0xD800 && code <= 0xDFFF ? surrogate : large;
+    if (code > (extended ? 0x7FFFFFFFu : 0x10FFFFu))
+        return extended ? larger : large;
+    return is_surrogate(code) ? surrogate : digits;
 }
 
 /* 24, by what the text looks like. */
@@ -289,8 +294,8 @@ static message of_shape(const question *asked)
     static const message newline = {"bytes follow the literal, the last of them a newline",
                                     "give the literal alone: `printf %s` writes no newline after it, `echo` does"};
     static const message after = {"bytes follow the literal", "give one literal alone"};
-    static const message wide = {"`$e` is not read here, though $v itself takes it",
-                                 "the script can keep it; only its value can't be decoded or checked"};
+    static const message taken = {"`$e` is not read here, though $v itself takes it",
+                                  "the script can keep it; `luck decode 5.4` writes its bytes, which a check can't read (23)"};
     switch (asked->shape.fault) {
     case NO_OPENING:
         return no_opening;
@@ -300,8 +305,8 @@ static message of_shape(const question *asked)
         return asked->source[asked->source_len - 1] == '\n' ? newline : after;
     case NO_ESCAPE:
         return of_escape(asked);
-    case WIDE_ESCAPE:
-        return wide;
+    case TAKEN_BY_LUA:
+        return taken;
     default:
         return messages[LUCK_UNDECODABLE];
     }

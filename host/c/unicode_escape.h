@@ -1,19 +1,22 @@
 /*
- * Escapes `\u{...}` that the library refuses with 24 though Lua itself takes them, for the command `luck` (luck.c): above 10FFFF, up to
- * 7FFFFFFF, in 5.4 and 5.5; and from D800 to DFFF in 5.3 to 5.5 (docs/DIFFERENCES.md).
+ * Escapes `\u{...}`, for the command `luck` (luck.c): their numbers, and which of those that the library refuses Lua itself takes.
  */
-#ifndef LUCK_WIDE_ESCAPE_H
-#define LUCK_WIDE_ESCAPE_H
+#ifndef LUCK_UNICODE_ESCAPE_H
+#define LUCK_UNICODE_ESCAPE_H
 
 #include "luck.h"
 
 #include <string.h>
 
-static bool is_wide(uint32_t version, uint32_t code)
+static bool is_surrogate(uint32_t code)
 {
-    if (code >= 0xD800 && code <= 0xDFFF)
-        return version >= LUCK_LUA_53 && version <= LUCK_LUA_55;
-    return code > 0x10FFFF && code <= 0x7FFFFFFF && (version == LUCK_LUA_54 || version == LUCK_LUA_55);
+    return code >= 0xD800 && code <= 0xDFFF;
+}
+
+/* The library refuses surrogates in 5.3, as luck does, and Lua 5.3 takes them (docs/DIFFERENCES.md). */
+static bool is_refused_here_only(uint32_t version, uint32_t code)
+{
+    return version == LUCK_LUA_53 && is_surrogate(code);
 }
 
 /* The length of the `\u{...}` at the front of a text, and its number, at most 80000000; 0 where there is none. */
