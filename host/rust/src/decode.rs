@@ -16,7 +16,7 @@ pub enum DecodeError {
         offset: usize,
     },
     /// 24: no literal, or an escape that is malformed or that is not read in this version: one that it does not have, or a `\u{}` of a
-    /// surrogate or above 10FFFF, which some versions of Lua take.
+    /// number that it does not take. Lua 5.4 and 5.5 take each up to 7FFFFFFF, Lua 5.3 and Luau up to 10FFFF and no surrogate.
     Undecodable,
     /// 26: the value is longer than the output.
     OutputTooShort,
@@ -58,7 +58,8 @@ impl Decoded {
 }
 
 /// Writes the bytes that a literal stands for to the front of `output`, and gives their count. The rest of the output is as it was;
-/// a refusal leaves all of it as it was. As many bytes as `text` has are always enough.
+/// a refusal leaves all of it as it was. As many bytes as `text` has are always enough. The value need not be UTF-8: see
+/// [`decode_string`].
 ///
 /// ```
 /// use luck::{DecodeError, Version};
@@ -81,11 +82,19 @@ pub fn decode_string_into(version: Version, text: &[u8], output: &mut [u8]) -> R
 
 /// The bytes that a literal stands for: short in two equal quotes, or in long brackets.
 ///
+/// They need not be UTF-8: an escape such as `\255` spells any byte, and in Lua 5.4 and 5.5 a `\u{}` of a surrogate or above 10FFFF has
+/// three to six bytes by the original UTF-8 (RFC 2279). A check refuses such a value, and a trial takes it.
+///
 /// ```
-/// use luck::Version;
+/// use luck::{Refusal, Version};
 ///
 /// assert_eq!(luck::decode_string(Version::Lua54, br#""\u{E9}""#), Ok("é".into()));
 /// assert!(luck::decode_string(Version::Lua52, br#""\q""#).is_err());
+///
+/// let value = luck::decode_string(Version::Lua54, br#""\u{110000}""#)?;
+/// assert_eq!(value, [0xF4, 0x90, 0x80, 0x80]);
+/// assert_eq!(luck::check_pattern(Version::Lua54, &value), Err(Refusal::NotUtf8 { offset: 0 }));
+/// # Ok::<(), luck::DecodeError>(())
 /// ```
 ///
 /// # Errors

@@ -127,7 +127,7 @@ pub struct Decoded {
     pub number: u32,
     /// For [`NOT_UTF8`] its place in the text; else 0.
     pub offset: usize,
-    /// Decoded: the value's length; else 0.
+    /// Decoded: the length of the value, which need not be UTF-8; else 0.
     pub written: usize,
 }
 

@@ -1,8 +1,8 @@
 //! Decoding: values, refusals in their order, and the bytes of the output that must stay as they were.
 
 use luck::DecodeError::{NotUtf8, OutputTooShort, Undecodable};
-use luck::Version::{Lua51, Lua52, Lua53, Lua54};
-use luck::{DecodeError, Version, decode_string, decode_string_into, raw};
+use luck::Version::{Lua51, Lua52, Lua53, Lua54, Lua55, Luau};
+use luck::{DecodeError, Refusal, Version, check_pattern, decode_string, decode_string_into, raw};
 
 const UNTOUCHED: u8 = 0xAA;
 
@@ -27,6 +27,51 @@ fn values_by_version() {
     assert_eq!(by_version(br"'\u{E9}'"), [value("u{E9}"), None, value("é"), value("é"), value("é"), value("é")]);
 }
 
+/// Lua 5.4 and 5.5 take each code point up to 7FFFFFFF, Lua 5.3 and Luau characters only. The value of another one is not UTF-8, and a
+/// check refuses it.
+#[test]
+fn code_points() {
+    const VERSIONS: [Version; 4] = [Lua53, Lua54, Lua55, Luau];
+    let values: [(u32, &[u8]); 18] = [
+        (0, b"\0"),
+        (0x7F, b"\x7F"),
+        (0x80, b"\xC2\x80"),
+        (0x7FF, b"\xDF\xBF"),
+        (0x800, b"\xE0\xA0\x80"),
+        (0xD7FF, b"\xED\x9F\xBF"),
+        (0xD800, b"\xED\xA0\x80"),
+        (0xDFFF, b"\xED\xBF\xBF"),
+        (0xE000, b"\xEE\x80\x80"),
+        (0xFFFF, b"\xEF\xBF\xBF"),
+        (0x1_0000, b"\xF0\x90\x80\x80"),
+        (0x10_FFFF, b"\xF4\x8F\xBF\xBF"),
+        (0x11_0000, b"\xF4\x90\x80\x80"),
+        (0x1F_FFFF, b"\xF7\xBF\xBF\xBF"),
+        (0x20_0000, b"\xF8\x88\x80\x80\x80"),
+        (0x3FF_FFFF, b"\xFB\xBF\xBF\xBF\xBF"),
+        (0x400_0000, b"\xFC\x84\x80\x80\x80\x80"),
+        (0x7FFF_FFFF, b"\xFD\xBF\xBF\xBF\xBF\xBF"),
+    ];
+    for (code, value) in values {
+        let is_character = char::from_u32(code).is_some();
+        for version in VERSIONS {
+            let wanted = if is_character || [Lua54, Lua55].contains(&version) { Ok(value.to_vec()) } else { Err(Undecodable) };
+            assert_eq!(decode_string(version, format!("'\\u{{{code:X}}}'").as_bytes()), wanted, "{version}: {code:X}");
+            assert_eq!(decode_string(version, format!("'\\u{{{code:016x}}}'").as_bytes()), wanted, "{version}: {code:016x}");
+        }
+        assert_eq!(std::str::from_utf8(value).is_ok(), is_character);
+        let wanted = if is_character { Ok(0) } else { Err(Refusal::NotUtf8 { offset: 0 }) };
+        assert_eq!(check_pattern(Lua54, value), wanted, "{code:X}");
+    }
+    for version in VERSIONS {
+        for digits in ["80000000", "FFFFFFFF", "100000041", "10000000000000041"] {
+            assert_eq!(decode_string(version, format!("'\\u{{{digits}}}'").as_bytes()), Err(Undecodable), "{version}: {digits}");
+        }
+        let many = if version == Luau { Err(Undecodable) } else { Ok(b"A".to_vec()) };
+        assert_eq!(decode_string(version, br"'\u{00000000000000041}'"), many, "{version}: 17 digits");
+    }
+}
+
 #[test]
 fn refusals() {
     assert_eq!(decode_string(Lua52, br#""\q""#), Err(Undecodable));
@@ -35,7 +80,7 @@ fn refusals() {
             assert_eq!(decode_string(version, text), Err(Undecodable), "{version}: {text:?}");
         }
     }
-    assert_eq!(decode_string(Lua54, br"'\u{110000}'"), Err(Undecodable));
+    assert_eq!(decode_string(Lua54, br"'\u{80000000}'"), Err(Undecodable));
     assert_eq!(decode_string(Lua53, br"'\u{D800}'"), Err(Undecodable));
     assert_eq!(decode_string(Lua51, b"'a\xFF'"), Err(NotUtf8 { offset: 2 }));
 }
