@@ -17,6 +17,8 @@ Then, with `lib = Luck("target/libluck.so")`:
     ('UNMATCHED_CAPTURE', 4)
     >>> lib.decode_string(Version.LUA_54, r"'\\u{E9}'").value.decode()
     'é'
+    >>> lib.decode_string(Version.LUA_54, r"'\\u{110000}'").value
+    b'\\xf4\\x90\\x80\\x80'
     >>> lib.gsub_trial(Version.LUA_54, "%d+", "<%0>", "trip 17").output
     b'trip <17>'
 
@@ -26,6 +28,9 @@ checked, is false too. `message` says why, in the words of the Rust crate.
 Texts are bytes, any bytes, or a str, which is taken as its UTF-8; an offset counts bytes. A version is one of `Version`, its name ("5.4",
 "luau"), or its number: 1 to 5 for Lua 5.1 to 5.5 and 6 for Luau; another number is refused by the library (25), another name raises
 ValueError. A number that the C type can't hold raises OverflowError here, since ctypes would cut it off without a word.
+
+A literal's value is bytes, and need not be UTF-8: `\\255` is a byte FF, and in Lua 5.4 and 5.5 a `\\u{}` of a surrogate or above 10FFFF has
+its bytes by the original UTF-8 (RFC 2279). `decode()` raises UnicodeDecodeError on such a value, and a check refuses it (23).
 
 A trial of gsub takes up to 473 KiB of stack: a thread that calls it needs 512 KiB (threading.stack_size), or the process dies.
 
@@ -286,7 +291,7 @@ class Decoded(NamedTuple):
 
     number: int  # 0: decoded; else the refusal
     offset: int  # for NOT_UTF8 its place in the text; else 0
-    value: bytes  # decoded: the value; else empty
+    value: bytes  # decoded: the value, which need not be UTF-8; else empty
 
     def __bool__(self) -> bool:
         """Whether it is decoded, the empty value included."""
@@ -533,7 +538,7 @@ class Luck:
         return Literal(*_fields(answer))
 
     def decode_string(self, version: AnyVersion, text: Text) -> Decoded:
-        """The bytes that a literal stands for: short in two equal quotes, or in long brackets."""
+        """The bytes that a literal stands for: short in two equal quotes, or in long brackets. They need not be UTF-8."""
         # A value is never longer than its literal.
         output = bytearray(_text("text", text)[1])
         number, offset, written = self.decode_string_into(version, text, output)

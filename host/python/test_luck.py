@@ -98,6 +98,28 @@ REFUSALS = [
     (b"F", 1, b"\xFF", 23, 0, ""),
 ]
 
+# Where the bytes of a code point get longer, and where characters begin and end.
+CODE_POINTS = [
+    (0, b"\0"),
+    (0x7F, b"\x7F"),
+    (0x80, b"\xC2\x80"),
+    (0x7FF, b"\xDF\xBF"),
+    (0x800, b"\xE0\xA0\x80"),
+    (0xD7FF, b"\xED\x9F\xBF"),
+    (0xD800, b"\xED\xA0\x80"),
+    (0xDFFF, b"\xED\xBF\xBF"),
+    (0xE000, b"\xEE\x80\x80"),
+    (0xFFFF, b"\xEF\xBF\xBF"),
+    (0x10000, b"\xF0\x90\x80\x80"),
+    (0x10FFFF, b"\xF4\x8F\xBF\xBF"),
+    (0x110000, b"\xF4\x90\x80\x80"),
+    (0x1FFFFF, b"\xF7\xBF\xBF\xBF"),
+    (0x200000, b"\xF8\x88\x80\x80\x80"),
+    (0x3FFFFFF, b"\xFB\xBF\xBF\xBF\xBF"),
+    (0x4000000, b"\xFC\x84\x80\x80\x80\x80"),
+    (0x7FFFFFFF, b"\xFD\xBF\xBF\xBF\xBF\xBF"),
+]
+
 
 def lend(room: int) -> Tuple[bytearray, memoryview]:
     """A buffer, and its inner `room` bytes."""
@@ -272,7 +294,7 @@ class Messages(unittest.TestCase):
 
     def test_undecodable(self) -> None:
         """One sentence for all that 24 is: no literal, malformed, not of the version, and what the version itself has but is not read."""
-        for version, text in [(4, "hello"), (4, r'"\300"'), (4, r'"\q"'), (4, r'"\u{110000}"'), (3, r'"\u{D800}"')]:
+        for version, text in [(4, "hello"), (4, r'"\300"'), (4, r'"\q"'), (4, r'"\u{80000000}"'), (3, r'"\u{D800}"')]:
             self.assertEqual(luck.decode_string(version, text).message, "no literal, or an escape that is malformed or that is not read in this version")
 
     def test_trials(self) -> None:
@@ -381,6 +403,35 @@ class Decoding(unittest.TestCase):
                 self.assertEqual(luck.decode_string(version, text), Decoded(0, 0, value))
         self.assertEqual(luck.decode_string(4, rb"'\u{E9}'").value, "é".encode())
 
+    def test_code_points(self) -> None:
+        """Lua 5.4 and 5.5 take each up to 7FFFFFFF, Lua 5.3 and Luau characters only."""
+        for code, value in CODE_POINTS:
+            is_character = code <= 0x10FFFF and not 0xD800 <= code <= 0xDFFF
+            for version in (3, 4, 5, 6):
+                wanted = Decoded(0, 0, value) if is_character or version in (4, 5) else Decoded(24, 0, b"")
+                for digits in (f"{code:X}", f"{code:016x}"):
+                    self.assertEqual(luck.decode_string(version, f"'\\u{{{digits}}}'"), wanted, (version, digits))
+        for version in (3, 4, 5, 6):
+            for digits in ("80000000", "FFFFFFFF", "100000041", "10000000000000041"):
+                self.assertEqual(luck.decode_string(version, f"'\\u{{{digits}}}'"), Decoded(24, 0, b""), (version, digits))
+            many = Decoded(24, 0, b"") if version == 6 else Decoded(0, 0, b"A")
+            self.assertEqual(luck.decode_string(version, f"'\\u{{{0x41:017X}}}'"), many, version)
+
+    def test_not_utf8(self) -> None:
+        """A value that is not UTF-8 is given as bytes; `decode()` raises, a check refuses it, and a trial takes it."""
+        texts = [r"'\255'", *(f"'\\u{{{code:X}}}'" for code, value in CODE_POINTS if code > 0x10FFFF or 0xD800 <= code <= 0xDFFF)]
+        for text in texts:
+            for version in (Version.LUA_54, Version.LUA_55):
+                decoded = luck.decode_string(version, text)
+                self.assertTrue(decoded)
+                self.assertRaises(UnicodeDecodeError, decoded.value.decode)
+                for check in CHECKS.values():
+                    self.assertEqual(check(version, decoded.value), refused(23, 0))
+                self.assertEqual(luck.gsub_trial(version, decoded.value, "x", b"a" + decoded.value).output, b"ax")
+                output = bytearray(len(decoded.value))
+                self.assertEqual(luck.decode_string_into(version, text, output), DecodedInto(0, 0, len(output)))
+                self.assertEqual(output, decoded.value)
+
     def test_refused(self) -> None:
         for version, text, number, offset in [
             (2, rb'"\q"', 24, 0),
@@ -389,7 +440,9 @@ class Decoding(unittest.TestCase):
             (4, b"'a\"", 24, 0),
             (4, b"[=[a]]", 24, 0),
             (4, rb"'\256'", 24, 0),
-            (4, rb"'\u{110000}'", 24, 0),
+            (4, rb"'\u{80000000}'", 24, 0),
+            (3, rb"'\u{110000}'", 24, 0),
+            (6, rb"'\u{D800}'", 24, 0),
             (4, b"'a\xFF", 23, 2),
             *((version, b"'\xFF", 25, 0) for version in NO_VERSIONS),
         ]:
