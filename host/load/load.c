@@ -563,6 +563,50 @@ static void ask_with_rooms(question *q, size_t enough)
     ask(q);
 }
 
+/* The bytes of a code point by RFC 2279, and how many they are. */
+static size_t encode(uint32_t code, uint8_t *bytes)
+{
+    static const uint32_t ends[] = {0x80, 0x800, 0x10000, 0x200000, 0x4000000};
+    size_t len = 1;
+    while (len < 6 && code >= ends[len - 1]) {
+        len++;
+    }
+    for (size_t at = len - 1; at > 0; at--) {
+        bytes[at] = (uint8_t)(0x80 | (code & 0x3F));
+        code >>= 6;
+    }
+    bytes[0] = (uint8_t)(len == 1 ? code : (0xFF00u >> len & 0xFF) | code);
+    return len;
+}
+
+/* A code point by its number, of up to 36 bits, sometimes with zeros before it, which is taken or not by the version. */
+static void ask_code_point(void)
+{
+    static text literal;
+    uint8_t wanted[6];
+    uint64_t code = next() >> (28 + below(36));
+    int digits = 1 + (int)below(one_in(4) ? 24 : 9);
+    question q = {.asked = DECODE_STRING, .version = 3 + (uint32_t)below(4), .texts = {&literal}};
+    literal.len = (size_t)snprintf((char *)literal.bytes, MOST, "'\\u{%0*" PRIX64 "}'", digits, code);
+    q.room = literal.len;
+    bool character = code < 0x110000 && !(code >= 0xD800 && code < 0xE000);
+    bool taken = q.version == 4 || q.version == 5 ? code <= 0x7FFFFFFF : character && (q.version != 6 || literal.len <= 6 + 16);
+    size_t len = encode((uint32_t)code, wanted);
+    answer a = ask(&q);
+    holds(a.number == (taken ? 0 : 24), "a code point is decoded where the version takes it, and only there", &a);
+    holds(!taken || (a.written == len && memcmp(written, wanted, len) == 0), "a code point has its bytes", &a);
+}
+
+/* What was written last, which need not be UTF-8, as the body of some check. */
+static void ask_value(uint32_t version, size_t len)
+{
+    static text value;
+    question q = {.asked = (function)below(CHECK_LITERAL), .version = version, .known = one_in(2), .captures = some_captures(), .texts = {&value}};
+    value.len = len;
+    memcpy(value.bytes, written, len);
+    ask(&q);
+}
+
 static void ask_decode(void)
 {
     static text literal;
@@ -572,6 +616,11 @@ static void ask_decode(void)
         enclose(&literal, true);
     }
     ask_with_rooms(&q, literal.len);
+    q.room = literal.len;
+    answer a = ask(&q);
+    if (a.number == 0) {
+        ask_value(q.version, (size_t)a.written);
+    }
 }
 
 /* Room for what a short trial writes; a long one meets its end. */
@@ -639,7 +688,7 @@ static void ask_something(void)
     size_t f = below(FUNCTIONS + 1);
     switch (f) {
     case CHECK_LITERAL: ask_literal(); break;
-    case DECODE_STRING: ask_decode(); break;
+    case DECODE_STRING: one_in(4) ? ask_code_point() : ask_decode(); break;
     case GSUB_TRIAL: ask_trial(); break;
     case FUNCTIONS: ask_alike(); break;
     default: ask_body((function)f); break;

@@ -57,11 +57,12 @@ typedef struct {
 #define P(bytes) {bytes, sizeof(bytes) - 1}
 #define ALL(array) {array, sizeof array / sizeof *array}
 
-/* UTF-8 whole, cut, overlong, of a surrogate and beyond the last character; zero bytes, quotes, line breaks. */
+/* UTF-8 whole, cut, overlong, of a surrogate and beyond the last character, up to six bytes; zero bytes, quotes, line breaks. */
 static const piece any_pieces[] = {
     P("\xC3\xA9"), P("\xC3"), P("\xE2\x82\xAC"), P("\xE2\x82"), P("\xE2"), P("\xF0\x9F\x98\x80"), P("\xF0\x9F\x98"), P("\xF0\x9F"), P("\xF0"),
     P("\x80"), P("\xBF"), P("\xFF"), P("\xC0\x80"), P("\xC1\xBF"), P("\xE0\x80\x80"), P("\xE0\xA0\x80"), P("\xED\x9F\xBF"), P("\xED\xA0\x80"),
-    P("\xEF\xBF\xBF"), P("\xF0\x80\x80\x80"), P("\xF4\x8F\xBF\xBF"), P("\xF4\x90\x80\x80"), P("\xF5"), P("\0"), P("\0\0"), P("\""), P("'"),
+    P("\xEF\xBF\xBF"), P("\xF0\x80\x80\x80"), P("\xF4\x8F\xBF\xBF"), P("\xF4\x90\x80\x80"), P("\xF5"), P("\xF8\x88\x80\x80\x80"),
+    P("\xFD\xBF\xBF\xBF\xBF\xBF"), P("\0"), P("\0\0"), P("\""), P("'"),
     P("\\"), P("\r"), P("\n"), P("\r\n"), P("\n\r"), P("\t"), P(" "), P("\x7F"), P("a"), P("Z"), P("0"), P("9"), P("%"), P("["), P("]"),
     P("("), P(")"), P("{"), P("}"), P("^"), P("-"), P("$"), P("*"), P("+"), P("?"), P("."), P("="), P("!"), P("#"),
 };
@@ -99,7 +100,9 @@ static const piece date_pieces[] = {
 static const piece literal_pieces[] = {
     P("\""), P("'"), P("\\"), P("\\\\"), P("\\\""), P("\\'"), P("\\a"), P("\\b"), P("\\f"), P("\\n"), P("\\r"), P("\\t"), P("\\v"), P("\\z"), P("\\z \n"),
     P("\\\n"), P("\\\r\n"), P("\\\n\r"), P("\\\r"), P("\\x"), P("\\x4"), P("\\x41"), P("\\xfG"), P("\\u"), P("\\u{"), P("\\u{}"), P("\\u{41}"),
-    P("\\u{20AC}"), P("\\u{D800}"), P("\\u{10FFFF}"), P("\\u{110000}"), P("\\u{7FFFFFFF}"), P("\\u{80000000}"), P("\\u{00000000041}"), P("\\0"),
+    P("\\u{7ff}"), P("\\u{20AC}"), P("\\u{D7FF}"), P("\\u{D800}"), P("\\u{dfff}"), P("\\u{E000}"), P("\\u{10FFFF}"), P("\\u{110000}"), P("\\u{1FFFFF}"),
+    P("\\u{200000}"), P("\\u{3FFFFFF}"), P("\\u{4000000}"), P("\\u{7FFFFFFF}"), P("\\u{80000000}"), P("\\u{100000041}"), P("\\u{00000000041}"),
+    P("\\u{00000000000000007FFFFFFF}"), P("\\0"),
     P("\\7"), P("\\65"), P("\\065"), P("\\255"), P("\\256"), P("\\999"), P("\\q"), P("["), P("[["), P("[=["), P("]=]"), P("]]"), P("]"), P("="), P("\r"),
     P("\n"), P("text"), P("7"), P("%d"), P("\xE2\x82\xAC"),
 };
@@ -121,7 +124,7 @@ static const piece good_replacements[] = {P("%1"), P("<%0>"), P("%%"), P("%2=%1"
 static const piece good_dates[] = {P("%Y-%m-%d %H:%M:%S"), P("!%c"), P("*t"), P("!*t"), P("%Ex %Od"), P("%a %A %b %B"), P("%%"), P("")};
 static const piece good_literals[] = {
     P("\"trip %d\""), P("'a\\nb'"), P("\"\\x41\\u{20AC}\\065\""), P("[==[\r\nlong]==]"), P("[[a]]"), P("''"), P("\"\\z  \n x\""), P("'\\\r\n'"), P("\"\xE2\x82\xAC\""),
-    P("\"%5.2f \\\" %s\""), P("'(%w+)=(%w+)'"), P("[=[ ]] ]=]"),
+    P("\"%5.2f \\\" %s\""), P("'(%w+)=(%w+)'"), P("[=[ ]] ]=]"), P("'\\u{D800}\\u{110000}\\u{200000}'"), P("\"%d\\u{7FFFFFFF}\\255\""),
 };
 static const piece good_subjects[] = {
     P("state=run speed=1487"), P("2024-05-01 12:07:17 drive_2"), P("aaaa"), P("abababab"), P("(a(b)c)"), P("  trip 17  "), P(""), P("a\0b\0"), P("\xE2\x82\xAC\xE2\x82\xAC"),
