@@ -10,8 +10,8 @@
  *   value is what Lua sees. Give it what a lexer took for one literal.
  * - luck_check_literal checks a literal as it is written, without decoding it, and gives a span of the source, for an
  *   editor. What it accepts need not load: `"a\q%d"` is an accepted format, and Lua 5.2 to 5.5 do not load it.
- * - The checks read UTF-8. Other bytes, such as the value of `"[\128-\255]"`, are refused (23) and can't be checked;
- *   luck_gsub_trial takes any bytes.
+ * - A value is any bytes, and need not be UTF-8. The checks read UTF-8: one such as that of `"[\128-\255]"` is refused
+ *   (23) and can't be checked; luck_gsub_trial takes any bytes.
  *
  * For every function:
  *
@@ -63,8 +63,9 @@
  *   23  NOT_UTF8              not UTF-8 (RFC 3629); at the first byte of the first ill-formed sequence
  *    without a place: the offset is 0, or the answer has none
  *   24  UNDECODABLE           no literal, or an escape that is malformed or that this version does not have, or a
- *                             `\u{}` of a surrogate or above 10FFFF, which some versions take (decoding only);
- *                             host/c/literal.h tells these apart and finds the place
+ *                             `\u{}` that it does not take: above 7FFFFFFF (versions 4 and 5); above 10FFFF, or a
+ *                             surrogate, which Lua 5.3 itself takes (3 and 6); of more than 16 digits (6). Decoding
+ *                             only; host/c/literal.h tells these apart and finds the place
  *   25  UNKNOWN_VERSION       `version` is not 1 to 6
  *   26  OUTPUT_TOO_SHORT      decoding: the value is longer than the output; trial: a byte was due and the output was
  *                             full
@@ -223,6 +224,10 @@ typedef struct {
  * `output`, which has room for `room` bytes, and no byte after them is touched; a refusal leaves the whole output
  * untouched. A value is never longer than its literal, so a room of `len` bytes is always enough. With a room of 0,
  * `output` may be null. `text` and `output` must not overlap.
+ *
+ * A value need not be UTF-8: `\255` is a byte FF, and versions 4 and 5 read each `\u{}` from 0 to 7FFFFFFF, surrogates
+ * included, to one to six bytes by the original UTF-8 (RFC 2279): D800 to ED A0 80, 110000 to F4 90 80 80, 7FFFFFFF to
+ * FD BF BF BF BF BF.
  */
 luck_decoded luck_decode_string(uint32_t version, const uint8_t *text, size_t len, uint8_t *output, size_t room);
 
