@@ -8,6 +8,7 @@ use mathlib.Core.Bool.{Bool, true, false, true≢false}
 use mathlib.Core.List.{List, [], _++_, append-nil, append-assoc}
 use lib.ListN.{length, drop}
 use Rattle.luck_lines.specs.Stream.{rowLength, lineLength, feed, finish, rowsAfter, Run, reads, takes, ends}
+use Rattle.luck_text.proofs.Cases.{same}
 use Rattle.luck_lines.proofs.Cuts.{cut, all-taken}
 use Rattle.luck_lines.proofs.Streams.{finish-long, finish-empty, finish-row}
 use Rattle.luck_lines.proofs.Listings.{last-row, last-none}

@@ -11,7 +11,8 @@ use Rattle.luck_utf8.proofs.CodePoints.{six-bits-length, six-bits-append}
 use Rattle.luck_output.proofs.Outputs.{sets-last}
 
 -- after the bytes of all bits but the lowest six, the byte of these
-pub sets-more : (output : List ℕ) (at mark n c : ℕ) {written : List ℕ} → written ≡ sets output at (sixBits mark n (c / 0x40) [])
+pub sets-more : (output : List ℕ) (at mark n c : ℕ) {written : List ℕ}
+    → written ≡ sets output at (sixBits mark n (c / 0x40) [])
     → set written (at + suc n) (0x80 + c % 0x40) ≡ sets output at (sixBits mark (suc n) c [])
 unfolding sixBits
 sets-more output at mark n c e =

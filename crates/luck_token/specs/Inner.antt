@@ -13,6 +13,7 @@ use Rattle.luck_utf8.specs.Utf8.{lastCode, utf8Bytes}
 use Rattle.luck_token.specs.Literal.{LiteralPiece, piece, malformed}
 use Rattle.luck_token.specs.declared.string.Piece.{Piece as Found}
 use Rattle.luck_token.specs.declared.string.Piece.the-variants.{Byte, Character, Nothing, Malformed}
+use Rattle.luck_token.specs.declared.string.Extent.{Extent}
 use Rattle.luck_token.specs.declared.string.Size.{Size}
 use Rattle.luck_token.specs.declared.string.Size.the-variants as size
 
@@ -37,6 +38,24 @@ Inside Malformed p len = Unit {0}
 pub record IsPiece (wanted : LiteralPiece) (body : List ℕ) (p : ℕ) (found : Found) : Type 0 where
   pub is : pieceOf found ≡ wanted
   pub inside : Inside found p (length body)
+
+-- how many bytes of the text the code's piece takes, 0 where it is malformed, and how many bytes it stands for
+abbrev pub extentOf : Found → Extent
+extentOf (Byte b width) = record { width = width; size = 1 }
+extentOf (Character c width) = record { width = width; size = length (utf8Bytes c) }
+extentOf (Nothing width) = record { width = width; size = 0 }
+extentOf Malformed = record { width = 0; size = 0 }
+
+-- a character's code point has bytes
+abbrev pub HasCode : Found → Type 0
+HasCode (Byte b width) = Unit {0}
+HasCode (Character c width) = c ≤ lastCode
+HasCode (Nothing width) = Unit {0}
+HasCode Malformed = Unit {0}
+
+-- the extent is that of the piece at place p
+abbrev pub IsExtent : LiteralPiece → List ℕ → ℕ → Extent → Type 0
+IsExtent wanted body p extent = (found : Found) × IsPiece wanted body p found × (extent ≡ extentOf found)
 
 abbrev pub sizeOf : Option (List ℕ) → Size
 sizeOf none = size.Malformed

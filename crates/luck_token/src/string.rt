@@ -8,7 +8,7 @@ ghost use Rattle.luck_text.specs.Bytes.{part};
 ghost use Rattle.luck_token.specs.Whitespace.{stripLineBreak};
 ghost use Rattle.luck_token.specs.Literal.{isShort, shortStringBody, placesOf, bracketAt, bracketWidth, otherEscape, escapeKind, lineBreakEscape, hexEscape, decimalEscape, allowsDigits, allowsValue, allowsCodePoint, unicodeEscape, escapePieceAt, longPiece, pieceAt, valueOf, literalValue};
 ghost use Rattle.luck_token.specs.Decode.{withRoom, decodeString, decodingOf, numbered, outputOf};
-ghost use Rattle.luck_token.specs.Inner.{IsPiece, sizeOf, plain, SizeWithin, Written};
+ghost use Rattle.luck_token.specs.Inner.{IsPiece, HasCode, extentOf, IsExtent, sizeOf, plain, SizeWithin, Written};
 use crate::version;
 use crate::version::Rules;
 use crate::whitespace;
@@ -348,6 +348,69 @@ pub enum Size {
     Malformed,
 }
 
+// How many bytes of the text a piece takes, 0 where it is malformed, and how many bytes it stands for.
+struct Extent {
+    width: usize,
+    size: usize,
+}
+
+fn extent_of(piece: Piece) -> Extent
+    requires { ⌜ HasCode piece ⌝ }
+    ensures { λ r. ⌜ r ≡ extentOf piece ⌝ }
+{
+    match piece {
+        Piece::Byte { value: _, width } => Extent { width, size: 1 },
+        Piece::Character { code, width } => Extent {
+            width,
+            size: character::char_width(code),
+        },
+        Piece::Nothing { width } => Extent { width, size: 0 },
+        Piece::Malformed => Extent { width: 0, size: 0 },
+    }
+}
+
+// The extent of the escape whose backslash stands at `at`. It goes by the kind of the escape, as `escape_at` does: what a
+// letter stands for is not looked at, so that all letters are one case.
+fn escape_extent(body: &[u8], at: usize, rules: Rules) -> Extent
+    requires { ⌜ at < length (now body) ⌝ }
+    ensures { λ r. ⌜ IsExtent (escapePieceAt rules (now (body .entry)) at) (now (body .entry)) at r ⌝ }
+{
+    let next = at + 1;
+    if body.len() <= next {
+        return Extent { width: 0, size: 0 };
+    }
+    let escape = escape_of(body[next], rules);
+    match escape {
+        Escape::Simple(_) => Extent { width: 2, size: 1 },
+        Escape::LineBreak => extent_of(line_break_escape(body, at, rules)),
+        Escape::Hex => extent_of(hex_escape(body, at)),
+        Escape::Whitespace => {
+            let skipped = scan::run(body, at + 2, Class::Whitespace);
+            Extent {
+                width: 2 + skipped,
+                size: 0,
+            }
+        }
+        Escape::Decimal => extent_of(decimal_escape(body, at)),
+        Escape::Unicode => extent_of(unicode_escape(body, at, rules)),
+        Escape::Itself => Extent { width: 2, size: 1 },
+        Escape::Undefined => Extent { width: 0, size: 0 },
+    }
+}
+
+fn piece_extent(body: &[u8], at: usize, long: bool, rules: Rules) -> Extent
+    requires { ⌜ at < length (now body) ⌝ }
+    ensures { λ r. ⌜ IsExtent (pieceAt long rules (now (body .entry)) at) (now (body .entry)) at r ⌝ }
+{
+    if long {
+        return extent_of(long_piece(body, at, rules));
+    }
+    if body[at] == b'\\' {
+        return escape_extent(body, at, rules);
+    }
+    Extent { width: 1, size: 1 }
+}
+
 // How many bytes the value has. Blocks of plain bytes are tried for behind every 16 pieces.
 fn measure(body: &[u8], long: bool, rules: Rules) -> Size
     ensures size { λ r. ⌜ r ≡ sizeOf (valueOf long rules (now (body .entry))) ⌝ }
@@ -369,21 +432,12 @@ fn measure(body: &[u8], long: bool, rules: Rules) -> Size
             at += 1;
             continue;
         }
-        let piece = piece_at(body, at, long, rules);
-        match piece {
-            Piece::Byte { value: _, width } => {
-                size += 1;
-                at += width;
-            }
-            Piece::Character { code, width } => {
-                size += character::char_width(code);
-                at += width;
-            }
-            Piece::Nothing { width } => {
-                at += width;
-            }
-            Piece::Malformed => return Size::Malformed,
+        let extent = piece_extent(body, at, long, rules);
+        if extent.width == 0 {
+            return Size::Malformed;
         }
+        size += extent.size;
+        at += extent.width;
     }
     Size::Length(size)
 }

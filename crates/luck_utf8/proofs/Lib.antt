@@ -1,3 +1,7 @@
 pub mod Sequences
 pub mod Parts
 pub mod CodePoints
+pub mod Reading
+pub mod Refused
+pub mod ReadBack
+pub mod Promises

@@ -1,5 +1,5 @@
--- The laws of UTF-8: the row of a first byte, the bytes that follow it, what a well-formed sequence says of its bytes, the walk at a
--- sequence and over a run of ASCII bytes, the character at a place, and the bytes of a character and their stores.
+-- The laws of UTF-8: the row of a first byte, the bytes that follow it, what a well-formed sequence says of its bytes,
+-- the walk at a sequence and over a run of ASCII bytes, and the character at a place.
 -- Assumes nothing.
 use mathlib.Core.Path.{_≡_, refl, sym, ap, _∙_}
 use mathlib.Core.Logic.{⊎-elim}

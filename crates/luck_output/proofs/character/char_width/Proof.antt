@@ -24,11 +24,15 @@ returns-4 c = sym (ap length (four-bytes (c .before .before .before .before .arg
 
 returns-5 : tie.Need-returns-5
 unfolding sixBits
-returns-5 c = sym (ap length (five-bytes (c .before .before .before .before .before .args .code) (omega arith) (omega arith)))
+returns-5 c =
+    let code = c .before .before .before .before .before .args .code in
+    sym (ap length (five-bytes code (omega arith) (omega arith)))
 
 returns-6 : tie.Need-returns-6
 unfolding sixBits
-returns-6 c = sym (ap length (six-bytes (c .before .before .before .before .before .args .code) (omega arith) (omega arith)))
+returns-6 c =
+    let code = c .before .before .before .before .before .args .code in
+    sym (ap length (six-bytes code (omega arith) (omega arith)))
 
 pub char-width-spec : {M : Type 1} → statement M
 char-width-spec =

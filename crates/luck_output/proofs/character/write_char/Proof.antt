@@ -13,7 +13,8 @@ use Rattle.luck_output.proofs.character.write_char.Statement.{statement
 use Rattle.luck_output.proofs.character.write_char.Tie as tie
 
 -- there is room for the bytes, in each branch
-room : (s : tie.Start) {bytes : List ℕ} → utf8Bytes (s .args .code) ≡ bytes → s .args .at + length bytes ≤ length (s .args .output .now)
+room : (s : tie.Start) {bytes : List ℕ} → utf8Bytes (s .args .code) ≡ bytes
+    → s .args .at + length bytes ≤ length (s .args .output .now)
 room s e = rw e at (s .pre .1)
 
 room-one : (c : tie.Then1) → c .before .before .args .at + 1 ≤ length (c .before .before .args .output .now)
@@ -47,7 +48,8 @@ unfolding sixBits
 returns-2 c =
     let s = c .before .before .before .before in
     let e = two-bytes (s .args .code) (c .before .before .if1 .left) (c .before .if2 .taken) in
-    (sym (ap length e), rw (e, c .tail-byte .ensures) (sets-more (s .args .output .now) (s .args .at) 0xC0 0 (s .args .code) refl))
+    let two = sets-more (s .args .output .now) (s .args .at) 0xC0 0 (s .args .code) refl in
+    (sym (ap length e), rw (e, c .tail-byte .ensures) two)
 
 slice-write-output-4 : tie.Need-slice-write-output-4
 slice-write-output-4 c = omega (arith, room-three c)
@@ -73,16 +75,16 @@ returns-3 c =
 
 write-four-requires : tie.Need-write-four-requires
 unfolding sixBits
-write-four-requires c κs = (
-  omega (arith, c .before .if4 .taken),
-  room (c .before .before .before .before .before .before) (four-bytes _ (c .before .before .if3 .left) (c .before .if4 .taken)),
-)
+write-four-requires c κs =
+    let h = c .before .if4 .taken in
+    (omega arith, room (c .before .before .before .before .before .before) (four-bytes _ (c .before .before .if3 .left) h))
 
 returns-4 : tie.Need-returns-4
 unfolding sixBits
 returns-4 c =
     let s = c .before .before .before .before .before .before .before .before .before in
-    let e = four-bytes (s .args .code) (c .before .before .before .before .before .if3 .left) (c .before .before .before .before .if4 .taken) in
+    let l = c .before .before .before .before .before .if3 .left in
+    let e = four-bytes (s .args .code) l (c .before .before .before .before .if4 .taken) in
     (sym (ap length e), rw e (c .before .before .write-four .ensures))
 
 pub write-char-spec : {M : Type 1} → statement M

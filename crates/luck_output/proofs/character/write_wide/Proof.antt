@@ -1,6 +1,6 @@
 -- `luck_output::character::write_wide` meets its contract: four bytes as `write_four` writes them, and one or two more.
 -- Assumes nothing.
-use mathlib.Core.Path.{_≡_, sym, ap}
+use mathlib.Core.Path.{sym, ap}
 use Prim.Native.Nat.{_+_, _/_, _≤_}
 use native.Mathlib.Nat.{div-div-eq-div-mul}
 use native.Mathlib.Omega.{arith}
@@ -31,10 +31,10 @@ returns : tie.Need-returns
 unfolding sixBits
 returns c =
     let s = c .before .before .before .before .before .before .before in
-    let e = five-bytes (s .args .code) (s .pre .0) (c .before .before .before .before .before .if1 .taken) in (
-      sym (ap length e),
-      rw (e, c .tail-byte .ensures) (sets-more (s .args .output .now) (s .args .at) 0xF8 3 (s .args .code) (c .before .before .before .write-four .ensures)),
-    )
+    let code = s .args .code in
+    let e = five-bytes code (s .pre .0) (c .before .before .before .before .before .if1 .taken) in
+    let four = c .before .before .before .write-four .ensures in
+    (sym (ap length e), rw (e, c .tail-byte .ensures) (sets-more (s .args .output .now) (s .args .at) 0xF8 3 code four))
 
 write-four-requires-2 : tie.Need-write-four-requires-2
 write-four-requires-2 c κs = (omega (arith, c .before .before .before .pre .1), omega (arith, room-six (c .before)))
@@ -53,9 +53,10 @@ returns-2 c =
     let at = s .args .at in
     let code = s .args .code in
     let e = six-bytes code (c .before .before .before .before .before .before .if1 .left) (s .pre .1) in
-    let four = rw (← div-div-eq-div-mul code 0x40 0x40) at (c .before .before .before .before .write-four2 .ensures) in (
+    let four = c .before .before .before .before .write-four2 .ensures in
+    let five = sets-more o at 0xFC 3 (code / 0x40) (rw (← div-div-eq-div-mul code 0x40 0x40) at four) in (
       sym (ap length e),
-      rw (e, c .before .tail-byte2 .ensures, c .tail-byte3 .ensures) (sets-more o at 0xFC 4 code (sets-more o at 0xFC 3 (code / 0x40) four)),
+      rw (e, c .before .tail-byte2 .ensures, c .tail-byte3 .ensures) (sets-more o at 0xFC 4 code five),
     )
 
 pub write-wide-spec : {M : Type 1} → statement M
