@@ -24,6 +24,7 @@ use Rattle.luck_token.specs.Literal.{
   malformed,
   longPiece,
   escapeKind,
+  simpleEscape,
   lineBreakEscape,
   hexEscape,
   whitespaceEscape,
@@ -91,7 +92,7 @@ module _ (body : List ℕ) (p : ℕ) (h : p < length body) where
 
   escape-small : (rules : Rules) (escape : Escape) → Small body p (escapePiece rules escape body p)
   unfolding escapePiece lineBreakEscape whitespaceEscape
-  escape-small rules (Simple b) = one-byte b 2 (omega arith)
+  escape-small rules Simple = one-byte (simpleEscape (byteAt body (p + 1))) 2 (omega arith)
   escape-small rules LineBreak = one-byte 10 _ (omega arith)
   escape-small rules Hex = hex-small
   escape-small rules Whitespace = (omega arith, omega arith)

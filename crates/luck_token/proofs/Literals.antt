@@ -10,7 +10,7 @@ use lib.Seq.{take-all}
 use lib.Dec.{eqb, leb}
 use borrow.Author.Tests.{lt-ltb, le-ltb, le-leb, lt-leb, eq-eqb, ne-eqb, leb-true, eqb-false, not-true}
 use mathlib.Core.Logic.{inl, ⊎-elim}
-use Rattle.luck_text.specs.Bytes.{if_then_else_, byteAt, between, part, isDigit, isXdigit, run, digitValue, numeralFrom, numeral}
+use Rattle.luck_text.specs.Bytes.{if_then_else_, byteAt, between, among, part, isDigit, isXdigit, run, digitValue, numeralFrom, numeral}
 use Rattle.luck_utf8.specs.Utf8.{lastCode, isChar, utf8Bytes}
 use Rattle.luck_token.specs.Whitespace.{lineBreak, stripLineBreak}
 use Rattle.luck_text.specs.Scan.{most}
@@ -64,7 +64,7 @@ both-quotes raw e =
 
 module _ (rules : Rules) (b : ℕ) where
   pub decimal-escape : 48 ≤ b → b ≤ 57 → Decimal ≡ escapeKind rules b
-  unfolding escapeKind if_then_else_ isDigit
+  unfolding escapeKind among if_then_else_ isDigit
   decimal-escape l h =
       rw (
         ne-eqb b 97 (λ e. absurd (omega arith)),

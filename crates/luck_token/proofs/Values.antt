@@ -16,7 +16,7 @@ use Rattle.luck_text.specs.Bytes.{if_then_else_, byteAt, part}
 use Rattle.luck_text.specs.Walk.{Turn, walkFrom}
 use Rattle.luck_text.specs.Walk.Turn.{stop}
 use Rattle.luck_token.specs.Version.{isVersion, rulesOf}
-use Rattle.luck_utf8.specs.Utf8.{utf8Bytes, illFormed}
+use Rattle.luck_utf8.specs.Utf8.{illFormed}
 use Rattle.luck_token.specs.Whitespace.{lineBreak, stripLineBreak}
 use Rattle.luck_token.specs.Literal.{
   LiteralPiece,
@@ -36,18 +36,16 @@ use Rattle.luck_token.specs.Literal.{
 }
 use Rattle.luck_token.specs.Decode.{refused, withRoom, decodeString, decodingOf, numbered, outputOf}
 use Rattle.luck_token.proofs.Texts.{text-fine, text-ill-formed, text-unknown-version}
-use Rattle.luck_token.specs.Inner.{IsPiece, LiesInText, HasCode, extentOf, IsExtent, sizeOf, plain, SizeWithin, Written}
+use Rattle.luck_token.specs.Inner.{IsPiece, LiesInText, sizeOf, plain, SizeWithin, Written}
 use Rattle.luck_output.specs.Output.{stores}
 use Rattle.luck_token.specs.declared.version.Rules.{Rules}
 use Rattle.luck_token.specs.declared.string.Piece.{Piece as Found}
-use Rattle.luck_token.specs.declared.string.Piece.the-variants.{Byte, Character, Nothing, Malformed}
-use Rattle.luck_token.specs.declared.string.Extent.{Extent}
 use Rattle.luck_token.specs.declared.string.Size.{Size}
 use Rattle.luck_token.specs.declared.string.Size.the-variants as size
 use Rattle.luck_token.specs.declared.string.Decoded.the-variants as decoded
 use Rattle.luck_text.proofs.Cases.{by-test, if-true, if-false, and-left}
 use Rattle.luck_output.proofs.Outputs.{stores-fit, part-length}
-use Rattle.luck_token.proofs.Literals.{plain-is, as-piece, quoted}
+use Rattle.luck_token.proofs.Literals.{plain-is, quoted}
 use Rattle.luck_text.proofs.Walk.{walk-end, walk-stop, walk-goes, walk-related}
 
 -- ---- The walk over the pieces
@@ -165,48 +163,7 @@ module _ (output : List ℕ) (p : ℕ) (bytes : List ℕ) where
   unfolding stores
   stores-nothing e = rw e (by-test (λ (l : List ℕ). output ≡ l) (leb (p + 0) (length output)) output output (λ _. refl) (λ _. refl))
 
--- ---- Extents
-
--- a character that was found has bytes
-pub has-code : {wanted : LiteralPiece} {body : List ℕ} {p : ℕ} (found : Found) → IsPiece wanted body p found → HasCode found
-has-code (Byte b width) t = tt
-has-code (Character c width) t = t .inside .0
-has-code (Nothing width) t = tt
-has-code Malformed t = tt
-
--- of a piece that is not malformed: its bytes, of the extent's size and width
-pub record Lies (wanted : LiteralPiece) (body : List ℕ) (p : ℕ) (extent : Extent) : Type 0 where
-  pub bytes : List ℕ
-  pub is : piece bytes (extent .width) ≡ wanted
-  pub number : extent .size ≡ length bytes
-  pub inside : LiesInText 1 (extent .width) p (length body)
-  pub no-more : extent .size ≤ extent .width
-
-module _ {wanted : LiteralPiece} {body : List ℕ} {p : ℕ} where
-  lies : (found : Found) → IsPiece wanted body p found → (extentOf found .width ≡ 0 → ⊥) → Lies wanted body p (extentOf found)
-  lies (Byte b width) t h = record { bytes = b ∷ []; is = t .is; number = refl; inside = t .inside; no-more = t .inside .0 }
-  lies (Character c width) t h = record { bytes = utf8Bytes c; is = t .is; number = refl; inside = t .inside .2; no-more = t .inside .1 }
-  lies (Nothing width) t h = record { bytes = []; is = t .is; number = refl; inside = t .inside; no-more = omega arith }
-  lies Malformed t h = absurd (h refl)
-
-  pub extent-lies : (extent : Extent) → IsExtent wanted body p extent → (extent .width ≡ 0 → ⊥) → Lies wanted body p extent
-  extent-lies extent e h = subst (Lies wanted body p) (sym (e .2)) (lies (e .0) (e .1) (λ z. h (ap (λ (x : Extent). x .width) (e .2) ∙ z)))
-
-  empty : (found : Found) → IsPiece wanted body p found → extentOf found .width ≡ 0 → malformed ≡ wanted
-  empty (Byte b width) t z = absurd (omega (arith, t .inside .0))
-  empty (Character c width) t z = absurd (omega (arith, t .inside .2 .0))
-  empty (Nothing width) t z = absurd (omega (arith, t .inside .0))
-  empty Malformed t z = t .is
-
-  pub extent-empty : (extent : Extent) → IsExtent wanted body p extent → extent .width ≡ 0 → malformed ≡ wanted
-  extent-empty extent e z = empty (e .0) (e .1) (sym (ap (λ (x : Extent). x .width) (e .2)) ∙ z)
-
-  -- it is the extent of another piece that is the same
-  pub as-extent : {other : LiteralPiece} (extent : Extent) → other ≡ wanted → IsExtent other body p extent → IsExtent wanted body p extent
-  as-extent extent q e = (e .0, as-piece _ _ q (e .1), e .2)
-
--- ---- The loops: the bytes so far, from which the walk on gives the whole value. Measuring keeps their number, writing an output that holds all of
--- them if they fit.
+-- ---- The loop: the bytes so far, from which the walk on gives the whole value, and of which the output holds all if they fit
 
 pub record Read (long : Bool) (rules : Rules) (body : List ℕ) (at n : ℕ) (before : List ℕ) : Type 0 where
   pub number : n ≡ length before
@@ -244,18 +201,6 @@ module _ (long : Bool) (rules : Rules) (body : List ℕ) where
 
     pub read-bad : malformed ≡ pieceAt long rules body at → at < length body → none ≡ valueOf long rules body
     read-bad q l = bad long rules body at before (valueOf long rules body) (read .rest) q l
-
-  -- of the bytes so far the loops know their number only
-  abbrev pub Measured : ℕ → ℕ → Type 0
-  Measured at n = (before : List ℕ) × Read long rules body at n before
-
-  module _ (at n : ℕ) (m : Measured at n) where
-    pub measured-piece : (bytes : List ℕ) (width k : ℕ) → k ≡ length bytes → piece bytes width ≡ pieceAt long rules body at → LiesInText 1 width at (length body) → k ≤ width
-        → Measured (at + width) (n + k)
-    measured-piece bytes width k q e l s = (m .0 ++ bytes, read-piece at n (m .0) (m .1) bytes width k q e l s)
-
-    pub measured-part : (end : ℕ) → at ≤ end → end ≤ length body → ((j : ℕ) → at ≤ j → j < end → plain long body j ≡ true) → Measured end (n + (end - at))
-    measured-part end l i f = (m .0 ++ part body at end, read-part at n (m .0) (m .1) end l i f)
 
   abbrev pub Kept : List ℕ → List ℕ → ℕ → ℕ → Type 0
   Kept output₀ output at n = (before : List ℕ) × Read long rules body at n before × Holds before output₀ output

@@ -14,7 +14,8 @@ unfolding
     Text.afterVersion Text.afterUtf8 Text.afterText
     Whitespace.lineBreak Whitespace.stripLineBreak
     Literal.isShort Literal.shortStringBody Literal.equals Literal.bracketAt Literal.bracketWidth
-    Literal.longStringBody Literal.longPiece Literal.otherEscape Literal.escapeKind Literal.lineBreakEscape
+    Literal.longStringBody Literal.longPiece Literal.otherEscape Literal.escapeKind Literal.simpleEscape
+    Literal.lineBreakEscape
     Literal.hexEscape Literal.whitespaceEscape Literal.decimalEscape Literal.allowsDigits Literal.allowsValue
     Literal.allowsCodePoint Literal.unicodeEscape Literal.escapePiece Literal.escapePieceAt Literal.shortPiece
     Literal.pieceAt Literal.pieceTurn Literal.wholeValue Literal.valueOf Literal.literalValue

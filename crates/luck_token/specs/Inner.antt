@@ -10,15 +10,15 @@ use lib.ListN.{length}
 use lib.Dec.{eqb}
 use Rattle.luck_text.specs.Bytes.{byteAt, inFront}
 use Rattle.luck_utf8.specs.Utf8.{lastCode, utf8Bytes}
-use Rattle.luck_token.specs.Literal.{LiteralPiece, piece, malformed}
+use Rattle.luck_token.specs.Literal.{LiteralPiece, piece, malformed, simpleEscape}
 use Rattle.luck_token.specs.declared.string.Piece.{Piece as Found}
-use Rattle.luck_token.specs.declared.string.Piece.the-variants.{Byte, Character, Nothing, Malformed}
-use Rattle.luck_token.specs.declared.string.Extent.{Extent}
+use Rattle.luck_token.specs.declared.string.Piece.the-variants.{Letter, Byte, Character, Nothing, Malformed}
 use Rattle.luck_token.specs.declared.string.Size.{Size}
 use Rattle.luck_token.specs.declared.string.Size.the-variants as size
 
 -- the code's piece
 abbrev pub pieceOf : Found → LiteralPiece
+pieceOf (Letter e) = piece (simpleEscape e ∷ []) 2
 pieceOf (Byte b width) = piece (b ∷ []) width
 pieceOf (Character c width) = piece (utf8Bytes c) width
 pieceOf (Nothing width) = piece [] width
@@ -29,6 +29,7 @@ abbrev pub LiesInText : ℕ → ℕ → ℕ → ℕ → Type 0
 LiesInText least width p len = (least ≤ width) × (p + width ≤ len)
 
 abbrev pub Inside : Found → ℕ → ℕ → Type 0
+Inside (Letter e) p len = LiesInText 1 2 p len
 Inside (Byte b width) p len = LiesInText 1 width p len
 Inside (Character c width) p len = (c ≤ lastCode) × (length (utf8Bytes c) ≤ width) × LiesInText 1 width p len
 Inside (Nothing width) p len = LiesInText 1 width p len
@@ -38,24 +39,6 @@ Inside Malformed p len = Unit {0}
 pub record IsPiece (wanted : LiteralPiece) (body : List ℕ) (p : ℕ) (found : Found) : Type 0 where
   pub is : pieceOf found ≡ wanted
   pub inside : Inside found p (length body)
-
--- how many bytes of the text the code's piece takes, 0 where it is malformed, and how many bytes it stands for
-abbrev pub extentOf : Found → Extent
-extentOf (Byte b width) = record { width = width; size = 1 }
-extentOf (Character c width) = record { width = width; size = length (utf8Bytes c) }
-extentOf (Nothing width) = record { width = width; size = 0 }
-extentOf Malformed = record { width = 0; size = 0 }
-
--- a character's code point has bytes
-abbrev pub HasCode : Found → Type 0
-HasCode (Byte b width) = Unit {0}
-HasCode (Character c width) = c ≤ lastCode
-HasCode (Nothing width) = Unit {0}
-HasCode Malformed = Unit {0}
-
--- the extent is that of the piece at place p
-abbrev pub IsExtent : LiteralPiece → List ℕ → ℕ → Extent → Type 0
-IsExtent wanted body p extent = (found : Found) × IsPiece wanted body p found × (extent ≡ extentOf found)
 
 abbrev pub sizeOf : Option (List ℕ) → Size
 sizeOf none = size.Malformed

@@ -10,7 +10,18 @@ use mathlib.Core.List.{List, [], _∷_, _++_}
 use mathlib.Core.Option.{Option, none, some}
 use lib.ListN.{length, drop}
 use lib.Dec.{eqb, leb, ltb}
-use Rattle.luck_text.specs.Bytes.{if_then_else_, byteAt, part, isDigit, isXdigit, isLuaWhitespace, run, numeral}
+use Rattle.luck_text.specs.Bytes.{
+  if_then_else_,
+  ascii,
+  byteAt,
+  part,
+  among,
+  isDigit,
+  isXdigit,
+  isLuaWhitespace,
+  run,
+  numeral,
+}
 use Rattle.luck_text.specs.Walk.{Turn, stop, goes, walkFrom}
 use Rattle.luck_utf8.specs.Utf8.{lastCode, isChar, utf8Bytes}
 use Rattle.luck_token.specs.Whitespace.{lineBreak, stripLineBreak}
@@ -84,25 +95,28 @@ longPiece lfcr body p =
 unfoldable pub otherEscape : Rules → Escape
 otherEscape rules = if rules .«strict_escapes» then Undefined else Itself
 
--- what the byte after a backslash begins. The code's enum Escape: Simple (the byte that it stands for), LineBreak, Hex
--- `\xXX`, Whitespace `\z`, Decimal `\ddd`, Unicode `\u{XXX}`, Itself (the byte stands for itself), Undefined. 07, 08,
--- 0C and 0B are BEL, BS, FF and VT.
+-- what the byte after a backslash begins. The code's enum Escape: Simple (one letter for one byte), LineBreak, Hex
+-- `\xXX`, Whitespace `\z`, Decimal `\ddd`, Unicode `\u{XXX}`, Itself (the byte stands for itself), Undefined.
 unfoldable pub escapeKind : Rules → ℕ → Escape
 escapeKind rules e =
-    if eqb e (code "a") then Simple 0x07
-    else if eqb e (code "b") then Simple 0x08
-    else if eqb e (code "f") then Simple 0x0C
-    else if eqb e (code "n") then Simple (code "\n")
-    else if eqb e (code "r") then Simple (code "\r")
-    else if eqb e (code "t") then Simple (code "\t")
-    else if eqb e (code "v") then Simple 0x0B
-    else if eqb e (code "\\") || eqb e (code "\"") || eqb e (code "'") then Simple e
+    if among e (ascii "abfnrtv\\\"'") then Simple
     else if eqb e (code "\n") || eqb e (code "\r") then LineBreak
     else if isDigit e then Decimal
     else if eqb e (code "x") && rules .«hex_escape» then Hex
     else if eqb e (code "z") && rules .«hex_escape» then Whitespace
     else if eqb e (code "u") && rules .«unicode_escape» then Unicode
     else otherEscape rules
+
+-- the byte of an escape of one letter: BEL, BS, FF, LF, CR, HT and VT; a backslash or a quote is itself
+unfoldable pub simpleEscape : ℕ → ℕ
+simpleEscape e =
+    if eqb e (code "a") then 0x07
+    else if eqb e (code "b") then 0x08
+    else if eqb e (code "f") then 0x0C
+    else if eqb e (code "n") then 0x0A
+    else if eqb e (code "r") then 0x0D
+    else if eqb e (code "t") then 0x09
+    else if eqb e (code "v") then 0x0B else e
 
 -- `\` and a line break is a newline. A lone CR counts here in Luau too.
 unfoldable pub lineBreakEscape : Bool → List ℕ → ℕ → LiteralPiece
@@ -149,7 +163,7 @@ unicodeEscape rules body p =
 
 -- the escape whose backslash stands at place p
 unfoldable pub escapePiece : Rules → Escape → List ℕ → ℕ → LiteralPiece
-escapePiece rules (Simple b) body p = piece (b ∷ []) 2
+escapePiece rules Simple body p = piece (simpleEscape (byteAt body (p + 1)) ∷ []) 2
 escapePiece rules LineBreak body p = lineBreakEscape (rules .«lfcr_line_break») body p
 escapePiece rules Hex body p = hexEscape body p
 escapePiece rules Whitespace body p = whitespaceEscape body p

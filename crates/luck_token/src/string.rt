@@ -1,14 +1,16 @@
 // String literals: the text between the quotes, and the value.
 ghost use mathlib.Core.Path.{_≡_};
 ghost use mathlib.Core.Bool.{true, false};
+ghost use mathlib.Core.List.{[], _∷_};
 ghost use mathlib.Core.Option.{some};
 ghost use Prim.Native.Nat.{ℕ, _+_, _-_, _<_, _≤_};
 ghost use lib.ListN.{length};
 ghost use Rattle.luck_text.specs.Bytes.{part};
+ghost use Rattle.luck_output.specs.Output.{stores};
 ghost use Rattle.luck_token.specs.Whitespace.{stripLineBreak};
-ghost use Rattle.luck_token.specs.Literal.{isShort, shortStringBody, placesOf, bracketAt, bracketWidth, otherEscape, escapeKind, lineBreakEscape, hexEscape, decimalEscape, allowsDigits, allowsValue, allowsCodePoint, unicodeEscape, escapePieceAt, longPiece, pieceAt, valueOf, literalValue};
+ghost use Rattle.luck_token.specs.Literal.{isShort, shortStringBody, placesOf, bracketAt, bracketWidth, otherEscape, escapeKind, simpleEscape, lineBreakEscape, hexEscape, decimalEscape, allowsDigits, allowsValue, allowsCodePoint, unicodeEscape, escapePieceAt, longPiece, pieceAt, valueOf, literalValue};
 ghost use Rattle.luck_token.specs.Decode.{withRoom, decodeString, decodingOf, numbered, outputOf};
-ghost use Rattle.luck_token.specs.Inner.{IsPiece, HasCode, extentOf, IsExtent, sizeOf, plain, SizeWithin, Written};
+ghost use Rattle.luck_token.specs.Inner.{IsPiece, sizeOf, plain, SizeWithin, Written};
 use crate::version;
 use crate::version::Rules;
 use crate::whitespace;
@@ -57,8 +59,8 @@ pub fn short_string_body(raw: &[u8]) -> ShortString
 
 // What the byte after a backslash begins.
 pub enum Escape {
-    // an escape of one letter, for this byte
-    Simple(u8),
+    // one letter for one byte
+    Simple,
     LineBreak,
     // `\xXX`
     Hex,
@@ -75,6 +77,8 @@ pub enum Escape {
 
 // A piece of the text, its width, and what it stands for.
 pub enum Piece {
+    // an escape of one letter: what it stands for is looked up where it is written
+    Letter(u8),
     Byte { value: u8, width: usize },
     Character { code: u32, width: usize },
     Nothing { width: usize },
@@ -95,16 +99,16 @@ fn escape_of(byte: u8, rules: Rules) -> Escape
     ensures { λ r. ⌜ r ≡ escapeKind rules byte ⌝ }
 {
     match byte {
-        b'a' => Escape::Simple(0x07),
-        b'b' => Escape::Simple(0x08),
-        b'f' => Escape::Simple(0x0C),
-        b'n' => Escape::Simple(b'\n'),
-        b'r' => Escape::Simple(b'\r'),
-        b't' => Escape::Simple(b'\t'),
-        b'v' => Escape::Simple(0x0B),
-        b'\\' => Escape::Simple(b'\\'),
-        b'"' => Escape::Simple(b'"'),
-        b'\'' => Escape::Simple(b'\''),
+        b'a' => Escape::Simple,
+        b'b' => Escape::Simple,
+        b'f' => Escape::Simple,
+        b'n' => Escape::Simple,
+        b'r' => Escape::Simple,
+        b't' => Escape::Simple,
+        b'v' => Escape::Simple,
+        b'\\' => Escape::Simple,
+        b'"' => Escape::Simple,
+        b'\'' => Escape::Simple,
         b'\n' => Escape::LineBreak,
         b'\r' => Escape::LineBreak,
         b'x' => {
@@ -127,6 +131,22 @@ fn escape_of(byte: u8, rules: Rules) -> Escape
         }
         b'0'..=b'9' => Escape::Decimal,
         _ => other_escape(rules),
+    }
+}
+
+// The byte of an escape of one letter. A backslash or a quote is itself.
+fn simple_escape(byte: u8) -> u8
+    ensures { λ r. ⌜ r ≡ simpleEscape byte ⌝ }
+{
+    match byte {
+        b'a' => 0x07,
+        b'b' => 0x08,
+        b'f' => 0x0C,
+        b'n' => b'\n',
+        b'r' => b'\r',
+        b't' => b'\t',
+        b'v' => 0x0B,
+        _ => byte,
     }
 }
 
@@ -251,7 +271,7 @@ fn escape_at(body: &[u8], at: usize, rules: Rules) -> Piece
     let byte = body[next];
     let escape = escape_of(byte, rules);
     match escape {
-        Escape::Simple(value) => Piece::Byte { value, width: 2 },
+        Escape::Simple => Piece::Letter(byte),
         Escape::LineBreak => line_break_escape(body, at, rules),
         Escape::Hex => hex_escape(body, at),
         Escape::Whitespace => {
@@ -348,101 +368,17 @@ pub enum Size {
     Malformed,
 }
 
-// How many bytes of the text a piece takes, 0 where it is malformed, and how many bytes it stands for.
-struct Extent {
-    width: usize,
-    size: usize,
-}
-
-fn extent_of(piece: Piece) -> Extent
-    requires { ⌜ HasCode piece ⌝ }
-    ensures { λ r. ⌜ r ≡ extentOf piece ⌝ }
+// Writes the byte of an escape of one letter at `at`, where it fits.
+fn put_simple(output: &mut [u8], at: usize, letter: u8)
+    ensures { λ r. ⌜ now (output .exit) ≡ stores (now (output .entry)) at (simpleEscape letter ∷ []) ⌝ }
 {
-    match piece {
-        Piece::Byte { value: _, width } => Extent { width, size: 1 },
-        Piece::Character { code, width } => Extent {
-            width,
-            size: character::char_width(code),
-        },
-        Piece::Nothing { width } => Extent { width, size: 0 },
-        Piece::Malformed => Extent { width: 0, size: 0 },
+    if at < output.len() {
+        output[at] = simple_escape(letter);
     }
 }
 
-// The extent of the escape whose backslash stands at `at`. It goes by the kind of the escape, as `escape_at` does: what a
-// letter stands for is not looked at, so that all letters are one case.
-fn escape_extent(body: &[u8], at: usize, rules: Rules) -> Extent
-    requires { ⌜ at < length (now body) ⌝ }
-    ensures { λ r. ⌜ IsExtent (escapePieceAt rules (now (body .entry)) at) (now (body .entry)) at r ⌝ }
-{
-    let next = at + 1;
-    if body.len() <= next {
-        return Extent { width: 0, size: 0 };
-    }
-    let escape = escape_of(body[next], rules);
-    match escape {
-        Escape::Simple(_) => Extent { width: 2, size: 1 },
-        Escape::LineBreak => extent_of(line_break_escape(body, at, rules)),
-        Escape::Hex => extent_of(hex_escape(body, at)),
-        Escape::Whitespace => {
-            let skipped = scan::run(body, at + 2, Class::Whitespace);
-            Extent {
-                width: 2 + skipped,
-                size: 0,
-            }
-        }
-        Escape::Decimal => extent_of(decimal_escape(body, at)),
-        Escape::Unicode => extent_of(unicode_escape(body, at, rules)),
-        Escape::Itself => Extent { width: 2, size: 1 },
-        Escape::Undefined => Extent { width: 0, size: 0 },
-    }
-}
-
-fn piece_extent(body: &[u8], at: usize, long: bool, rules: Rules) -> Extent
-    requires { ⌜ at < length (now body) ⌝ }
-    ensures { λ r. ⌜ IsExtent (pieceAt long rules (now (body .entry)) at) (now (body .entry)) at r ⌝ }
-{
-    if long {
-        return extent_of(long_piece(body, at, rules));
-    }
-    if body[at] == b'\\' {
-        return escape_extent(body, at, rules);
-    }
-    Extent { width: 1, size: 1 }
-}
-
-// How many bytes the value has. Blocks of plain bytes are tried for behind every 16 pieces.
-fn measure(body: &[u8], long: bool, rules: Rules) -> Size
-    ensures size { λ r. ⌜ r ≡ sizeOf (valueOf long rules (now (body .entry))) ⌝ }
-{
-    let mut at = 0;
-    let mut size = 0;
-    let mut singles: u32 = 0;
-    while at < body.len() {
-        if singles == 0 {
-            singles = 16;
-            let end = plain_blocks(body, at, long);
-            size += end - at;
-            at = end;
-            continue;
-        }
-        singles -= 1;
-        if is_plain(body, at, long) {
-            size += 1;
-            at += 1;
-            continue;
-        }
-        let extent = piece_extent(body, at, long, rules);
-        if extent.width == 0 {
-            return Size::Malformed;
-        }
-        size += extent.size;
-        at += extent.width;
-    }
-    Size::Length(size)
-}
-
-// The same, and the value is written to the front of an output that has room for it.
+// Answers how many bytes the value has, and writes it to the front of an output that has room for it. Blocks of plain bytes
+// are tried for behind every 16 pieces.
 fn write(body: &[u8], long: bool, rules: Rules, output: &mut [u8]) -> Size
     ensures size { λ r. ⌜ r ≡ sizeOf (valueOf long rules (now (body .entry))) ⌝ }
     ensures within { λ r. ⌜ SizeWithin r (length (now (body .entry))) ⌝ }
@@ -469,6 +405,11 @@ fn write(body: &[u8], long: bool, rules: Rules, output: &mut [u8]) -> Size
         }
         let piece = piece_at(body, at, long, rules);
         match piece {
+            Piece::Letter(letter) => {
+                put_simple(output, size, letter);
+                size += 1;
+                at += 2;
+            }
             Piece::Byte { value, width } => {
                 output::put_byte(output, size, value);
                 size += 1;
@@ -522,9 +463,8 @@ fn decode_long(body: &[u8], long: bool, rules: Rules, output: &mut [u8]) -> Deco
     }
 }
 
-// A body of up to 64 bytes is read once, into a buffer: a refusal leaves the output untouched.
-fn decode_buffered(body: &[u8], long: bool, rules: Rules, output: &mut [u8]) -> Decoded
-    requires { ⌜ length (now body) ≤ 64 ⌝ }
+// A value of up to 64 bytes is read once, into a buffer. Any other is measured first: a refusal leaves the output untouched.
+fn decode_pieces(body: &[u8], long: bool, rules: Rules, output: &mut [u8]) -> Decoded
     ensures answer { λ r. ⌜ numbered r ≡ decodingOf (withRoom (length (now (output .entry))) (valueOf long rules (now (body .entry)))) ⌝ }
     ensures output { λ r. ⌜ now (output .exit) ≡ outputOf (withRoom (length (now (output .entry))) (valueOf long rules (now (body .entry)))) (now (output .entry)) ⌝ }
 {
@@ -536,26 +476,9 @@ fn decode_buffered(body: &[u8], long: bool, rules: Rules, output: &mut [u8]) -> 
             if output.len() < n {
                 return Decoded::OutputTooShort;
             }
-            output::copy(&buffer, 0, n, output, 0);
-            Decoded::Value(n)
-        }
-    }
-}
-
-// A longer one is measured first, and then written.
-fn decode_pieces(body: &[u8], long: bool, rules: Rules, output: &mut [u8]) -> Decoded
-    ensures answer { λ r. ⌜ numbered r ≡ decodingOf (withRoom (length (now (output .entry))) (valueOf long rules (now (body .entry)))) ⌝ }
-    ensures output { λ r. ⌜ now (output .exit) ≡ outputOf (withRoom (length (now (output .entry))) (valueOf long rules (now (body .entry)))) (now (output .entry)) ⌝ }
-{
-    if body.len() <= 64 {
-        return decode_buffered(body, long, rules, output);
-    }
-    let size = measure(body, long, rules);
-    match size {
-        Size::Malformed => Decoded::Undecodable,
-        Size::Length(n) => {
-            if output.len() < n {
-                return Decoded::OutputTooShort;
+            if n <= 64 {
+                output::copy(&buffer, 0, n, output, 0);
+                return Decoded::Value(n);
             }
             write(body, long, rules, output);
             Decoded::Value(n)

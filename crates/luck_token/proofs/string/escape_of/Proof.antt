@@ -4,7 +4,7 @@ use native.Mathlib.Omega.{arith}
 use borrow.Author.Tests.{ne-eqb}
 use mathlib.Core.Bool.{false}
 use mathlib.Core.Logic.{⊎-elim}
-use Rattle.luck_text.specs.Bytes.{if_then_else_, between, isDigit}
+use Rattle.luck_text.specs.Bytes.{if_then_else_, between, among, isDigit}
 use Rattle.luck_token.specs.Literal.{escapeKind}
 use Rattle.luck_text.proofs.Bytes.{below, above}
 use Rattle.luck_token.proofs.Literals.{decimal-escape}
@@ -13,82 +13,82 @@ use Rattle.luck_token.proofs.string.escape_of.Statement.{statement}
 use Rattle.luck_token.proofs.string.escape_of.Tie as tie
 
 returns : tie.Need-returns
-unfolding escapeKind if_then_else_ isDigit
+unfolding escapeKind among if_then_else_ isDigit
 returns c = rw (c .before .match .keys13, c .if1 .taken)
 
 returns-2 : tie.Need-returns-2
-unfolding escapeKind if_then_else_ isDigit
+unfolding escapeKind among if_then_else_ isDigit
 returns-2 c = rw (c .before .match .keys14, c .if2 .taken)
 
 returns-3 : tie.Need-returns-3
-unfolding escapeKind if_then_else_ isDigit
+unfolding escapeKind among if_then_else_ isDigit
 returns-3 c = rw (c .before .match .keys15, c .if3 .taken)
 
 returns-4 : tie.Need-returns-4
-unfolding escapeKind if_then_else_
+unfolding escapeKind among if_then_else_
 returns-4 c = rw (c .match .keys1)
 
 returns-5 : tie.Need-returns-5
-unfolding escapeKind if_then_else_
+unfolding escapeKind among if_then_else_
 returns-5 c = rw (c .match .keys2)
 
 returns-6 : tie.Need-returns-6
-unfolding escapeKind if_then_else_
+unfolding escapeKind among if_then_else_
 returns-6 c = rw (c .match .keys3)
 
 returns-7 : tie.Need-returns-7
-unfolding escapeKind if_then_else_
+unfolding escapeKind among if_then_else_
 returns-7 c = rw (c .match .keys4)
 
 returns-8 : tie.Need-returns-8
-unfolding escapeKind if_then_else_
+unfolding escapeKind among if_then_else_
 returns-8 c = rw (c .match .keys5)
 
 returns-9 : tie.Need-returns-9
-unfolding escapeKind if_then_else_
+unfolding escapeKind among if_then_else_
 returns-9 c = rw (c .match .keys6)
 
 returns-10 : tie.Need-returns-10
-unfolding escapeKind if_then_else_
+unfolding escapeKind among if_then_else_
 returns-10 c = rw (c .match .keys7)
 
 returns-11 : tie.Need-returns-11
-unfolding escapeKind if_then_else_
+unfolding escapeKind among if_then_else_
 returns-11 c = rw (c .match .keys8)
 
 returns-12 : tie.Need-returns-12
-unfolding escapeKind if_then_else_
+unfolding escapeKind among if_then_else_
 returns-12 c = rw (c .match .keys9)
 
 returns-13 : tie.Need-returns-13
-unfolding escapeKind if_then_else_
+unfolding escapeKind among if_then_else_
 returns-13 c = rw (c .match .keys10)
 
 returns-14 : tie.Need-returns-14
-unfolding escapeKind if_then_else_
+unfolding escapeKind among if_then_else_
 returns-14 c = rw (c .match .keys11)
 
 returns-15 : tie.Need-returns-15
-unfolding escapeKind if_then_else_
+unfolding escapeKind among if_then_else_
 returns-15 c = rw (c .match .keys12)
 
 returns-16 : tie.Need-returns-16
-unfolding escapeKind if_then_else_ isDigit
+unfolding escapeKind among if_then_else_ isDigit
 returns-16 c = c .other-escape .ensures ∙ rw (c .before .before .match .keys13, c .before .if1 .left)
 
 returns-17 : tie.Need-returns-17
-unfolding escapeKind if_then_else_ isDigit
+unfolding escapeKind among if_then_else_ isDigit
 returns-17 c = c .other-escape2 .ensures ∙ rw (c .before .before .match .keys14, c .before .if2 .left)
 
 returns-18 : tie.Need-returns-18
-unfolding escapeKind if_then_else_ isDigit
+unfolding escapeKind among if_then_else_ isDigit
 returns-18 c = c .other-escape3 .ensures ∙ rw (c .before .before .match .keys15, c .before .if3 .left)
 
 returns-19 : tie.Need-returns-19
 returns-19 c = decimal-escape (c .before .before .before .args .rules) (c .before .before .before .args .byte) (omega arith) (omega arith)
 
 returns-20 : tie.Need-returns-20
-unfolding escapeKind if_then_else_ isDigit
+unfolding escapeKind among if_then_else_ isDigit
 returns-20 c =
     let x = c .before .before .before .args .byte in
     let w = c .before .before .match .rest in

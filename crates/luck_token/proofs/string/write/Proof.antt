@@ -93,41 +93,55 @@ loop-less-3 c = omega (arith, seen (c .before .before .before .before .before .b
 loop-again-3 : tie.Need-loop-again-3 Inv-loop μ-loop
 loop-again-3 c =
     let t = seen (c .before .before .before .before .before .before .before) (c .before .before .before .before .before .piece .given .1) in
-    piece-put (c .before .before .before .before .before .before .before .before .before .before .before .before) _ _ _ 1 refl (t .is) (t .inside) (t .inside .0) (c .before .before .put-byte2 .ensures)
-
-put-char-requires : tie.Need-put-char-requires Inv-loop μ-loop
-put-char-requires c κs = seen (c .before .before .before .before) (c .before .before .piece2 .given .1) .inside .0
+    piece-put (c .before .before .before .before .before .before .before .before .before .before .before .before) _ _ 2 1 refl (t .is) (t .inside) (omega arith) (c .before .before .put-simple .ensures)
 
 add-size-4 : tie.Need-add-size-4 Inv-loop μ-loop
-add-size-4 c =
-    let t = seen (c .before .before .before .before .before .before .before) (c .before .before .before .before .before .piece2 .given .1) .inside in
-    omega (arith, c .before .before .before .before .before .before .before .before .before .before .before .before .loop .inv .1 .no-more, t .1, t .2 .1, c .before .before .put-char .ensures .0)
+add-size-4 c = omega (arith, c .before .before .before .before .before .before .before .before .before .before .before .before .loop .inv .1 .no-more, c .before .before .before .before .before .before .before .before .before .before .before .loop-test .taken)
 
 add-at-3 : tie.Need-add-at-3 Inv-loop μ-loop
-add-at-3 c = omega (arith, seen (c .before .before .before .before .before .before .before) (c .before .before .before .before .before .piece2 .given .1) .inside .2)
+add-at-3 c = omega (arith, seen (c .before .before .before .before .before .before .before) (c .before .before .before .before .before .piece2 .given .1) .inside)
 
 loop-less-4 : tie.Need-loop-less-4 Inv-loop μ-loop
-loop-less-4 c = omega (arith, seen (c .before .before .before .before .before .before .before) (c .before .before .before .before .before .piece2 .given .1) .inside .2)
+loop-less-4 c = omega (arith, seen (c .before .before .before .before .before .before .before) (c .before .before .before .before .before .piece2 .given .1) .inside)
 
 loop-again-4 : tie.Need-loop-again-4 Inv-loop μ-loop
 loop-again-4 c =
     let t = seen (c .before .before .before .before .before .before .before) (c .before .before .before .before .before .piece2 .given .1) in
-    let put = c .before .before .put-char .ensures in
-    piece-put (c .before .before .before .before .before .before .before .before .before .before .before .before) _ _ _ _ (put .0) (t .is) (t .inside .2) (omega (arith, put .0, t .inside .1)) (put .1)
+    piece-put (c .before .before .before .before .before .before .before .before .before .before .before .before) _ _ _ 1 refl (t .is) (t .inside) (t .inside .0) (c .before .before .put-byte2 .ensures)
+
+put-char-requires : tie.Need-put-char-requires Inv-loop μ-loop
+put-char-requires c κs = seen (c .before .before .before .before) (c .before .before .piece3 .given .1) .inside .0
+
+add-size-5 : tie.Need-add-size-5 Inv-loop μ-loop
+add-size-5 c =
+    let t = seen (c .before .before .before .before .before .before .before) (c .before .before .before .before .before .piece3 .given .1) .inside in
+    omega (arith, c .before .before .before .before .before .before .before .before .before .before .before .before .loop .inv .1 .no-more, t .1, t .2 .1, c .before .before .put-char .ensures .0)
 
 add-at-4 : tie.Need-add-at-4 Inv-loop μ-loop
-add-at-4 c = omega (arith, seen (c .before .before .before) (c .before .piece3 .given .1) .inside)
+add-at-4 c = omega (arith, seen (c .before .before .before .before .before .before .before) (c .before .before .before .before .before .piece3 .given .1) .inside .2)
 
 loop-less-5 : tie.Need-loop-less-5 Inv-loop μ-loop
-loop-less-5 c = omega (arith, seen (c .before .before .before) (c .before .piece3 .given .1) .inside)
+loop-less-5 c = omega (arith, seen (c .before .before .before .before .before .before .before) (c .before .before .before .before .before .piece3 .given .1) .inside .2)
 
 loop-again-5 : tie.Need-loop-again-5 Inv-loop μ-loop
 loop-again-5 c =
-    let t = seen (c .before .before .before) (c .before .piece3 .given .1) in
+    let t = seen (c .before .before .before .before .before .before .before) (c .before .before .before .before .before .piece3 .given .1) in
+    let put = c .before .before .put-char .ensures in
+    piece-put (c .before .before .before .before .before .before .before .before .before .before .before .before) _ _ _ _ (put .0) (t .is) (t .inside .2) (omega (arith, put .0, t .inside .1)) (put .1)
+
+add-at-5 : tie.Need-add-at-5 Inv-loop μ-loop
+add-at-5 c = omega (arith, seen (c .before .before .before) (c .before .piece4 .given .1) .inside)
+
+loop-less-6 : tie.Need-loop-less-6 Inv-loop μ-loop
+loop-less-6 c = omega (arith, seen (c .before .before .before) (c .before .piece4 .given .1) .inside)
+
+loop-again-6 : tie.Need-loop-again-6 Inv-loop μ-loop
+loop-again-6 c =
+    let t = seen (c .before .before .before) (c .before .piece4 .given .1) in
     let l = c .before .before .before .before .before .before .before .before in
     let a = l .before .before .before .args in
     let e : l .loop .size + 0 ≡ l .loop .size = omega arith in
-    subst (values.Kept (a .long) (a .rules) (a .body .now) (a .output .now) (l .loop .output) (l .loop .at + c .before .piece3 .given .0 .0)) e
+    subst (values.Kept (a .long) (a .rules) (a .body .now) (a .output .now) (l .loop .output) (l .loop .at + c .before .piece4 .given .0 .0)) e
     (piece-put l [] _ _ 0 refl (t .is) (t .inside) (omega arith) (values.stores-nothing (l .loop .output) (l .loop .size) [] refl))
 
 same-length : tie.Need-same-length Inv-loop μ-loop
@@ -172,16 +186,21 @@ write-spec =
     add-at-2
     loop-less-3
     loop-again-3
-    (λ c. search needs)
-    put-char-requires
+    (λ c. search needs) (λ c κs. search needs)
     add-size-4
     add-at-3
     loop-less-4
     loop-again-4
     (λ c. search needs)
+    put-char-requires
+    add-size-5
     add-at-4
     loop-less-5
     loop-again-5
+    (λ c. search needs)
+    add-at-5
+    loop-less-6
+    loop-again-6
     (λ c. search needs)
     same-length
     returns
