@@ -5,6 +5,7 @@ mod known;
 mod output;
 pub mod report;
 
+use std::borrow::Cow;
 use std::str;
 
 use luck_token::LuaVersion;
@@ -66,35 +67,39 @@ impl Comparison {
         self.plain(Check::ShortBody, None, text.as_bytes(), body, reference::short_string_body(text));
     }
 
-    /// With room to spare, with just enough, with one byte too few, and with none.
+    /// With room to spare, with just enough, with one byte too few, and with none. Wide literals are counted apart.
     fn decode(&mut self, version: u32, text: &[u8]) {
-        let value = reference::value(version, text);
+        let by_luck = reference::by_luck(version, text);
+        let (check, value) = match reference::wide_value(version, text, &by_luck) {
+            Some(wide) => (Check::DecodeWide, Ok(Cow::Owned(wide))),
+            None => (Check::Decode, by_luck),
+        };
         match value.as_ref().map(|bytes| bytes.len()) {
             Ok(length) => {
-                self.decode_into(version, text, &value, length + SPARE_ROOM);
-                self.decode_into(version, text, &value, length);
+                self.decode_into(check, version, text, &value, length + SPARE_ROOM);
+                self.decode_into(check, version, text, &value, length);
                 if length > 0 {
-                    self.decode_into(version, text, &value, length - 1);
+                    self.decode_into(check, version, text, &value, length - 1);
                 }
                 if length > 1 {
-                    self.decode_into(version, text, &value, 0);
+                    self.decode_into(check, version, text, &value, 0);
                 }
             }
             Err(_) => {
-                self.decode_into(version, text, &value, text.len());
-                self.decode_into(version, text, &value, 0);
+                self.decode_into(check, version, text, &value, text.len());
+                self.decode_into(check, version, text, &value, 0);
             }
         }
     }
 
-    fn decode_into(&mut self, version: u32, text: &[u8], value: &Value<'_>, room: usize) {
+    fn decode_into(&mut self, check: Check, version: u32, text: &[u8], value: &Value<'_>, room: usize) {
         let answer = library::decode_string(version, text, self.output.lend(room));
         let (expected, written) = reference::decoded(value, room);
         let is_same = answer == expected && self.output.holds_only(written);
         let output = &self.output;
-        self.report.add(Case { check: Check::Decode, version: Some(version), text }, is_same, || {
+        self.report.add(Case { check, version: Some(version), text }, is_same, || {
             format!(
-                "room {room}: library {answer:?} and `{}`, luck {expected:?} and `{}`",
+                "room {room}: library {answer:?} and `{}`, wanted {expected:?} and `{}`",
                 output.lent().escape_ascii(),
                 written.escape_ascii()
             )

@@ -1,6 +1,7 @@
 //! What is right: luck's Rust, with the port's own refusals 25, 23 and 26 around it.
 
 pub mod checks;
+pub mod wide;
 
 use std::borrow::Cow;
 use std::str;
@@ -37,8 +38,22 @@ pub fn lua_version(number: u32) -> Option<LuaVersion> {
     LuaVersion::ALL.get(usize::try_from(number).ok()?.checked_sub(1)?).copied()
 }
 
-/// The refusals in their order: 25, 23, 24.
+/// luck's value, but for wide literals.
 pub fn value(version: u32, text: &[u8]) -> Value<'_> {
+    let value = by_luck(version, text);
+    match wide_value(version, text, &value) {
+        Some(wide) => Ok(Cow::Owned(wide)),
+        None => value,
+    }
+}
+
+/// A wide literal's value. `by_luck` is luck's, which stands for all other literals.
+pub fn wide_value(version: u32, text: &[u8], by_luck: &Value<'_>) -> Option<Vec<u8>> {
+    if *by_luck == Err(UNDECODABLE) { wide::value(version, text) } else { None }
+}
+
+/// The refusals in their order: 25, 23, 24.
+pub fn by_luck(version: u32, text: &[u8]) -> Value<'_> {
     let version = lua_version(version).ok_or(UNKNOWN_VERSION)?;
     let raw = str::from_utf8(text).map_err(|error| not_utf8(error.valid_up_to()))?;
     luck_token::decode_string(raw, version).ok_or(UNDECODABLE)

@@ -94,7 +94,7 @@ fn edge_records(records: &mut Records) {
 
 /// 26, and what comes before it: with one byte too few, and with none.
 fn room_records(records: &mut Records) {
-    const TEXTS: [&str; 14] = [
+    const TEXTS: [&str; 18] = [
         "\"\"",
         "\"a\"",
         "\"ab\"",
@@ -103,6 +103,10 @@ fn room_records(records: &mut Records) {
         "\"\\x41b\"",
         "\"\\u{20AC}\"",
         "\"\\u{10FFFF}a\"",
+        "\"\\u{D800}\"",
+        "\"\\u{1FFFFF}\"",
+        "\"\\u{3FFFFFF}\"",
+        "\"\\u{7FFFFFFF}a\"",
         "\"\\z  a\"",
         "\"\\q\"",
         "[[]]",

@@ -14,6 +14,8 @@ pub enum Check {
     LineBreak,
     ShortBody,
     Decode,
+    /// Of wide literals, which luck turns away.
+    DecodeWide,
     Format,
     Pattern,
     Pack,
@@ -24,7 +26,7 @@ pub enum Check {
 }
 
 impl Check {
-    const ALL: [Self; 15] = [
+    const ALL: [Self; 16] = [
         Self::Rules,
         Self::Whitespace,
         Self::Span,
@@ -33,6 +35,7 @@ impl Check {
         Self::LineBreak,
         Self::ShortBody,
         Self::Decode,
+        Self::DecodeWide,
         Self::Format,
         Self::Pattern,
         Self::Pack,
@@ -52,6 +55,7 @@ impl Check {
             Self::LineBreak => "strip_line_break",
             Self::ShortBody => "short_string_body",
             Self::Decode => "decode_string",
+            Self::DecodeWide => "decode_string wide",
             Self::Format => "check_format",
             Self::Pattern => "check_pattern",
             Self::Pack => "check_pack",

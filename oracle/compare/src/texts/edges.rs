@@ -232,12 +232,31 @@ fn unicode_bodies() -> Vec<String> {
         "\\u{{41}}",
         "\\u[41]",
     ];
-    const PADDED: [&str; 8] = ["0", "41", "D800", "e9", "20AC", "10FFFF", "110000", "10000000000000041"];
+    const AMONG_OTHERS: [&str; 17] = [
+        "\\u{41}41",
+        "\\u{41}}",
+        "\\u{20ac}\\u{E9}",
+        "\\U{41}",
+        "a\\u{D800}b",
+        "\\u{DBFF}\\u{DC00}",
+        "\\u{7FFFFFFF}\\u{7FFFFFFF}",
+        "é\\u{110000}\\65\\u{10FFFF}\\x41",
+        "\\z \\u{200000}\\\n\\u{3FFFFFF}",
+        "\\u{4000000}}\\u{41}",
+        "\\u{D800}\\q",
+        "\\q\\u{D800}",
+        "\\u{D800}\\u{80000000}",
+        "\\u{110000}\\",
+        "\\\\u{110000}",
+        "\\\\\\u{110000}",
+        "\\u{110000\\u{110000}",
+    ];
+    const PADDED: [&str; 10] = ["0", "41", "D800", "e9", "20AC", "10FFFF", "110000", "7fffffff", "80000000", "10000000000000041"];
     const DIGITS: [usize; 4] = [8, 16, 17, 20];
     let plain = CODE_POINTS.iter().map(|digits| format!("\\u{{{digits}}}"));
     let padded = PADDED.iter().flat_map(|number| DIGITS.iter().map(move |digits| format!("\\u{{{number:0>digits$}}}")));
-    let behind = ["\\u{41}41", "\\u{41}}", "\\u{20ac}\\u{E9}", "\\U{41}"].map(str::to_owned);
-    MALFORMED.into_iter().map(str::to_owned).chain(plain).chain(padded).chain(behind).collect()
+    let others = AMONG_OTHERS.map(str::to_owned);
+    MALFORMED.into_iter().map(str::to_owned).chain(plain).chain(padded).chain(others).collect()
 }
 
 /// Every run of one to three LF and CR: escaped in a short string, right after a long bracket, and inside a long string.

@@ -25,7 +25,7 @@ pub const CHARACTERS: [&str; 14] = [
 const LINE_BREAKS: [&str; 10] = ["\n", "\r", "\r\n", "\n\r", "\n\n", "\r\r", "\r\n\r", "\n\r\n", "\r\r\n", "\n\n\r"];
 const WHITESPACE: [&str; 6] = [" ", "\t", "\n", "\r", "\x0B", "\x0C"];
 /// Where the code points' rules change, as hexadecimal digits.
-pub const CODE_POINTS: [&str; 30] = [
+pub const CODE_POINTS: [&str; 32] = [
     "0",
     "7",
     "41",
@@ -50,6 +50,8 @@ pub const CODE_POINTS: [&str; 30] = [
     "110000",
     "1FFFFF",
     "200000",
+    "3FFFFFF",
+    "4000000",
     "7FFFFFFF",
     "80000000",
     "FFFFFFFF",
