@@ -43,11 +43,11 @@ fn by_library(literal: &[u8], output: &mut [u8]) -> Decoded {
 }
 
 fn by_luck(literal: &[u8]) {
-    black_box(reference::value(VERSION, black_box(literal))).ok();
+    black_box(reference::by_luck(VERSION, black_box(literal))).ok();
 }
 
 fn by_luck_and_a_copy(literal: &[u8], output: &mut [u8]) {
-    if let Ok(value) = reference::value(VERSION, black_box(literal)) {
+    if let Ok(value) = reference::by_luck(VERSION, black_box(literal)) {
         output[..value.len()].copy_from_slice(&value);
     }
     black_box(output);
@@ -73,7 +73,7 @@ fn rows(plan: &Plan, tables: &mut Tables, name: &str, literals: &[Vec<u8>]) -> R
 fn compare(name: &str, literal: &[u8]) -> Result<(), String> {
     let mut output = vec![0; literal.len()];
     let answer = by_library(literal, &mut output);
-    let value = reference::value(VERSION, literal);
+    let value = reference::by_luck(VERSION, literal);
     let (wanted, bytes) = reference::decoded(&value, output.len());
     if answer == wanted && output.starts_with(bytes) {
         Ok(())
@@ -85,7 +85,7 @@ fn compare(name: &str, literal: &[u8]) -> Result<(), String> {
 /// Answer and value are luck's, and luck has a value.
 fn compare_decoded(name: &str, literal: &[u8]) -> Result<(), String> {
     compare(name, literal)?;
-    reference::value(VERSION, literal).map(drop).map_err(|refusal| format!("{name}: {refusal:?}"))
+    reference::by_luck(VERSION, literal).map(drop).map_err(|refusal| format!("{name}: {refusal:?}"))
 }
 
 fn long(plan: &Plan, tables: &mut Tables, name: &str, make: fn(usize) -> Vec<u8>) -> Result<(), String> {

@@ -1,7 +1,7 @@
 //! The texts that are measured on. They are the same in every run.
 
 use compare::kind::Kind;
-use compare::reference::{self, checks::Body};
+use compare::reference::{self, checks::Body, wide};
 use compare::texts::bodies;
 use compare::texts::grammar::{self, push};
 use compare::texts::random::Random;
@@ -91,18 +91,8 @@ pub fn short_bodies(kind: Kind) -> Vec<Vec<u8>> {
 /// Literals by the grammar, some of them at fault. None has a code point that version 4 takes and luck does not (F-4).
 pub fn short_literals() -> Vec<Vec<u8>> {
     let mut random = Random::new(SEED);
-    let is_wanted = |text: &[u8]| SHORT.contains(&text.len()) && !has_wide_escape(text);
+    let is_wanted = |text: &[u8]| SHORT.contains(&text.len()) && wide::value(VERSION, text).is_none();
     (0..SHORT_COUNT).map(|_| first(&mut random, grammar::literal, is_wanted)).collect()
-}
-
-/// Whether something in the text is spelled as the escape of a number up to 7FFFFFFF that is no character.
-fn has_wide_escape(text: &[u8]) -> bool {
-    let is_wide = |rest: &[u8]| {
-        let digits = rest.strip_prefix(b"\\u{").and_then(|rest| rest.split(|&byte| byte == b'}').next());
-        let number = digits.and_then(|digits| u32::from_str_radix(str::from_utf8(digits).ok()?, 16).ok());
-        number.is_some_and(|number| number <= 0x7FFF_FFFF && char::from_u32(number).is_none())
-    };
-    (0..text.len()).any(|at| is_wide(&text[at..]))
 }
 
 /// Literals in quotes with nothing to decode.
@@ -173,7 +163,7 @@ pub fn escaped_literal(size: usize) -> Vec<u8> {
 
 /// What is between the quotes of a literal that can be decoded. The space keeps the next one's digits from an escape's.
 fn escaped_piece(random: &mut Random) -> Vec<u8> {
-    let is_wanted = |text: &[u8]| SHORT.contains(&text.len()) && text[0] != b'[' && reference::value(VERSION, text).is_ok();
+    let is_wanted = |text: &[u8]| SHORT.contains(&text.len()) && text[0] != b'[' && reference::by_luck(VERSION, text).is_ok();
     let literal = first(random, grammar::literal, is_wanted);
     [&literal[1..literal.len() - 1], b" "].concat()
 }
