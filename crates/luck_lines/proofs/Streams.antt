@@ -12,12 +12,10 @@ use lib.Dec.{eqb, ltb}
 use borrow.Author.Tests.{lt-ltb, le-ltb, ne-eqb, eq-eqb}
 use borrow.Rule.Slice.PartMut.{putMid}
 use Rattle.luck_text.specs.Bytes.{if_then_else_, byteAt, part, inFront}
-use Rattle.luck_text.specs.Scan.{neither}
 use Rattle.luck_text.specs.Walk.{stop, goes, walkFrom}
 use Rattle.luck_text.proofs.Walk.{walk-end, walk-stop, walk-goes}
 use Rattle.luck_text.proofs.Bytes.{run-more, run-stop, run-end, run-inside}
 use Rattle.luck_text.proofs.Cases.{by-test}
-use Rattle.luck_text.proofs.Neither.{neither-first}
 use Rattle.luck_answer.specs.Answer.{refused}
 use Rattle.luck_line.specs.Line.{longest, lineAnswer}
 use Rattle.luck_line.specs.Row.{answerRow}
@@ -57,11 +55,11 @@ line-block input (suc n) p h f =
     all ∙ ap (λ (q : ℕ). suc n + lineLength (drop q input)) e
 
 -- the bytes that `blocks_end` passes over
-pub blocks-passed : (input : List ℕ) (p end : ℕ) → p ≤ end → end ≤ length input → ((k : ℕ) → p ≤ k → k < end → neither 10 10 (byteAt input k) ≡ true)
+pub blocks-passed : (input : List ℕ) (p end : ℕ) → p ≤ end → end ≤ length input → ((k : ℕ) → p ≤ k → k < end → byteAt input k ≡ 10 → ⊥)
     → p + lineLength (drop p input) ≡ end + lineLength (drop end input)
 blocks-passed input p end l h f =
     let e : p + (end - p) ≡ end = omega arith in
-    let passed = line-block input (end - p) p (omega arith) (λ k m. neither-first 10 10 (byteAt input (p + k)) (f (p + k) (omega arith) (omega arith))) in
+    let passed = line-block input (end - p) p (omega arith) (λ k m. f (p + k) (omega arith) (omega arith)) in
     omega (arith, passed ∙ ap (λ (q : ℕ). end - p + lineLength (drop q input)) e)
 
 pub rowOf-length : (long : Bool) (line : List ℕ) → length (rowOf long line) ≡ 19

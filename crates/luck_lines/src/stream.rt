@@ -26,7 +26,7 @@ fn line_end(input: &[u8], at: usize) -> usize
     requires { ⌜ at ≤ length (now input) ⌝ }
     ensures { λ r. ⌜ r ≡ at + lineLength (drop at (now (input .entry))) ⌝ }
 {
-    let mut end = blocks::blocks_end(input, at, b'\n', b'\n');
+    let mut end = blocks::blocks_end(input, at, b'\n');
     while end < input.len() {
         if input[end] == b'\n' {
             return end;

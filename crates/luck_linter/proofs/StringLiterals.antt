@@ -11,14 +11,13 @@ use lib.ListN.{length, drop, drop-of-length-le}
 use lib.Seq.{drop-cons}
 use borrow.Author.Tests.{eq-eqb, ne-eqb}
 use Rattle.luck_text.specs.Bytes.{if_then_else_, byteAt, part}
-use Rattle.luck_text.specs.Scan.{neither}
 use Rattle.luck_token.specs.Version.{rulesOf}
 use Rattle.luck_token.specs.Literal.{isShort, shortStringBody}
 use Rattle.luck_token.specs.Span.{u32-max, spanOf, shiftedBy}
 use Rattle.luck_token.specs.declared.version.Rules.{Rules}
 use Rattle.luck_token.specs.declared.span.Span.{Span}
 use Rattle.luck_text.proofs.Cases.{if-true, if-false}
-use Rattle.luck_text.proofs.Neither.{passes-plain as over-plain}
+use Rattle.luck_text.proofs.Others.{passes-others}
 use Rattle.luck_token.proofs.Literals.{both-quotes}
 use Rattle.luck_answer.specs.Answer.{Answer, accepted, checkText}
 use Rattle.luck_linter.specs.Checks.{Check, checkOf, walkOf}
@@ -62,8 +61,8 @@ module _ (body : List ℕ) where
   pub passes-byte : (p : ℕ) → p < length body → (byteAt body p ≡ 92 → ⊥) → on (p + 1) ≡ on p
   passes-byte p h e = sym (rw (drop-cons body p 0 h, add-one p) (plain _ _ e))
 
-  pub passes-plain : (p q : ℕ) → p ≤ q → q ≤ length body → ((k : ℕ) → p ≤ k → k < q → neither 92 92 (byteAt body k) ≡ true) → on q ≡ on p
-  passes-plain p q = over-plain 92 body on passes-byte p q
+  pub passes-plain : (p q : ℕ) → p ≤ q → q ≤ length body → ((k : ℕ) → p ≤ k → k < q → byteAt body k ≡ 92 → ⊥) → on q ≡ on p
+  passes-plain p q = passes-others 92 body on passes-byte p q
 
   module _ (p : ℕ) (h : p < length body) where
     pub last-byte : length body ≤ p + 1 → false ≡ on p

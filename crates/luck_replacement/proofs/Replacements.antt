@@ -14,9 +14,8 @@ use lib.Seq.{drop-cons}
 use lib.Dec.{eqb, leb, ltb}
 use borrow.Author.Tests.{eq-eqb, ne-eqb, not-false, leb-true, lt-ltb, le-ltb, lt-leb, le-leb}
 use Rattle.luck_text.specs.Bytes.{if_then_else_, byteAt, isDigit}
-use Rattle.luck_text.specs.Scan.{neither}
 use Rattle.luck_text.proofs.Cases.{by-test, if-true, if-false, and-right, order}
-use Rattle.luck_text.proofs.Neither.{passes-plain as over-plain}
+use Rattle.luck_text.proofs.Others.{passes-others}
 use Rattle.luck_answer.specs.Answer.{Answer, accepted, refused}
 use Rattle.luck_replacement.specs.Replacement.{Piece, literal, digit, percent, other, lone, escaped, pieces, allowsDigit, piecesWalk}
 use Rattle.luck_replacement.specs.Inner.{canRefuse, isRefused, rank}
@@ -148,8 +147,8 @@ module _ (strict : Bool) (captures : Option ℕ) (text : List ℕ) where
   unfolding piecesWalk
   passes-literal p h e = sym (ap (λ (l : List Piece). piecesWalk strict captures l p) (at-literal text p h e))
 
-  pub passes-plain : (p q : ℕ) → p ≤ q → q ≤ length text → ((k : ℕ) → p ≤ k → k < q → neither 37 37 (byteAt text k) ≡ true) → on q ≡ on p
-  passes-plain p q = over-plain 37 text on passes-literal p q
+  pub passes-plain : (p q : ℕ) → p ≤ q → q ≤ length text → ((k : ℕ) → p ≤ k → k < q → byteAt text k ≡ 37 → ⊥) → on q ≡ on p
+  passes-plain p q = passes-others 37 text on passes-literal p q
 
   module _ (p : ℕ) (h : p < length text) (e : byteAt text p ≡ 37) where
     pub lone-strict : length text ≤ p + 1 → strict ≡ true → refused 19 p ≡ on p

@@ -80,7 +80,7 @@ fn scan_pieces(text: &[u8], limit: u8, is_strict: bool) -> Walked
     while at < text.len() {
         if text[at] != b'%' {
             if at - run == RUN {
-                at = blocks::blocks_end(text, at, b'%', b'%');
+                at = blocks::blocks_end(text, at, b'%');
                 run = at;
                 continue;
             }

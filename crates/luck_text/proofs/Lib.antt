@@ -2,5 +2,5 @@ pub mod Cases
 pub mod Walk
 pub mod Bytes
 pub mod Among
-pub mod Neither
+pub mod Others
 pub mod Keeps

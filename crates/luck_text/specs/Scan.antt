@@ -1,7 +1,7 @@
 -- What the code's classes of bytes mean (luck's take_while), and how far its numbers go.
 -- Assumes nothing.
 use Prim.Native.Nat.{ℕ, _+_, _*_, min}
-use mathlib.Core.Bool.{Bool, not, _||_}
+use mathlib.Core.Bool.{Bool}
 use lib.Dec.{eqb}
 use Rattle.luck_text.specs.Bytes.{isDigit, isXdigit, isLuaWhitespace}
 use Rattle.luck_text.specs.declared.scan.Class.{Class}
@@ -12,10 +12,6 @@ inClass Digit b = isDigit b
 inClass HexDigit b = isXdigit b
 inClass Whitespace b = isLuaWhitespace b
 inClass (Byte c) b = eqb c b
-
--- a byte is neither of two
-unfoldable pub neither : ℕ → ℕ → ℕ → Bool
-neither a b x = not (eqb x a || eqb x b)
 
 -- 80000000 (hexadecimal) is larger than every limit of a check or an escape, of which 7FFFFFFF is the largest: numbers
 -- from here on are not told apart

@@ -342,9 +342,9 @@ fn plain_blocks(body: &[u8], at: usize, long: bool) -> usize
     ensures { λ r. ⌜ (at ≤ r) × (r ≤ length (now (body .entry))) × ((k : ℕ) → at ≤ k → k < r → plain long (now (body .entry)) k ≡ true) ⌝ }
 {
     if !long {
-        return blocks::blocks_end(body, at, b'\\', b'\\');
+        return blocks::blocks_end(body, at, b'\\');
     }
-    let end = blocks::blocks_end(body, at, b'\r', b'\r');
+    let end = blocks::blocks_end(body, at, b'\r');
     if at < end {
         if body[end - 1] == b'\n' {
             return end - 1;
@@ -358,9 +358,9 @@ fn has_special(body: &[u8], long: bool) -> bool
     ensures { λ r. ⌜ (r ≡ false → (k : ℕ) → k < length (now (body .entry)) → plain long (now (body .entry)) k ≡ true) ⌝ }
 {
     if long {
-        return blocks::has_either(body, b'\r', b'\r');
+        return blocks::has_byte(body, b'\r');
     }
-    blocks::has_either(body, b'\\', b'\\')
+    blocks::has_byte(body, b'\\')
 }
 
 pub enum Size {

@@ -118,7 +118,7 @@ fn is_numeric_escape(byte: u8) -> bool
 fn has_numeric_escape(body: &[u8]) -> bool
     ensures { λ r. ⌜ r ≡ hasNumericEscape (now (body .entry)) ⌝ }
 {
-    let mut at = blocks::blocks_end(body, 0, b'\\', b'\\');
+    let mut at = blocks::blocks_end(body, 0, b'\\');
     while at < body.len() {
         if body[at] != b'\\' {
             at += 1;
@@ -131,7 +131,7 @@ fn has_numeric_escape(body: &[u8]) -> bool
         if is_numeric_escape(body[next]) {
             return true;
         }
-        at = blocks::blocks_end(body, at + 2, b'\\', b'\\');
+        at = blocks::blocks_end(body, at + 2, b'\\');
     }
     false
 }

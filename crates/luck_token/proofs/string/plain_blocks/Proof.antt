@@ -7,7 +7,6 @@ use borrow.Author.Tests.{not-true, not-false}
 use Rattle.luck_text.specs.Bytes.{byteAt}
 use mathlib.Core.Logic.{⊎-elim}
 use Rattle.luck_text.proofs.Cases.{order}
-use Rattle.luck_text.proofs.Neither.{neither-first}
 use Rattle.luck_token.specs.Inner.{plain}
 use Rattle.luck_token.proofs.Literals.{plain-long, plain-short}
 use borrow.Author.Needs.{needs}
@@ -20,7 +19,7 @@ returns c =
     let a = c .before .before .before .args in (
       e .0,
       e .1,
-      λ k l m. ap (λ (t : Bool). plain t (a .body .now) k) (not-true (a .long) (c .before .if1 .taken)) ∙ plain-short (a .body .now) k (neither-first 92 92 _ (e .2 k l m)),
+      λ k l m. ap (λ (t : Bool). plain t (a .body .now) k) (not-true (a .long) (c .before .if1 .taken)) ∙ plain-short (a .body .now) k ((e .2 k l m)),
     )
 
 -- up to an end: every byte before it is no CR, and neither is the one at it where an LF stands before it
@@ -31,8 +30,8 @@ pieces c end h last k l m =
     let a = c .before .before .before .args in
     let e = c .blocks-end2 .ensures in
     ap (λ (t : Bool). plain t (a .body .now) k) (not-false (a .long) (c .before .if1 .left))
-    ∙ plain-long (a .body .now) k (neither-first 13 13 _ (e .2 k l (omega arith)))
-    (λ lf cr. ⊎-elim (λ inside. neither-first 13 13 _ (e .2 (k + 1) (omega arith) inside) cr) (λ at-end. last k (omega arith) m lf) (order (k + 1) (c .blocks-end2 .result)))
+    ∙ plain-long (a .body .now) k ((e .2 k l (omega arith)))
+    (λ lf cr. ⊎-elim (λ inside. (e .2 (k + 1) (omega arith) inside) cr) (λ at-end. last k (omega arith) m lf) (order (k + 1) (c .blocks-end2 .result)))
 
 returns-2 : tie.Need-returns-2
 returns-2 c =
