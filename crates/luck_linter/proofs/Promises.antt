@@ -1,23 +1,25 @@
--- What the check of a literal promises where a kind letter names a check, the version is one of the six and the text is UTF-8. In every other case the answer is 30, 25 or
--- 23, by the definition.
+-- What the checks promise. First the check of a literal, where a kind letter names a check, the version is one of the
+-- six and the text is UTF-8; in every other case the answer is 30, 25 or 23, by the definition. Then, at the end, every
+-- check of a text with a code point that has no character (F-4 of document 02).
 -- Assumes nothing.
 use Prim.Native.Nat.{ℕ, _-_, _<_, _≤_}
 use Prim.Native.Char.{code}
 use native.Mathlib.Omega.{arith}
 use mathlib.Core.Path.{_≡_, refl, sym, ap, _∙_}
 use mathlib.Core.Bool.{Bool, true, false, not, _&&_, _||_, true≢false}
-use mathlib.Core.List.{List}
+use mathlib.Core.List.{List, _++_}
 use mathlib.Core.Option.{Option, none, some}
 use lib.ListN.{length}
 use lib.Dec.{eqb, leb}
 use borrow.Author.Tests.{leb-true, eqb-true}
 use Rattle.luck_text.specs.Bytes.{if_then_else_, byteAt}
 use Rattle.luck_text.proofs.Cases.{by-test, and-left, and-right}
-use Rattle.luck_utf8.specs.Utf8.{illFormed}
+use Rattle.luck_utf8.specs.Utf8.{illFormed, isChar, utf8Bytes}
 use Rattle.luck_utf8.proofs.Parts.{between-ascii}
 use Rattle.luck_token.specs.Version.{isVersion, rulesOf}
 use Rattle.luck_token.specs.Literal.{isShort}
-use Rattle.luck_answer.specs.Answer.{Answer, accepted}
+use Rattle.luck_token.proofs.Promises.{no-character-refused}
+use Rattle.luck_answer.specs.Answer.{Answer, accepted, refused, checkText}
 use Rattle.luck_answer.proofs.Texts.{text-fine}
 use Rattle.luck_replacement.proofs.Promises.{UnknownOrFromNine, walk-accepts}
 use Rattle.luck_linter.specs.Computed.{computed}
@@ -112,3 +114,15 @@ unfolding computed
 literal-accepted captures start text h utf8 e =
     kept (code "G") 1 captures start text (replacement captures) refl refl utf8 e .1
     ∙ ap (withSpan start (bodyOf text)) (walk-accepts captures (bodyOf text) h)
+
+-- ---- A text with a code point that has no character, as a value of 5.4 or 5.5 can be
+
+-- every check answers 23 at the first byte of the code point, where what stands before is UTF-8
+pub no-character-checked : (check : Check) (version : ℕ) → isVersion version ≡ true
+    → (before after : List ℕ) → illFormed before ≡ none → (c : ℕ) → c ≤ 0x7FFF_FFFF → isChar c ≡ false
+    → answer check version (before ++ utf8Bytes c ++ after) ≡ refused 23 (length before)
+unfolding checkText
+no-character-checked check version known before after utf8 c last e =
+    let text = before ++ utf8Bytes c ++ after in
+    whole-check check version text
+    ∙ no-character-refused refused (walkOf check (rulesOf version) text) version known before after utf8 c last e
