@@ -79,7 +79,7 @@ unfolding escapeKind otherEscape
 same-kind rules b = refl
 
 abbrev isUnicode : Escape → Bool
-isUnicode (Simple b) = false
+isUnicode Simple = false
 isUnicode LineBreak = false
 isUnicode Hex = false
 isUnicode Whitespace = false
@@ -91,9 +91,8 @@ isUnicode Undefined = false
 only-u : (rules : Rules) (b : ℕ) → isUnicode (escapeKind rules b) ≡ true → b ≡ 117
 unfolding escapeKind otherEscape
 only-u rules b =
-    by-test U _ _ _ no (λ _. by-test U _ _ _ no (λ _. by-test U _ _ _ no (λ _. by-test U _ _ _ no (λ _. by-test U _ _ _ no (λ _. by-test U _ _ _ no
-    (λ _. by-test U _ _ _ no (λ _. by-test U _ _ _ no (λ _. by-test U _ _ _ no (λ _. by-test U _ _ _ no (λ _. by-test U _ _ _ no (λ _. by-test U _ _ _ no
-    (λ _. by-test U _ _ _ (λ t _. eqb-true b 117 (and-left (eqb b 117) (rules .«unicode_escape») t)) (λ _. by-test U _ _ _ no no)))))))))))))
+    by-test U _ _ _ no (λ _. by-test U _ _ _ no (λ _. by-test U _ _ _ no (λ _. by-test U _ _ _ no (λ _. by-test U _ _ _ no
+    (λ _. by-test U _ _ _ (λ t _. eqb-true b 117 (and-left (eqb b 117) (rules .«unicode_escape») t)) (λ _. by-test U _ _ _ no no))))))
   where
     U : Escape → Type 0
     U k = isUnicode k ≡ true → b ≡ 117
@@ -103,7 +102,7 @@ only-u rules b =
 
 other-escape : (rules : Rules) (k : Escape) (body : List ℕ) (p : ℕ) → isUnicode k ≡ false → escapePiece (charactersOnly rules) k body p ≡ escapePiece rules k body p
 unfolding escapePiece
-other-escape rules (Simple b) body p e = refl
+other-escape rules Simple body p e = refl
 other-escape rules LineBreak body p e = refl
 other-escape rules Hex body p e = refl
 other-escape rules Whitespace body p e = refl
@@ -195,7 +194,7 @@ module _ (rules : Rules) where
 
     escape-stays : (k : Escape) → Stays (escapePiece (charactersOnly rules) k body p) (escapePiece rules k body p)
     unfolding escapePiece
-    escape-stays (Simple b) bytes width e = e
+    escape-stays Simple bytes width e = e
     escape-stays LineBreak bytes width e = e
     escape-stays Hex bytes width e = e
     escape-stays Whitespace bytes width e = e
