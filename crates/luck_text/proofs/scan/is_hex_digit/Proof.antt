@@ -16,7 +16,7 @@ returns : tie.Need-returns
 unfolding isXdigit isDigit
 returns c =
     rw (← c .before .before .is-between .ensures, ← c .before .is-between2 .ensures, ← c .is-between3 .ensures)
-        (any-of-three (c .before .before .is-between .result) (c .before .is-between2 .result) (c .is-between3 .result))
+    (any-of-three (c .before .before .is-between .result) (c .before .is-between2 .result) (c .is-between3 .result))
 
 pub is-hex-digit-spec : {M : Type 1} → statement M
 is-hex-digit-spec =

@@ -32,8 +32,13 @@ mul-result c = omega (arith, breaks.bit-of-both (eqb (here (c .before)) 10) (eqb
 
 add-result-3 : tie.Need-add-result-3
 add-result-3 c =
-    omega (arith, bit (eqb (here (c .before)) 13), bit (eqb (here (c .before)) 10), breaks.bit-of-both (eqb (here (c .before)) 13) (eqb (c .before .byte-at .result) 10),
-    breaks.bit-of-both (eqb (here (c .before)) 10) (eqb (c .before .byte-at .result) 13))
+    omega (
+      arith,
+      bit (eqb (here (c .before)) 13),
+      bit (eqb (here (c .before)) 10),
+      breaks.bit-of-both (eqb (here (c .before)) 13) (eqb (c .before .byte-at .result) 10),
+      breaks.bit-of-both (eqb (here (c .before)) 10) (eqb (c .before .byte-at .result) 13),
+    )
 
 returns-2 : tie.Need-returns-2
 returns-2 c =
