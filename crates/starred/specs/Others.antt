@@ -164,7 +164,7 @@ decodings =
     (decoded (record { number = 24; offset = 0; written = 0 }) (ascii "....."))
     ∷ case (only 1) (decode (ascii "\"\\q\"") (ascii "....."))
     (decoded (record { number = 0; offset = 0; written = 1 }) (ascii "q...."))
-    ∷ case (only 4) (decode (ascii "\"\\u{D800}\"") (ascii "....."))
+    ∷ case (only 3) (decode (ascii "\"\\u{D800}\"") (ascii "....."))
     (decoded (record { number = 24; offset = 0; written = 0 }) (ascii "....."))
     ∷ case (only 4) (decode (ascii "'ab'") (ascii "."))
     (decoded (record { number = 26; offset = 0; written = 0 }) (ascii "."))
