@@ -10,8 +10,8 @@
  *   value is what Lua sees. Give it what a lexer took for one literal.
  * - luck_check_literal checks a literal as it is written, without decoding it, and gives a span of the source, for an
  *   editor. What it accepts need not load: `"a\q%d"` is an accepted format, and Lua 5.2 to 5.5 do not load it.
- * - A value is any bytes, and need not be UTF-8. The checks read UTF-8: one such as that of `"[\128-\255]"` is refused
- *   (23) and can't be checked; luck_gsub_trial takes any bytes.
+ * - A value is any bytes, and need not be UTF-8. The checks read UTF-8: a value such as that of `"[\128-\255]"` is
+ *   refused (23) and can't be checked; luck_gsub_trial takes any bytes.
  *
  * For every function:
  *
@@ -64,8 +64,8 @@
  *    without a place: the offset is 0, or the answer has none
  *   24  UNDECODABLE           no literal, or an escape that is malformed or that this version does not have, or a
  *                             `\u{}` that it does not take: above 7FFFFFFF (versions 4 and 5); above 10FFFF, or a
- *                             surrogate, which Lua 5.3 itself takes (3 and 6); of more than 16 digits (6). Decoding
- *                             only; host/c/literal.h tells these apart and finds the place
+ *                             surrogate (3 and 6; Lua 5.3 itself takes a surrogate); of more than 16 digits (6).
+ *                             Decoding only; host/c/literal.h tells these apart and finds the place
  *   25  UNKNOWN_VERSION       `version` is not 1 to 6
  *   26  OUTPUT_TOO_SHORT      decoding: the value is longer than the output; trial: a byte was due and the output was
  *                             full

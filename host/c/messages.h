@@ -263,7 +263,7 @@ static message of_escape(const question *asked)
                                       "write the character's own number, up to 10FFFF"};
     static const message large = {"`$e` is too large", "write a number up to 10FFFF"};
     static const message larger = {"`$e` is too large", "write a number up to 7FFFFFFF"};
-    static const message digits = {"`$e` is too long: $v takes 16 digits", "leave out zeros at its front, as in `\\u{E9}`"};
+    static const message digits = {"`$e` is too long: $v takes at most 16 digits", "leave out zeros at its front, as in `\\u{E9}`"};
     bool extended = asked->version == LUCK_LUA_54 || asked->version == LUCK_LUA_55;
     const uint8_t *escape = asked->source + asked->shape.place;
     size_t len = asked->source_len - asked->shape.place;

@@ -1,6 +1,6 @@
 -- What the checks promise. First the check of a literal, where a kind letter names a check, the version is one of the
--- six and the text is UTF-8; in every other case the answer is 30, 25 or 23, by the definition. Then, at the end, every
--- check of a text with a code point that has no character (F-4 of document 02).
+-- six and the text is UTF-8; in every other case the answer is 30, 25 or 23, by the definition. At the end every check
+-- of a body that is not UTF-8, as the value of a literal can be (F-4 of document 02).
 -- Assumes nothing.
 use Prim.Native.Nat.{ℕ, _-_, _<_, _≤_}
 use Prim.Native.Char.{code}
@@ -16,11 +16,11 @@ use Rattle.luck_text.specs.Bytes.{if_then_else_, byteAt}
 use Rattle.luck_text.proofs.Cases.{by-test, and-left, and-right}
 use Rattle.luck_utf8.specs.Utf8.{illFormed, isChar, utf8Bytes}
 use Rattle.luck_utf8.proofs.Parts.{between-ascii}
+use Rattle.luck_utf8.proofs.Promises.{first-ill-formed}
 use Rattle.luck_token.specs.Version.{isVersion, rulesOf}
 use Rattle.luck_token.specs.Literal.{isShort}
-use Rattle.luck_token.proofs.Promises.{no-character-refused}
-use Rattle.luck_answer.specs.Answer.{Answer, accepted, refused, checkText}
-use Rattle.luck_answer.proofs.Texts.{text-fine}
+use Rattle.luck_answer.specs.Answer.{Answer, accepted, refused}
+use Rattle.luck_answer.proofs.Texts.{text-fine, text-ill-formed}
 use Rattle.luck_replacement.proofs.Promises.{UnknownOrFromNine, walk-accepts}
 use Rattle.luck_linter.specs.Computed.{computed}
 use Rattle.luck_linter.specs.Checks.{Check, replacement, checkOf, walkOf, answer}
@@ -115,14 +115,18 @@ literal-accepted captures start text h utf8 e =
     kept (code "G") 1 captures start text (replacement captures) refl refl utf8 e .1
     ∙ ap (withSpan start (bodyOf text)) (walk-accepts captures (bodyOf text) h)
 
--- ---- A text with a code point that has no character, as a value of 5.4 or 5.5 can be
+-- ---- A text that is not UTF-8, as a value of `"\255"`, or of `"\u{D800}"` in 5.4, is
 
--- every check answers 23 at the first byte of the code point, where what stands before is UTF-8
+-- every check of a body answers 23 at its first ill-formed sequence,
+pub ill-formed-checked : (check : Check) (version : ℕ) → isVersion version ≡ true → (text : List ℕ) (place : ℕ)
+    → illFormed text ≡ some place → answer check version text ≡ refused 23 place
+ill-formed-checked check version known text place e =
+    whole-check check version text
+    ∙ sym (text-ill-formed version text (walkOf check (rulesOf version) text) known place (sym e))
+
+-- and so at the first byte of a code point that has no character, where what stands before is UTF-8
 pub no-character-checked : (check : Check) (version : ℕ) → isVersion version ≡ true
     → (before after : List ℕ) → illFormed before ≡ none → (c : ℕ) → c ≤ 0x7FFF_FFFF → isChar c ≡ false
     → answer check version (before ++ utf8Bytes c ++ after) ≡ refused 23 (length before)
-unfolding checkText
 no-character-checked check version known before after utf8 c last e =
-    let text = before ++ utf8Bytes c ++ after in
-    whole-check check version text
-    ∙ no-character-refused refused (walkOf check (rulesOf version) text) version known before after utf8 c last e
+    ill-formed-checked check version known (before ++ utf8Bytes c ++ after) (length before) (first-ill-formed c last e before after utf8)

@@ -1,3 +1,3 @@
-// What is written to a lent output: bytes, parts of a text, and characters with their bytes.
+// What is written to a lent output: bytes, parts of a text, and the bytes of code points.
 pub mod character;
 pub mod output;

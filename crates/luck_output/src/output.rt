@@ -1,4 +1,4 @@
-// Bytes, characters and parts of a text, written to a lent output.
+// Bytes, code points and parts of a text, written to a lent output.
 ghost use mathlib.Core.Path.{_≡_};
 ghost use mathlib.Core.List.{[], _∷_};
 ghost use Prim.Native.Nat.{_+_, _-_, _<_, _≤_};

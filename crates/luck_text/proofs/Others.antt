@@ -1,4 +1,4 @@
--- What stays the same over each byte other than one stays the same over any run of such bytes.
+-- What stays the same over each byte that is not a given one stays the same over any run of such bytes.
 -- Assumes nothing.
 use Prim.Native.Nat.{ℕ, zero, suc, _+_, _-_, _<_, _≤_}
 use native.Mathlib.Omega.{arith}

@@ -1,4 +1,4 @@
-// Long runs of bytes other than one, as between two line breaks or escapes: they are passed over by blocks. The contracts
+// Long runs without a given byte, as between two line breaks or escapes: they are passed over by blocks. The contracts
 // say what callers go by: that this byte is not passed over. How much is passed over is a matter of speed alone.
 ghost use mathlib.Core.Path.{_≡_};
 ghost use mathlib.Core.Bool.{false};

@@ -146,7 +146,7 @@ fn digit_value(byte: u8) -> u64
     byte as u64 - 87
 }
 
-// A number with one more digit, of this value. What is larger than every limit that a check has stays at one such number.
+// A number with one more digit, of this value. What is larger than every limit of a check or an escape stays at one such number.
 fn with_digit(value: u64, base: u32, digit: u64) -> u64
     requires { ⌜ (value ≤ most) × (digit < 256) ⌝ }
     ensures { λ r. ⌜ r ≡ grown value base digit ⌝ }
@@ -180,7 +180,7 @@ pub struct Number {
     pub value: u32,
 }
 
-// The hexadecimal digits from `at` on, counted and read in one go.
+// The hexadecimal digits from `at` on, counted and read in one pass.
 pub fn hex_digits(text: &[u8], at: usize) -> Number
     ensures count { λ r. ⌜ r .count ≡ runOf isXdigit (drop at (now (text .entry))) ⌝ }
     ensures value { λ r. ⌜ r .value ≡ min (numeralOf 16 (part (now (text .entry)) at (at + r .count))) most ⌝ }

@@ -1,4 +1,6 @@
--- What is promised of decoding. `decodeString`, `decodingOf` and `outputOf` are in specs/Decode.antt.
+-- What is promised of decoding. `decodeString`, `withRoom`, `decodingOf` and `outputOf` are in specs/Decode.antt,
+-- `pieceAt` and `literalValue` in specs/Literal.antt, `afterText` in specs/Text.antt, `rulesOf` in specs/Version.antt,
+-- `utf8Bytes`, `isChar` and `illFormed` in specs/Utf8.antt of luck_utf8.
 -- Assumes nothing.
 use Prim.Native.Nat.{ℕ, _+_, _≤_}
 use Prim.Native.Char.{code}
@@ -108,7 +110,7 @@ decodes-allowed count c =
     (no-limit (leb 1 count) (isChar c), (any, (any, (refl, tt))))
 
 module _ (version : ℕ) (known : among version (3 ∷ 4 ∷ 5 ∷ 6 ∷ []) ≡ true) where
-  -- wherever it stands in a short literal, such an escape is the bytes of its code point, or malformed
+  -- at any place of a short literal where a piece begins, such an escape is the bytes of its code point, or malformed
   pub escape-decoded : (body : List ℕ) (p count c : ℕ)
       → byteAt body p ≡ code "\\" → byteAt body (p + 1) ≡ code "u" → byteAt body (p + 2) ≡ code "{"
       → count ≡ run isXdigit (drop (p + 3) body) → byteAt body (p + 3 + count) ≡ code "}"
@@ -148,7 +150,7 @@ pub versions-left : (version : ℕ) → (version ≡ 4 → ⊥) → (version ≡
 versions-left version f g = sym (other-rules version f g)
 
 module _ (rules : Rules) where
-  -- in these two every piece that is no `\u` of a short literal,
+  -- under any rules every piece that is no `\u` of a short literal,
   pub pieces-left : (long : Bool) (body : List ℕ) (p : ℕ)
       → (long ≡ false → byteAt body p ≡ code "\\" → byteAt body (p + 1) ≡ code "u" → ⊥)
       → pieceAt long rules body p ≡ pieceAt long (charactersOnly rules) body p
@@ -159,7 +161,7 @@ module _ (rules : Rules) where
       → literalValue rules raw ≡ literalValue (charactersOnly rules) raw
   values-left raw h = sym (other-literal rules raw h)
 
-  -- and each value that there was: no more than refusals became values
+  -- and each value that there was: only refusals became values
   pub values-kept : (raw v : List ℕ) → literalValue (charactersOnly rules) raw ≡ some v
       → literalValue rules raw ≡ some v
   values-kept = literal-stays rules

@@ -44,11 +44,13 @@ abbrev pub sizeOf : Option (List ℕ) → Size
 sizeOf none = size.Malformed
 sizeOf (some bytes) = size.Length (length bytes)
 
--- the byte at place p is a piece by itself: in a long string it begins no line break but a lone LF, which stands for
--- itself; in a short one it is no backslash
+-- where this holds the byte at place p is a piece by itself, in every version: in a long string it is no CR and no LF
+-- before a CR (a lone LF stands for itself), in a short one no backslash
 abbrev pub plain : Bool → List ℕ → ℕ → Bool
 plain true body p =
-    not (eqb (byteAt body p) (code "\r")) && not (eqb (byteAt body p) (code "\n") && eqb (byteAt body (p + 1)) (code "\r"))
+    let here = byteAt body p in
+    let next = byteAt body (p + 1) in
+    not (eqb here (code "\r")) && not (eqb here (code "\n") && eqb next (code "\r"))
 plain false body p = not (eqb (byteAt body p) (code "\\"))
 
 -- a value has no more bytes than its body

@@ -77,9 +77,11 @@ pub enum Escape {
 
 // A piece of the text, its width, and what it stands for.
 pub enum Piece {
-    // an escape of one letter: what it stands for is looked up where it is written
+    // an escape of one letter, two bytes wide: what it stands for is looked up where it is written, so that a reading that
+    // only measures does not branch on it
     Letter(u8),
     Byte { value: u8, width: usize },
+    // a code point that the version allows
     Character { code: u32, width: usize },
     Nothing { width: usize },
     Malformed,
@@ -238,7 +240,7 @@ fn allows_code_point(rules: Rules, count: usize, value: u32) -> bool
     false
 }
 
-// Any number of hexadecimal digits in braces.
+// Hexadecimal digits in braces, as many and of such a value as the version allows.
 fn unicode_escape(body: &[u8], at: usize, rules: Rules) -> Piece
     requires { ⌜ at + 1 < length (now body) ⌝ }
     ensures { λ r. ⌜ IsPiece (unicodeEscape rules (now (body .entry)) at) (now (body .entry)) at r ⌝ }
@@ -320,7 +322,7 @@ fn piece_at(body: &[u8], at: usize, long: bool, rules: Rules) -> Piece
     Piece::Byte { value, width: 1 }
 }
 
-// Whether the byte at `at` is a piece by itself.
+// Whether the byte at `at` is a piece by itself in every version.
 fn is_plain(body: &[u8], at: usize, long: bool) -> bool
     requires { ⌜ at < length (now body) ⌝ }
     ensures { λ r. ⌜ r ≡ plain long (now (body .entry)) at ⌝ }
@@ -335,8 +337,8 @@ fn is_plain(body: &[u8], at: usize, long: bool) -> bool
     byte != b'\r'
 }
 
-// The place behind the blocks that follow `at` and have no other byte than such. An LF at the end of the last is left out,
-// since it may be a break with a CR behind it.
+// The place behind the blocks that follow `at` and whose bytes are each a piece by itself. An LF at the end of the last is
+// left out, since it may be a break with a CR behind it.
 fn plain_blocks(body: &[u8], at: usize, long: bool) -> usize
     requires { ⌜ at ≤ length (now body) ⌝ }
     ensures { λ r. ⌜ (at ≤ r) × (r ≤ length (now (body .entry))) × ((k : ℕ) → at ≤ k → k < r → plain long (now (body .entry)) k ≡ true) ⌝ }
@@ -353,7 +355,7 @@ fn plain_blocks(body: &[u8], at: usize, long: bool) -> usize
     end
 }
 
-// Whether a body has a byte that is no piece by itself. Each line break but a lone LF has a CR.
+// Whether a body may have a byte that is no piece by itself. Each line break but a lone LF has a CR.
 fn has_special(body: &[u8], long: bool) -> bool
     ensures { λ r. ⌜ (r ≡ false → (k : ℕ) → k < length (now (body .entry)) → plain long (now (body .entry)) k ≡ true) ⌝ }
 {

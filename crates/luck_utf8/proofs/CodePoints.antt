@@ -14,7 +14,7 @@ use borrow.Author.Tests.{lt-ltb, le-ltb, le-leb, lt-leb, ltb-true}
 use Rattle.luck_text.specs.Bytes.{if_then_else_}
 use Rattle.luck_text.proofs.Cases.{if-true, if-false, and-left, and-right, order}
 use Rattle.luck_text.proofs.Bytes.{within, below, above}
-use Rattle.luck_utf8.specs.Utf8.{isChar, Length, rfc2279, lastCode, sixBits, bytesBy, utf8Bytes}
+use Rattle.luck_utf8.specs.Utf8.{isChar, Form, rfc2279, lastCode, sixBits, bytesBy, utf8Bytes}
 
 pub by-order : {P : Type 0} (a b : ℕ) → (a < b → P) → (b ≤ a → P) → P
 by-order a b f g = ⊎-elim f g (order a b)
@@ -67,20 +67,20 @@ six-bits-append mark (suc n) c after more = six-bits-append mark n (c / 0x40) _ 
 
 module _ (c : ℕ) where
   -- The row of a code point.
-  row-holds : (r : Length) (rows : List Length) → c ≤ r .last → bytesBy (r ∷ rows) c ≡ sixBits (r .mark) (r .tails) c []
+  row-holds : (r : Form) (rows : List Form) → c ≤ r .last → bytesBy (r ∷ rows) c ≡ sixBits (r .mark) (r .following) c []
   unfolding bytesBy
   row-holds r rows h = if-true _ _ _ (le-leb c (r .last) h)
 
-  row-below : (r : Length) (rows : List Length) → r .last < c → bytesBy (r ∷ rows) c ≡ bytesBy rows c
+  row-below : (r : Form) (rows : List Form) → r .last < c → bytesBy (r ∷ rows) c ≡ bytesBy rows c
   unfolding bytesBy
   row-below r rows h = if-false _ _ _ (lt-leb c (r .last) h)
 
   -- the first rows end below it
-  abbrev end-below : ℕ → List Length → Bool
+  abbrev end-below : ℕ → List Form → Bool
   end-below bound [] = true
   end-below bound (r ∷ rows) = ltb (r .last) bound && end-below bound rows
 
-  rows-below : (bound n : ℕ) (rows : List Length) → end-below bound (take n rows) ≡ true → bound ≤ c
+  rows-below : (bound n : ℕ) (rows : List Form) → end-below bound (take n rows) ≡ true → bound ≤ c
       → bytesBy rows c ≡ bytesBy (drop n rows) c
   rows-below bound zero rows e h = refl
   rows-below bound (suc n) [] e h = refl
@@ -148,9 +148,9 @@ module _ (c : ℕ) where
       (λ l h. omega arith) (λ l h. omega arith) (λ l h. omega arith) (λ h. absurd (omega arith))
 
   -- the number of bytes that the rows say
-  abbrev pub countBy : List Length → ℕ
+  abbrev pub countBy : List Form → ℕ
   countBy [] = 0
-  countBy (r ∷ rows) = if leb c (r .last) then suc (r .tails) else countBy rows
+  countBy (r ∷ rows) = if leb c (r .last) then suc (r .following) else countBy rows
 
   length-if : (t : Bool) (x y : List ℕ) (m n : ℕ) → length x ≡ m → length y ≡ n
       → length (if t then x else y) ≡ (if t then m else n)
@@ -158,8 +158,8 @@ module _ (c : ℕ) where
   length-if true x y m n e f = e
   length-if false x y m n e f = f
 
-  pub length-by : (rows : List Length) → length (bytesBy rows c) ≡ countBy rows
+  pub length-by : (rows : List Form) → length (bytesBy rows c) ≡ countBy rows
   unfolding bytesBy
   length-by [] = refl
   length-by (r ∷ rows) =
-      length-if (leb c (r .last)) _ _ _ _ (six-bits-length (r .mark) (r .tails) c [] ∙ omega arith) (length-by rows)
+      length-if (leb c (r .last)) _ _ _ _ (six-bits-length (r .mark) (r .following) c [] ∙ omega arith) (length-by rows)

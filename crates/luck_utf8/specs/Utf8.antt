@@ -20,7 +20,7 @@ pub record Range : Type 0 where
 abbrev pub _to_ : ℕ → ℕ → Range
 _to_ a b = record { low = a; high = b }
 
--- a row of the grammar of section 4: the first byte's range, and those of the bytes that follow it
+-- a row of the grammar of RFC 3629, section 4: the first byte's range, and those of the bytes that follow it
 pub record Row : Type 0 where
   pub lead : Range
   pub tails : List Range
@@ -78,7 +78,7 @@ abbrev pub placeOf : Utf8 → Option ℕ
 placeOf Valid = none
 placeOf (IllFormed p) = some p
 
--- section 3: the bits of a code point, six to each byte after the first
+-- RFC 3629, section 3: the bits of a code point, six to each byte after the first
 unfoldable pub codePoint : List ℕ → ℕ → ℕ → ℕ
 codePoint text p width =
     let b0 = byteAt text p in
@@ -101,17 +101,17 @@ charAt text p =
 unfoldable pub isChar : ℕ → Bool
 isChar c = ltb c 0xD800 || between 0xE000 0x10FFFF c
 
--- A row of the table in section 2 of RFC 2279, the original scheme, which RFC 3629 cut off at 10FFFF: the largest code
--- point that is written so, the bits that mark its first byte, and how many bytes of six bits follow.
-pub record Length : Type 0 where
+-- A row of the table in section 2 of RFC 2279, the original scheme, of which RFC 3629 keeps the characters: the largest
+-- code point that is written so, the bits that mark its first byte, and how many bytes of six bits follow.
+pub record Form : Type 0 where
   pub last : ℕ
   pub mark : ℕ
-  pub tails : ℕ
+  pub following : ℕ
 
-abbrev pub upTo : ℕ → ℕ → ℕ → Length
-upTo last mark tails = record { last = last; mark = mark; tails = tails }
+abbrev pub upTo : ℕ → ℕ → ℕ → Form
+upTo last mark following = record { last = last; mark = mark; following = following }
 
-unfoldable pub rfc2279 : List Length
+unfoldable pub rfc2279 : List Form
 rfc2279 =
     upTo 0x7F 0x00 0 ∷
     upTo 0x7FF 0xC0 1 ∷
@@ -124,16 +124,15 @@ rfc2279 =
 abbrev pub lastCode : ℕ
 lastCode = 0x7FFF_FFFF
 
--- so many bytes of six bits, the last of them the lowest, before the bytes that are already there; and in front of them
--- the marked byte with the bits that are left
+-- the bits of c in a marked first byte and n bytes of six bits each, the lowest in the last; and what stands behind them
 unfoldable pub sixBits : ℕ → ℕ → ℕ → List ℕ → List ℕ
 sixBits mark zero c after = (mark + c) ∷ after
 sixBits mark (suc n) c after = sixBits mark n (c / 0x40) ((0x80 + c % 0x40) ∷ after)
 
 -- by the first row that has the code point
-unfoldable pub bytesBy : List Length → ℕ → List ℕ
+unfoldable pub bytesBy : List Form → ℕ → List ℕ
 bytesBy [] c = []
-bytesBy (r ∷ rows) c = let more = bytesBy rows c in if leb c (r .last) then sixBits (r .mark) (r .tails) c [] else more
+bytesBy (r ∷ rows) c = let more = bytesBy rows c in if leb c (r .last) then sixBits (r .mark) (r .following) c [] else more
 
 -- the bytes of a code point of at most 7FFFFFFF; a larger number has none
 unfoldable pub utf8Bytes : ℕ → List ℕ

@@ -7,7 +7,7 @@ pub struct Known {
     pub applies: fn(check: Check, version: Option<u32>, text: &[u8]) -> bool,
 }
 
-/// None today: the definitions follow the Rust.
+/// None today: the definitions follow the Rust, and what F-4 decodes beyond it the reference answers (`reference/wide.rs`).
 pub const KNOWN: &[Known] = &[];
 
 pub fn is_known(check: Check, version: Option<u32>, text: &[u8]) -> bool {
