@@ -19,14 +19,14 @@ use Rattle.luck_utf8.proofs.Parts.{between-ascii}
 use Rattle.luck_utf8.proofs.Promises.{first-ill-formed}
 use Rattle.luck_token.specs.Version.{isVersion, rulesOf}
 use Rattle.luck_token.specs.Literal.{isShort}
-use Rattle.luck_answer.specs.Answer.{Answer, accepted, refused}
+use Rattle.luck_answer.specs.Answer.{Answer, accepted, refused, checkText}
 use Rattle.luck_answer.proofs.Texts.{text-fine, text-ill-formed}
 use Rattle.luck_replacement.proofs.Promises.{UnknownOrFromNine, walk-accepts}
 use Rattle.luck_linter.specs.Computed.{computed}
 use Rattle.luck_linter.specs.Checks.{Check, replacement, checkOf, walkOf, answer}
 use Rattle.luck_linter.specs.StringLiteral.{LiteralAnswer, hasNumericEscape, skippedAnswer, unspanned, withSpan, bodyOf, checkBody, checkShort, checkNamedLiteral, checkLiteral}
 use Rattle.luck_linter.proofs.Checked.{whole-check}
-use Rattle.luck_linter.proofs.StringLiterals.{text-passes}
+use Rattle.luck_linter.proofs.StringLiterals as literals
 
 -- a literal is skipped exactly where its text is no short string or its body has an escape `\0` to `\9`, `\x` or `\u`
 abbrev pub SkippedExactly : LiteralAnswer → List ℕ → Type 0
@@ -90,7 +90,7 @@ module _ (kind version : ℕ) (captures : Option ℕ) (start : ℕ) (text : List
   unfolding checkLiteral checkShort checkBody
   checked =
       ap (λ n. checkNamedLiteral n version start text) named
-      ∙ sym (text-passes check start text version (accepted 0) (text-fine version text (accepted 0) known (sym utf8)) refl)
+      ∙ sym (literals.text-passes check start text version (accepted 0) (text-fine version text (accepted 0) known (sym utf8)) refl)
 
   pub literal-skipped : SkippedExactly literal text
   literal-skipped = ap (λ l. l .skipped) checked ∙ skips (isShort text) (hasNumericEscape (bodyOf text)) walked (span-keeps start (bodyOf text) _ .0)
@@ -115,18 +115,26 @@ literal-accepted captures start text h utf8 e =
     kept (code "G") 1 captures start text (replacement captures) refl refl utf8 e .1
     ∙ ap (withSpan start (bodyOf text)) (walk-accepts captures (bodyOf text) h)
 
--- ---- A text that is not UTF-8, as a value of `"\255"`, or of `"\u{D800}"` in 5.4, is
+-- ---- A text that is not UTF-8, as the value of `"\255"` is, or of `"\u{D800}"` in 5.4
 
--- every check of a body answers 23 at its first ill-formed sequence,
-pub ill-formed-checked : (check : Check) (version : ℕ) → isVersion version ≡ true → (text : List ℕ) (place : ℕ)
-    → illFormed text ≡ some place → answer check version text ≡ refused 23 place
-ill-formed-checked check version known text place e =
-    whole-check check version text
-    ∙ sym (text-ill-formed version text (walkOf check (rulesOf version) text) known place (sym e))
+module _ (version : ℕ) (known : isVersion version ≡ true) (text : List ℕ) (place : ℕ) (e : illFormed text ≡ some place) where
+  tested : (walked : Answer) → checkText version text walked ≡ refused 23 place
+  tested walked = sym (text-ill-formed version text walked known place (sym e))
 
--- and so at the first byte of a code point that has no character, where what stands before is UTF-8
+  -- every check of a body answers 23 at its first ill-formed sequence,
+  pub ill-formed-checked : (check : Check) → answer check version text ≡ refused 23 place
+  ill-formed-checked check = whole-check check version text ∙ tested (walkOf check (rulesOf version) text)
+
+  -- and so does the check of a literal, without a span
+  pub ill-formed-literal : (kind : ℕ) (captures : Option ℕ) (start : ℕ) (check : Check) → checkOf kind captures ≡ some check
+      → checkLiteral kind version captures start text ≡ unspanned (refused 23 place)
+  ill-formed-literal kind captures start check named =
+      sym (literals.text-refused check start text version _ (sym (tested (accepted 0))) (λ z. absurd (omega arith))
+      ∙ literals.by-kind kind version captures start text (some check) (sym named))
+
+-- so that a check answers 23 at the first byte of a code point that has no character, where what stands before is UTF-8
 pub no-character-checked : (check : Check) (version : ℕ) → isVersion version ≡ true
     → (before after : List ℕ) → illFormed before ≡ none → (c : ℕ) → c ≤ 0x7FFF_FFFF → isChar c ≡ false
     → answer check version (before ++ utf8Bytes c ++ after) ≡ refused 23 (length before)
 no-character-checked check version known before after utf8 c last e =
-    ill-formed-checked check version known (before ++ utf8Bytes c ++ after) (length before) (first-ill-formed c last e before after utf8)
+    ill-formed-checked version known (before ++ utf8Bytes c ++ after) (length before) (first-ill-formed c last e before after utf8) check
