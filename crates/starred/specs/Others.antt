@@ -18,6 +18,9 @@ use Rattle.starred.specs.Cases.{Case, case, checked, checkedLiteral, dec
 abbrev only : ℕ → List ℕ
 only version = version ∷ []
 
+abbrev all : List ℕ
+all = 1 ∷ 2 ∷ 3 ∷ 4 ∷ 5 ∷ 6 ∷ []
+
 abbrev times : ℕ → List ℕ → List ℕ
 times zero text = []
 times (suc n) text = text ++ times n text
@@ -173,6 +176,48 @@ decodings =
     ∷ case (only 7) (decode (0xFF ∷ []) (ascii "....."))
     (decoded (record { number = 25; offset = 0; written = 0 }) (ascii "....."))
     ∷ []
+
+-- Each other kind of escape, and of line break, in every version.
+abbrev breaks : List ℕ
+breaks = code "\n" ∷ code "a" ∷ code "\r" ∷ code "\n" ∷ code "\n" ∷ code "\r" ∷ code "\r" ∷ []
+
+abbrev escapedBreaks : List ℕ
+escapedBreaks = ascii "'\\" ++ (code "\n" ∷ code "\r" ∷ []) ++ ascii "\\" ++ (code "\r" ∷ code "\n" ∷ []) ++ ascii "'"
+
+abbrev pub escapes : List Case
+escapes =
+    case all (decode (ascii "\"\\a\\b\\f\\n\\r\\t\\v\\\\\\\"\\'\"") (ascii "..........."))
+    (decoded (record { number = 0; offset = 0; written = 10 })
+    (0x07 ∷ 0x08 ∷ 0x0C ∷ 0x0A ∷ 0x0D ∷ 0x09 ∷ 0x0B ∷ ascii "\\\"'."))
+    ∷ case all (decode (ascii "'\\0651\\9\\255'") (ascii "....."))
+    (decoded (record { number = 0; offset = 0; written = 4 }) (ascii "A1" ++ (9 ∷ 255 ∷ []) ++ ascii "."))
+    ∷ case all (decode (ascii "'\\256'") (ascii "....."))
+    (decoded (record { number = 24; offset = 0; written = 0 }) (ascii "....."))
+    ∷ case (only 1) (decode (ascii "'\\x4a\\z a'") (ascii "......"))
+    (decoded (record { number = 0; offset = 0; written = 6 }) (ascii "x4az a"))
+    ∷ case (2 ∷ 3 ∷ 4 ∷ 5 ∷ 6 ∷ []) (decode (ascii "'\\x4a\\x4A\\z a'") (ascii "......"))
+    (decoded (record { number = 0; offset = 0; written = 3 }) (ascii "JJa..."))
+    ∷ case (2 ∷ 3 ∷ 4 ∷ 5 ∷ 6 ∷ []) (decode (ascii "'\\x4'") (ascii "....."))
+    (decoded (record { number = 24; offset = 0; written = 0 }) (ascii "....."))
+    ∷ case (3 ∷ 4 ∷ 5 ∷ 6 ∷ []) (decode (ascii "'\\u{e9}'") (ascii "....."))
+    (decoded (record { number = 0; offset = 0; written = 2 }) (0xC3 ∷ 0xA9 ∷ ascii "..."))
+    ∷ case (1 ∷ 6 ∷ []) (decode (ascii "'\\q'") (ascii "....."))
+    (decoded (record { number = 0; offset = 0; written = 1 }) (ascii "q...."))
+    ∷ case (2 ∷ 3 ∷ 4 ∷ 5 ∷ []) (decode (ascii "'\\q'") (ascii "....."))
+    (decoded (record { number = 24; offset = 0; written = 0 }) (ascii "....."))
+    ∷ case (1 ∷ 2 ∷ 3 ∷ 4 ∷ 5 ∷ []) (decode escapedBreaks (ascii "....."))
+    (decoded (record { number = 0; offset = 0; written = 2 }) (10 ∷ 10 ∷ ascii "..."))
+    ∷ case (only 6) (decode escapedBreaks (ascii "....."))
+    (decoded (record { number = 0; offset = 0; written = 3 }) (10 ∷ 13 ∷ 10 ∷ ascii ".."))
+    ∷ case (1 ∷ 2 ∷ 3 ∷ 4 ∷ 5 ∷ []) (decode (ascii "[[" ++ breaks ++ ascii "]]") (ascii "......."))
+    (decoded (record { number = 0; offset = 0; written = 4 }) (code "a" ∷ 10 ∷ 10 ∷ 10 ∷ ascii "..."))
+    ∷ case (only 6) (decode (ascii "[[" ++ breaks ++ ascii "]]") (ascii "......."))
+    (decoded (record { number = 0; offset = 0; written = 5 }) (code "a" ∷ 10 ∷ 10 ∷ 13 ∷ 13 ∷ ascii ".."))
+    ∷ []
+
+pub escapes-hold : told escapes ≡ wanted escapes
+unfolding checksComputed
+escapes-hold = refl
 
 pub decodings-hold : told decodings ≡ wanted decodings
 unfolding checksComputed

@@ -31,7 +31,8 @@ lua53andLuau = 3 ∷ 6 ∷ []
 abbrev lent : List ℕ
 lent = ascii "........"
 
--- The first and the last of each number of bytes, surrogates, and the last that has a character. More than 7FFFFFFF, and
+-- The first and the last of each number of bytes, surrogates, and the last that has a character; five and six bytes that
+-- all differ. More than 7FFFFFFF, and
 -- so much more that 64 bits hold 41 of it. Many digits and none. An output of five bytes for a code point of six.
 abbrev pub upToLast : List Case
 upToLast =
@@ -67,6 +68,10 @@ upToLast =
     (decoded (record { number = 0; offset = 0; written = 6 }) (0xFC ∷ 0x84 ∷ 0x80 ∷ 0x80 ∷ 0x80 ∷ 0x80 ∷ ascii ".."))
     ∷ case lua54and55 (decode (ascii "\"\\u{7FFFFFFF}\"") lent)
     (decoded (record { number = 0; offset = 0; written = 6 }) (0xFD ∷ 0xBF ∷ 0xBF ∷ 0xBF ∷ 0xBF ∷ 0xBF ∷ ascii ".."))
+    ∷ case lua54and55 (decode (ascii "\"\\u{1234567}\"") lent)
+    (decoded (record { number = 0; offset = 0; written = 5 }) (0xF9 ∷ 0x88 ∷ 0xB4 ∷ 0x95 ∷ 0xA7 ∷ ascii "..."))
+    ∷ case lua54and55 (decode (ascii "\"\\u{12345678}\"") lent)
+    (decoded (record { number = 0; offset = 0; written = 6 }) (0xFC ∷ 0x92 ∷ 0x8D ∷ 0x85 ∷ 0x99 ∷ 0xB8 ∷ ascii ".."))
     ∷ case lua54and55 (decode (ascii "\"\\u{80000000}\"") lent)
     (decoded (record { number = 24; offset = 0; written = 0 }) lent)
     ∷ case lua54and55 (decode (ascii "\"\\u{10000000000000041}\"") lent)
