@@ -380,7 +380,7 @@ fn put_simple(output: &mut [u8], at: usize, letter: u8)
 }
 
 // Answers how many bytes the value has, and writes it to the front of an output that has room for it. Blocks of plain bytes
-// are tried for behind every 16 pieces.
+// are tried for behind every 16 pieces, and in a long string behind each line break too, since a line follows it.
 fn write(body: &[u8], long: bool, rules: Rules, output: &mut [u8]) -> Size
     ensures size { λ r. ⌜ r ≡ sizeOf (valueOf long rules (now (body .entry))) ⌝ }
     ensures within { λ r. ⌜ SizeWithin r (length (now (body .entry))) ⌝ }
@@ -406,6 +406,9 @@ fn write(body: &[u8], long: bool, rules: Rules, output: &mut [u8]) -> Size
             continue;
         }
         let piece = piece_at(body, at, long, rules);
+        if long {
+            singles = 0;
+        }
         match piece {
             Piece::Letter(letter) => {
                 put_simple(output, size, letter);

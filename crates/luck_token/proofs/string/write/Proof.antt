@@ -82,77 +82,77 @@ loop-again-2 c =
 -- ---- Pieces
 
 add-size-3 : tie.Need-add-size-3 Inv-loop μ-loop
-add-size-3 c = omega (arith, c .before .before .before .before .before .before .before .before .before .before .before .before .loop .inv .1 .no-more, c .before .before .before .before .before .before .before .before .before .before .before .loop-test .taken)
+add-size-3 c = omega (arith, c .before .before .before .before .before .before .before .before .before .before .before .before .before .loop .inv .1 .no-more, c .before .before .before .before .before .before .before .before .before .before .before .before .loop-test .taken)
 
 add-at-2 : tie.Need-add-at-2 Inv-loop μ-loop
-add-at-2 c = omega (arith, seen (c .before .before .before .before .before .before .before) (c .before .before .before .before .before .piece .given .1) .inside)
+add-at-2 c = omega (arith, seen (c .before .before .before .before .before .before .before .before) (c .before .before .before .before .before .piece .given .1) .inside)
 
 loop-less-3 : tie.Need-loop-less-3 Inv-loop μ-loop
-loop-less-3 c = omega (arith, seen (c .before .before .before .before .before .before .before) (c .before .before .before .before .before .piece .given .1) .inside)
+loop-less-3 c = omega (arith, seen (c .before .before .before .before .before .before .before .before) (c .before .before .before .before .before .piece .given .1) .inside)
 
 loop-again-3 : tie.Need-loop-again-3 Inv-loop μ-loop
 loop-again-3 c =
-    let t = seen (c .before .before .before .before .before .before .before) (c .before .before .before .before .before .piece .given .1) in
-    piece-put (c .before .before .before .before .before .before .before .before .before .before .before .before) _ _ 2 1 refl (t .is) (t .inside) (omega arith) (c .before .before .put-simple .ensures)
+    let t = seen (c .before .before .before .before .before .before .before .before) (c .before .before .before .before .before .piece .given .1) in
+    piece-put (c .before .before .before .before .before .before .before .before .before .before .before .before .before) _ _ 2 1 refl (t .is) (t .inside) (omega arith) (c .before .before .put-simple .ensures)
 
 add-size-4 : tie.Need-add-size-4 Inv-loop μ-loop
-add-size-4 c = omega (arith, c .before .before .before .before .before .before .before .before .before .before .before .before .loop .inv .1 .no-more, c .before .before .before .before .before .before .before .before .before .before .before .loop-test .taken)
+add-size-4 c = omega (arith, c .before .before .before .before .before .before .before .before .before .before .before .before .before .loop .inv .1 .no-more, c .before .before .before .before .before .before .before .before .before .before .before .before .loop-test .taken)
 
 add-at-3 : tie.Need-add-at-3 Inv-loop μ-loop
-add-at-3 c = omega (arith, seen (c .before .before .before .before .before .before .before) (c .before .before .before .before .before .piece2 .given .1) .inside)
+add-at-3 c = omega (arith, seen (c .before .before .before .before .before .before .before .before) (c .before .before .before .before .before .piece2 .given .1) .inside)
 
 loop-less-4 : tie.Need-loop-less-4 Inv-loop μ-loop
-loop-less-4 c = omega (arith, seen (c .before .before .before .before .before .before .before) (c .before .before .before .before .before .piece2 .given .1) .inside)
+loop-less-4 c = omega (arith, seen (c .before .before .before .before .before .before .before .before) (c .before .before .before .before .before .piece2 .given .1) .inside)
 
 loop-again-4 : tie.Need-loop-again-4 Inv-loop μ-loop
 loop-again-4 c =
-    let t = seen (c .before .before .before .before .before .before .before) (c .before .before .before .before .before .piece2 .given .1) in
-    piece-put (c .before .before .before .before .before .before .before .before .before .before .before .before) _ _ _ 1 refl (t .is) (t .inside) (t .inside .0) (c .before .before .put-byte2 .ensures)
+    let t = seen (c .before .before .before .before .before .before .before .before) (c .before .before .before .before .before .piece2 .given .1) in
+    piece-put (c .before .before .before .before .before .before .before .before .before .before .before .before .before) _ _ _ 1 refl (t .is) (t .inside) (t .inside .0) (c .before .before .put-byte2 .ensures)
 
 put-char-requires : tie.Need-put-char-requires Inv-loop μ-loop
-put-char-requires c κs = seen (c .before .before .before .before) (c .before .before .piece3 .given .1) .inside .0
+put-char-requires c κs = seen (c .before .before .before .before .before) (c .before .before .piece3 .given .1) .inside .0
 
 add-size-5 : tie.Need-add-size-5 Inv-loop μ-loop
 add-size-5 c =
-    let t = seen (c .before .before .before .before .before .before .before) (c .before .before .before .before .before .piece3 .given .1) .inside in
-    omega (arith, c .before .before .before .before .before .before .before .before .before .before .before .before .loop .inv .1 .no-more, t .1, t .2 .1, c .before .before .put-char .ensures .0)
+    let t = seen (c .before .before .before .before .before .before .before .before) (c .before .before .before .before .before .piece3 .given .1) .inside in
+    omega (arith, c .before .before .before .before .before .before .before .before .before .before .before .before .before .loop .inv .1 .no-more, t .1, t .2 .1, c .before .before .put-char .ensures .0)
 
 add-at-4 : tie.Need-add-at-4 Inv-loop μ-loop
-add-at-4 c = omega (arith, seen (c .before .before .before .before .before .before .before) (c .before .before .before .before .before .piece3 .given .1) .inside .2)
+add-at-4 c = omega (arith, seen (c .before .before .before .before .before .before .before .before) (c .before .before .before .before .before .piece3 .given .1) .inside .2)
 
 loop-less-5 : tie.Need-loop-less-5 Inv-loop μ-loop
-loop-less-5 c = omega (arith, seen (c .before .before .before .before .before .before .before) (c .before .before .before .before .before .piece3 .given .1) .inside .2)
+loop-less-5 c = omega (arith, seen (c .before .before .before .before .before .before .before .before) (c .before .before .before .before .before .piece3 .given .1) .inside .2)
 
 loop-again-5 : tie.Need-loop-again-5 Inv-loop μ-loop
 loop-again-5 c =
-    let t = seen (c .before .before .before .before .before .before .before) (c .before .before .before .before .before .piece3 .given .1) in
+    let t = seen (c .before .before .before .before .before .before .before .before) (c .before .before .before .before .before .piece3 .given .1) in
     let put = c .before .before .put-char .ensures in
-    piece-put (c .before .before .before .before .before .before .before .before .before .before .before .before) _ _ _ _ (put .0) (t .is) (t .inside .2) (omega (arith, put .0, t .inside .1)) (put .1)
+    piece-put (c .before .before .before .before .before .before .before .before .before .before .before .before .before) _ _ _ _ (put .0) (t .is) (t .inside .2) (omega (arith, put .0, t .inside .1)) (put .1)
 
 add-at-5 : tie.Need-add-at-5 Inv-loop μ-loop
-add-at-5 c = omega (arith, seen (c .before .before .before) (c .before .piece4 .given .1) .inside)
+add-at-5 c = omega (arith, seen (c .before .before .before .before) (c .before .piece4 .given .1) .inside)
 
 loop-less-6 : tie.Need-loop-less-6 Inv-loop μ-loop
-loop-less-6 c = omega (arith, seen (c .before .before .before) (c .before .piece4 .given .1) .inside)
+loop-less-6 c = omega (arith, seen (c .before .before .before .before) (c .before .piece4 .given .1) .inside)
 
 loop-again-6 : tie.Need-loop-again-6 Inv-loop μ-loop
 loop-again-6 c =
-    let t = seen (c .before .before .before) (c .before .piece4 .given .1) in
-    let l = c .before .before .before .before .before .before .before .before in
+    let t = seen (c .before .before .before .before) (c .before .piece4 .given .1) in
+    let l = c .before .before .before .before .before .before .before .before .before in
     let a = l .before .before .before .args in
     let e : l .loop .size + 0 ≡ l .loop .size = omega arith in
     subst (values.Kept (a .long) (a .rules) (a .body .now) (a .output .now) (l .loop .output) (l .loop .at + c .before .piece4 .given .0 .0)) e
     (piece-put l [] _ _ 0 refl (t .is) (t .inside) (omega arith) (values.stores-nothing (l .loop .output) (l .loop .size) [] refl))
 
 same-length : tie.Need-same-length Inv-loop μ-loop
-same-length c = c .before .before .before .before .before .before .before .loop .inv .2 .same
+same-length c = c .before .before .before .before .before .before .before .before .loop .inv .2 .same
 
 returns : tie.Need-returns Inv-loop μ-loop
 returns c =
-    let l = c .before .before .before .before .before .before .before .loop in
-    let a = c .before .before .before .before .before .before .before .before .before .before .args in
-    values.kept-bad (a .long) (a .rules) (a .body .now) (a .output .now) (l .output) (l .at) (l .size) (l .inv) (seen (c .before .before) (c .enum-told .given .1) .is)
-    (c .before .before .before .before .before .before .loop-test .taken)
+    let l = c .before .before .before .before .before .before .before .before .loop in
+    let a = c .before .before .before .before .before .before .before .before .before .before .before .args in
+    values.kept-bad (a .long) (a .rules) (a .body .now) (a .output .now) (l .output) (l .at) (l .size) (l .inv) (seen (c .before .before .before) (c .enum-told .given .1) .is)
+    (c .before .before .before .before .before .before .before .loop-test .taken)
 
 same-length-2 : tie.Need-same-length-2 Inv-loop μ-loop
 same-length-2 c = c .before .loop .inv .2 .same
