@@ -61,7 +61,7 @@ fn write_four(output: &mut [u8], at: usize, mark: u32, bits: u32)
 }
 
 // Writes the five or six bytes of a code point above 1FFFFF at `at`, and says how many they are.
-fn write_wide(output: &mut [u8], at: usize, code: u32) -> usize
+fn write_five_or_six(output: &mut [u8], at: usize, code: u32) -> usize
     requires { ⌜ (0x20_0000 ≤ code) × (code ≤ lastCode) × (at + length (utf8Bytes code) ≤ length (now output)) ⌝ }
     ensures { λ r. ⌜ (r ≡ length (utf8Bytes code)) × (now (output .exit) ≡ sets (now (output .entry)) at (utf8Bytes code)) ⌝ }
 {
@@ -100,5 +100,5 @@ pub fn write_char(output: &mut [u8], at: usize, code: u32) -> usize
         write_four(output, at, 0xF0, code);
         return 4;
     }
-    write_wide(output, at, code)
+    write_five_or_six(output, at, code)
 }

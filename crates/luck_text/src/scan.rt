@@ -146,7 +146,8 @@ fn digit_value(byte: u8) -> u64
     byte as u64 - 87
 }
 
-// A number with one more digit, of this value. What is larger than every limit of a check or an escape stays at one such number.
+// A number with one more digit, of this value. What is larger than every limit of a check or an escape is kept as
+// 80000000 (hexadecimal).
 fn with_digit(value: u64, base: u32, digit: u64) -> u64
     requires { ⌜ (value ≤ most) × (digit < 256) ⌝ }
     ensures { λ r. ⌜ r ≡ grown value base digit ⌝ }
@@ -174,7 +175,7 @@ pub fn numeral(text: &[u8], from: usize, to: usize, base: u32) -> u32
     value as u32
 }
 
-// The number that digits in a row spell, or 80000000 (hexadecimal) where it is larger.
+// Digits in a row: how many they are, and the number that they spell, or 80000000 (hexadecimal) where it is larger.
 pub struct Number {
     pub count: usize,
     pub value: u32,

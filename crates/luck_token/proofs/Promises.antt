@@ -168,8 +168,8 @@ module _ (rules : Rules) where
 
 -- ---- A text with a code point that has no character
 
--- such a text is refused by 23 at the first byte of the code point, where what stands before is UTF-8: whatever is made
--- of a refusal, and whatever is read of other texts
+-- such a text is refused by 23 at the first byte of the code point, where what stands before is UTF-8: whatever form
+-- the refusal has, and whatever the answer to a text that is UTF-8 would be
 pub no-character-refused : {A : Type 0} (refusal : ℕ → ℕ → A) (answer : A) (version : ℕ) → isVersion version ≡ true
     → (before after : List ℕ) → illFormed before ≡ none → (c : ℕ) → c ≤ 0x7FFF_FFFF → isChar c ≡ false
     → afterText refusal version (before ++ utf8Bytes c ++ after) answer ≡ refusal 23 (length before)

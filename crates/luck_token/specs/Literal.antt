@@ -95,7 +95,7 @@ longPiece lfcr body p =
 unfoldable pub otherEscape : Rules → Escape
 otherEscape rules = if rules .«strict_escapes» then Undefined else Itself
 
--- what the byte after a backslash begins. The code's enum Escape: Simple (one letter for one byte), LineBreak, Hex
+-- what the byte after a backslash begins. The code's enum Escape: Simple (`\n`, `\"` and such), LineBreak, Hex
 -- `\xXX`, Whitespace `\z`, Decimal `\ddd`, Unicode `\u{XXX}`, Itself (the byte stands for itself), Undefined.
 unfoldable pub escapeKind : Rules → ℕ → Escape
 escapeKind rules e =
@@ -107,7 +107,7 @@ escapeKind rules e =
     else if eqb e (code "u") && rules .«unicode_escape» then Unicode
     else otherEscape rules
 
--- the byte of an escape of one letter: BEL, BS, FF, LF, CR, HT and VT; a backslash or a quote is itself
+-- the byte of an escape of kind Simple: BEL, BS, FF, LF, CR, HT and VT; a backslash or a quote is itself
 unfoldable pub simpleEscape : ℕ → ℕ
 simpleEscape e =
     if eqb e (code "a") then 0x07

@@ -59,7 +59,7 @@ pub fn short_string_body(raw: &[u8]) -> ShortString
 
 // What the byte after a backslash begins.
 pub enum Escape {
-    // one letter for one byte
+    // one byte behind the backslash, for one byte: `\n`, `\"`
     Simple,
     LineBreak,
     // `\xXX`
@@ -77,11 +77,11 @@ pub enum Escape {
 
 // A piece of the text, its width, and what it stands for.
 pub enum Piece {
-    // an escape of one letter, two bytes wide: what it stands for is looked up where it is written, so that a reading that
-    // only measures does not branch on it
+    // an escape of one byte behind the backslash, as `\n` or `\"`: what it stands for is looked up where it is written,
+    // so that a reading that only measures does not branch on it
     Letter(u8),
     Byte { value: u8, width: usize },
-    // a code point that the version allows
+    // a code point that the version allows; in 5.4 and 5.5 it need not be that of a character
     Character { code: u32, width: usize },
     Nothing { width: usize },
     Malformed,
@@ -136,7 +136,7 @@ fn escape_of(byte: u8, rules: Rules) -> Escape
     }
 }
 
-// The byte of an escape of one letter. A backslash or a quote is itself.
+// What such a byte stands for. A backslash or a quote is itself.
 fn simple_escape(byte: u8) -> u8
     ensures { λ r. ⌜ r ≡ simpleEscape byte ⌝ }
 {
@@ -220,7 +220,7 @@ fn allows_digits(rules: Rules, count: usize) -> bool
     true
 }
 
-// Whether `\u{}` has this value in the version: 5.4 and 5.5 know the code points of the original UTF-8, the others
+// Whether `\u{}` has this value in the version: 5.4 and 5.5 take each code point of the original UTF-8, the others
 // characters only.
 fn allows_value(rules: Rules, value: u32) -> bool
     ensures { λ r. ⌜ r ≡ allowsValue rules value ⌝ }
@@ -337,8 +337,8 @@ fn is_plain(body: &[u8], at: usize, long: bool) -> bool
     byte != b'\r'
 }
 
-// The place behind the blocks that follow `at` and whose bytes are each a piece by itself. An LF at the end of the last is
-// left out, since it may be a break with a CR behind it.
+// The place behind the blocks that follow `at` and whose bytes are each a piece by itself. An LF at the end of the last
+// is left out, since it may be a break with a CR behind it.
 fn plain_blocks(body: &[u8], at: usize, long: bool) -> usize
     requires { ⌜ at ≤ length (now body) ⌝ }
     ensures { λ r. ⌜ (at ≤ r) × (r ≤ length (now (body .entry))) × ((k : ℕ) → at ≤ k → k < r → plain long (now (body .entry)) k ≡ true) ⌝ }
@@ -370,7 +370,7 @@ pub enum Size {
     Malformed,
 }
 
-// Writes the byte of an escape of one letter at `at`, where it fits.
+// Writes the byte of an escape as `\n` at `at`, where it fits.
 fn put_simple(output: &mut [u8], at: usize, letter: u8)
     ensures { λ r. ⌜ now (output .exit) ≡ stores (now (output .entry)) at (simpleEscape letter ∷ []) ⌝ }
 {
@@ -379,8 +379,9 @@ fn put_simple(output: &mut [u8], at: usize, letter: u8)
     }
 }
 
-// Answers how many bytes the value has, and writes it to the front of an output that has room for it. Blocks of plain bytes
-// are tried for behind every 16 pieces, and in a long string behind each line break too, since a line follows it.
+// Answers how many bytes the value has, and writes it to the front of an output that has room for it. Blocks of plain
+// bytes are tried for behind every 16 pieces, and in a long string behind each CR, or LF before a CR, too: a line follows
+// it.
 fn write(body: &[u8], long: bool, rules: Rules, output: &mut [u8]) -> Size
     ensures size { λ r. ⌜ r ≡ sizeOf (valueOf long rules (now (body .entry))) ⌝ }
     ensures within { λ r. ⌜ SizeWithin r (length (now (body .entry))) ⌝ }
@@ -468,7 +469,8 @@ fn decode_long(body: &[u8], long: bool, rules: Rules, output: &mut [u8]) -> Deco
     }
 }
 
-// A value of up to 64 bytes is read once, into a buffer. Any other is measured first: a refusal leaves the output untouched.
+// A value of up to 64 bytes is read once, into a buffer. Any other is measured first: a refusal leaves the output
+// untouched.
 fn decode_pieces(body: &[u8], long: bool, rules: Rules, output: &mut [u8]) -> Decoded
     ensures answer { λ r. ⌜ numbered r ≡ decodingOf (withRoom (length (now (output .entry))) (valueOf long rules (now (body .entry)))) ⌝ }
     ensures output { λ r. ⌜ now (output .exit) ≡ outputOf (withRoom (length (now (output .entry))) (valueOf long rules (now (body .entry)))) (now (output .entry)) ⌝ }

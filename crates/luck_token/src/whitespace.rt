@@ -13,8 +13,8 @@ pub fn is_lua_whitespace(byte: u8) -> bool
     scan::is_in(Class::Whitespace, byte)
 }
 
-// How many bytes the line break at `at` has, 0 where there is none. Sums instead of branches: which of the breaks a text
-// has next can't be foreseen.
+// How many bytes the line break at `at` has, 0 where there is none. Sums instead of branches: which of the breaks comes
+// next can't be foreseen.
 pub fn line_break(text: &[u8], at: usize, lfcr: bool) -> usize
     ensures { λ r. ⌜ r ≡ lineBreak lfcr (now (text .entry)) at ⌝ }
 {

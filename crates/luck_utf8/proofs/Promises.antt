@@ -20,7 +20,7 @@ use Rattle.luck_utf8.proofs.Reading.{stands, read}
 use Rattle.luck_utf8.proofs.Refused.{refused}
 use Rattle.luck_utf8.proofs.ReadBack.{same-code}
 
--- the definition of before, which RFC 3629 has for characters: up to four bytes
+-- the definition before F-4, which RFC 3629 has for characters: up to four bytes
 abbrev pub formerBytes : ℕ → List ℕ
 formerBytes c =
     if ltb c 0x80 then c ∷ []
@@ -36,7 +36,7 @@ module _ (c : ℕ) where
   unfolding utf8Bytes rfc2279
   lengths = length-by c rfc2279
 
-  -- Up to 1FFFFF the bytes are those of before.
+  -- Up to 1FFFFF the bytes are those of before F-4.
   pub as-before : c ≤ 0x1F_FFFF → utf8Bytes c ≡ formerBytes c
   unfolding sixBits if_then_else_
   as-before last =

@@ -124,7 +124,7 @@ rfc2279 =
 abbrev pub lastCode : ℕ
 lastCode = 0x7FFF_FFFF
 
--- the bits of c in a marked first byte and n bytes of six bits each, the lowest in the last; and what stands behind them
+-- the bits of c in a marked first byte and n bytes of six bits each, the lowest in the last; then what follows them
 unfoldable pub sixBits : ℕ → ℕ → ℕ → List ℕ → List ℕ
 sixBits mark zero c after = (mark + c) ∷ after
 sixBits mark (suc n) c after = sixBits mark n (c / 0x40) ((0x80 + c % 0x40) ∷ after)
@@ -132,7 +132,9 @@ sixBits mark (suc n) c after = sixBits mark n (c / 0x40) ((0x80 + c % 0x40) ∷ 
 -- by the first row that has the code point
 unfoldable pub bytesBy : List Form → ℕ → List ℕ
 bytesBy [] c = []
-bytesBy (r ∷ rows) c = let more = bytesBy rows c in if leb c (r .last) then sixBits (r .mark) (r .following) c [] else more
+bytesBy (r ∷ rows) c =
+    let more = bytesBy rows c in
+    if leb c (r .last) then sixBits (r .mark) (r .following) c [] else more
 
 -- the bytes of a code point of at most 7FFFFFFF; a larger number has none
 unfoldable pub utf8Bytes : ℕ → List ℕ

@@ -31,9 +31,9 @@ lua53andLuau = 3 ∷ 6 ∷ []
 abbrev lent : List ℕ
 lent = ascii "........"
 
--- The first and the last of each number of bytes, surrogates, and the last that has a character; five and six bytes that
--- all differ. More than 7FFFFFFF, and
--- so much more that 64 bits hold 41 of it. Many digits and none. An output of five bytes for a code point of six.
+-- The first and the last of each number of bytes, surrogates, and the last that has a character; five and six bytes
+-- that all differ. A number above 7FFFFFFF, and one whose lowest 64 bits are 41. Many digits and none. An output of five
+-- bytes for a code point of six.
 abbrev pub upToLast : List Case
 upToLast =
     case lua54and55 (decode (ascii "\"\\u{0}\"") lent)

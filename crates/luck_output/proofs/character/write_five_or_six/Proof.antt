@@ -1,4 +1,4 @@
--- `luck_output::character::write_wide` meets its contract: four bytes as `write_four` writes them, and one or two more.
+-- `luck_output::character::write_five_or_six` meets its contract: four bytes as `write_four` writes them, and one or two more.
 -- Assumes nothing.
 use mathlib.Core.Path.{sym, ap}
 use Prim.Native.Nat.{_+_, _/_, _≤_}
@@ -9,8 +9,8 @@ use lib.ListN.{length, length-set}
 use Rattle.luck_utf8.specs.Utf8.{sixBits}
 use Rattle.luck_utf8.proofs.CodePoints.{five-bytes, six-bytes}
 use Rattle.luck_output.proofs.Characters.{sets-more}
-use Rattle.luck_output.proofs.character.write_wide.Statement.{statement}
-use Rattle.luck_output.proofs.character.write_wide.Tie as tie
+use Rattle.luck_output.proofs.character.write_five_or_six.Statement.{statement}
+use Rattle.luck_output.proofs.character.write_five_or_six.Tie as tie
 
 -- there is room for the bytes, in each branch
 room-five : (c : tie.Then1) → c .before .before .args .at + 5 ≤ length (c .before .before .args .output .now)
@@ -59,8 +59,8 @@ returns-2 c =
       rw (e, c .before .tail-byte2 .ensures, c .tail-byte3 .ensures) (sets-more o at 0xFC 4 code five),
     )
 
-pub write-wide-spec : {M : Type 1} → statement M
-write-wide-spec =
+pub write-five-or-six-spec : {M : Type 1} → statement M
+write-five-or-six-spec =
     tie.close
     (tie.spec
     write-four-requires
