@@ -53,10 +53,6 @@ module _ (text : List ℕ) (p : ℕ) (h : p < length text) where
 
 -- ---- One byte behind a `%`
 
-pub bit : (b : Bool) → boolByte b ≤ 1
-bit true = omega arith
-bit false = omega arith
-
 module _ (strict : Bool) (b : ℕ) where
   pub rank-digit : isDigit b ≡ true → b - 48 ≡ rank strict b
   unfolding rank

@@ -14,22 +14,19 @@ pub enum Class {
     Byte(u8),
 }
 
-fn is_digit(byte: u8) -> bool
-    ensures { λ r. ⌜ r ≡ inClass Class.Digit byte ⌝ }
-{
-    match byte {
-        b'0'..=b'9' => true,
-        _ => false,
-    }
-}
-
-fn is_between(byte: u8, low: u8, high: u8) -> bool
+pub fn is_between(byte: u8, low: u8, high: u8) -> bool
     ensures { λ r. ⌜ r ≡ between low high byte ⌝ }
 {
     if byte < low {
         return false;
     }
     byte <= high
+}
+
+fn is_digit(byte: u8) -> bool
+    ensures { λ r. ⌜ r ≡ inClass Class.Digit byte ⌝ }
+{
+    is_between(byte, b'0', b'9')
 }
 
 // A sum instead of branches: which of the three a digit is can't be foreseen.

@@ -12,13 +12,13 @@ use Rattle.luck_text.specs.Bytes.{byteAt, inFront}
 use Rattle.luck_utf8.specs.Utf8.{lastCode, utf8Bytes}
 use Rattle.luck_token.specs.Literal.{LiteralPiece, piece, malformed, simpleEscape}
 use Rattle.luck_token.specs.declared.string.Piece.{Piece as Found}
-use Rattle.luck_token.specs.declared.string.Piece.the-variants.{Letter, Byte, Character, Nothing, Malformed}
+use Rattle.luck_token.specs.declared.string.Piece.the-variants.{Simple, Byte, Character, Nothing, Malformed}
 use Rattle.luck_token.specs.declared.string.Size.{Size}
 use Rattle.luck_token.specs.declared.string.Size.the-variants as size
 
 -- the code's piece
 abbrev pub pieceOf : Found → LiteralPiece
-pieceOf (Letter e) = piece (simpleEscape e ∷ []) 2
+pieceOf (Simple e) = piece (simpleEscape e ∷ []) 2
 pieceOf (Byte b width) = piece (b ∷ []) width
 pieceOf (Character c width) = piece (utf8Bytes c) width
 pieceOf (Nothing width) = piece [] width
@@ -29,7 +29,7 @@ abbrev pub LiesInText : ℕ → ℕ → ℕ → ℕ → Type 0
 LiesInText least width p len = (least ≤ width) × (p + width ≤ len)
 
 abbrev pub Inside : Found → ℕ → ℕ → Type 0
-Inside (Letter e) p len = LiesInText 1 2 p len
+Inside (Simple e) p len = LiesInText 1 2 p len
 Inside (Byte b width) p len = LiesInText 1 width p len
 Inside (Character c width) p len = (c ≤ lastCode) × (length (utf8Bytes c) ≤ width) × LiesInText 1 width p len
 Inside (Nothing width) p len = LiesInText 1 width p len

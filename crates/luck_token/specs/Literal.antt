@@ -107,15 +107,15 @@ escapeKind rules e =
     else if eqb e (code "u") && rules .«unicode_escape» then Unicode
     else otherEscape rules
 
--- the byte of an escape of kind Simple: BEL, BS, FF, LF, CR, HT and VT; a backslash or a quote is itself
+-- the byte of an escape of kind Simple: 07, 08, 0C and 0B are BEL, BS, FF and VT; a backslash or a quote is itself
 unfoldable pub simpleEscape : ℕ → ℕ
 simpleEscape e =
     if eqb e (code "a") then 0x07
     else if eqb e (code "b") then 0x08
     else if eqb e (code "f") then 0x0C
-    else if eqb e (code "n") then 0x0A
-    else if eqb e (code "r") then 0x0D
-    else if eqb e (code "t") then 0x09
+    else if eqb e (code "n") then code "\n"
+    else if eqb e (code "r") then code "\r"
+    else if eqb e (code "t") then code "\t"
     else if eqb e (code "v") then 0x0B else e
 
 -- `\` and a line break is a newline. A lone CR counts here in Luau too.

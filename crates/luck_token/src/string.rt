@@ -77,9 +77,9 @@ pub enum Escape {
 
 // A piece of the text, its width, and what it stands for.
 pub enum Piece {
-    // an escape of one byte behind the backslash, as `\n` or `\"`: what it stands for is looked up where it is written,
-    // so that a reading that only measures does not branch on it
-    Letter(u8),
+    // the byte behind the backslash: what it stands for is looked up where it is written, so that a reading that only
+    // measures does not branch on it
+    Simple(u8),
     Byte { value: u8, width: usize },
     // a code point that the version allows; in 5.4 and 5.5 it need not be that of a character
     Character { code: u32, width: usize },
@@ -136,7 +136,7 @@ fn escape_of(byte: u8, rules: Rules) -> Escape
     }
 }
 
-// What such a byte stands for. A backslash or a quote is itself.
+// What a simple escape stands for, by the byte behind the backslash. A backslash or a quote is itself.
 fn simple_escape(byte: u8) -> u8
     ensures { λ r. ⌜ r ≡ simpleEscape byte ⌝ }
 {
@@ -273,7 +273,7 @@ fn escape_at(body: &[u8], at: usize, rules: Rules) -> Piece
     let byte = body[next];
     let escape = escape_of(byte, rules);
     match escape {
-        Escape::Simple => Piece::Letter(byte),
+        Escape::Simple => Piece::Simple(byte),
         Escape::LineBreak => line_break_escape(body, at, rules),
         Escape::Hex => hex_escape(body, at),
         Escape::Whitespace => {
@@ -370,12 +370,12 @@ pub enum Size {
     Malformed,
 }
 
-// Writes the byte of an escape as `\n` at `at`, where it fits.
-fn put_simple(output: &mut [u8], at: usize, letter: u8)
-    ensures { λ r. ⌜ now (output .exit) ≡ stores (now (output .entry)) at (simpleEscape letter ∷ []) ⌝ }
+// Writes what a simple escape stands for at `at`, where it fits.
+fn put_simple(output: &mut [u8], at: usize, byte: u8)
+    ensures { λ r. ⌜ now (output .exit) ≡ stores (now (output .entry)) at (simpleEscape byte ∷ []) ⌝ }
 {
     if at < output.len() {
-        output[at] = simple_escape(letter);
+        output[at] = simple_escape(byte);
     }
 }
 
@@ -411,8 +411,8 @@ fn write(body: &[u8], long: bool, rules: Rules, output: &mut [u8]) -> Size
             singles = 0;
         }
         match piece {
-            Piece::Letter(letter) => {
-                put_simple(output, size, letter);
+            Piece::Simple(byte) => {
+                put_simple(output, size, byte);
                 size += 1;
                 at += 2;
             }

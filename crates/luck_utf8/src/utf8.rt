@@ -4,10 +4,11 @@ ghost use mathlib.Core.List.{[], _∷_};
 ghost use mathlib.Core.Option.{some};
 ghost use Prim.Native.Nat.{ℕ, _+_, _*_, _-_, _<_, _≤_};
 ghost use lib.ListN.{length};
-ghost use Rattle.luck_text.specs.Bytes.{byteAt, between};
+ghost use Rattle.luck_text.specs.Bytes.{byteAt};
 ghost use Rattle.luck_text.specs.Walk.{walkFrom};
 ghost use Rattle.luck_utf8.specs.Utf8.{_to_, tail, rfc3629, tailsOf, sequenceAt, noneIllFormed, illFormed, placeOf, charAt};
 ghost use Rattle.luck_utf8.specs.Utf8.{sequence as sequenceOf};
+use luck_text::scan;
 
 pub enum Utf8 {
     Valid,
@@ -24,15 +25,6 @@ pub struct Char {
 struct Second {
     low: u8,
     high: u8,
-}
-
-fn within(byte: u8, low: u8, high: u8) -> bool
-    ensures { λ r. ⌜ r ≡ between low high byte ⌝ }
-{
-    if byte < low {
-        return false;
-    }
-    byte <= high
 }
 
 // A byte below A0 behind E0 would be a longer form of a shorter sequence, and one above 9F behind ED a surrogate.
@@ -94,7 +86,7 @@ fn two(text: &[u8], at: usize) -> usize
     if lead < 0xC2 {
         return 0;
     }
-    if !within(second, 0x80, 0xBF) {
+    if !scan::is_between(second, 0x80, 0xBF) {
         return 0;
     }
     2
@@ -111,10 +103,10 @@ fn three(text: &[u8], at: usize) -> usize
     }
     let second = text[at + 1];
     let third = text[at + 2];
-    if !within(second, range.low, range.high) {
+    if !scan::is_between(second, range.low, range.high) {
         return 0;
     }
-    if !within(third, 0x80, 0xBF) {
+    if !scan::is_between(third, 0x80, 0xBF) {
         return 0;
     }
     3
@@ -132,13 +124,13 @@ fn four(text: &[u8], at: usize) -> usize
     let second = text[at + 1];
     let third = text[at + 2];
     let fourth = text[at + 3];
-    if !within(second, range.low, range.high) {
+    if !scan::is_between(second, range.low, range.high) {
         return 0;
     }
-    if !within(third, 0x80, 0xBF) {
+    if !scan::is_between(third, 0x80, 0xBF) {
         return 0;
     }
-    if !within(fourth, 0x80, 0xBF) {
+    if !scan::is_between(fourth, 0x80, 0xBF) {
         return 0;
     }
     4

@@ -48,6 +48,44 @@ tell version (trial sub pat rep budget output) =
     let answer = gsub version pat rep sub budget (length output) in
     tried (report answer) (outputAfter output answer)
 
+-- ---- Answers by their form
+
+-- the check of a literal: a fault with its span; an answer without one; a literal that is skipped
+abbrev pub spanned : Answer → ℕ → ℕ → Told
+spanned answer start end =
+    checkedLiteral
+    (record { skipped = false; spanned = true; answer = answer; span = record { start = start; end = end } })
+
+abbrev pub unspanned : Answer → Told
+unspanned answer =
+    checkedLiteral (record { skipped = false; spanned = false; answer = answer; span = record { start = 0; end = 0 } })
+
+abbrev pub skipped : Told
+skipped =
+    checkedLiteral
+    (record {
+      skipped = true;
+      spanned = false;
+      answer = record { number = 0; offset = 0; first = 0; second = 0; count = 0 };
+      span = record { start = 0; end = 0 };
+    })
+
+-- decoding: these bytes, and what is left of the output behind them; or a refusal and the output
+abbrev pub value : List ℕ → List ℕ → Told
+value bytes left = decoded (record { number = 0; offset = 0; written = length bytes }) (bytes ++ left)
+
+abbrev pub refused : ℕ → ℕ → List ℕ → Told
+refused number offset output = decoded (record { number = number; offset = offset; written = 0 }) output
+
+-- ---- Cases
+
+-- versions
+abbrev pub only : ℕ → List ℕ
+only version = version ∷ []
+
+abbrev pub every : List ℕ
+every = 1 ∷ 2 ∷ 3 ∷ 4 ∷ 5 ∷ 6 ∷ []
+
 -- under each of these versions, this is asked and this wanted
 pub data Case : Type 0 where
   case : List ℕ → Asked → Told → Case

@@ -13,13 +13,8 @@ use Rattle.luck_text.specs.Bytes.{ascii}
 use Rattle.luck_linter.specs.Computed.{computed as checksComputed}
 use Rattle.lstr_gsub.specs.Computed.{computed as trialComputed}
 use Rattle.starred.specs.Cases.{format, pattern, pack, packsize, date, replacement, literal, decode, trial}
-use Rattle.starred.specs.Cases.{Case, case, checked, checkedLiteral, decoded, tried, told, wanted}
-
-abbrev only : ℕ → List ℕ
-only version = version ∷ []
-
-abbrev all : List ℕ
-all = 1 ∷ 2 ∷ 3 ∷ 4 ∷ 5 ∷ 6 ∷ []
+use Rattle.starred.specs.Cases.{checked, spanned, unspanned, skipped, value, refused, tried}
+use Rattle.starred.specs.Cases.{Case, case, only, every, told, wanted}
 
 abbrev times : ℕ → List ℕ → List ℕ
 times zero text = []
@@ -80,75 +75,25 @@ checks-hold = refl
 abbrev pub literals : List Case
 literals =
     case (only 1) (literal (code "F") none 10 (ascii "\"trip %y\""))
-    (checkedLiteral (record {
-      skipped = false;
-      spanned = true;
-      answer = record { number = 2; offset = 6; first = code "y"; second = 0; count = 0 };
-      span = record { start = 17; end = 18 };
-    }))
+    (spanned (record { number = 2; offset = 6; first = code "y"; second = 0; count = 0 }) 17 18)
     ∷ case (only 1) (literal (code "F") none 10 (ascii "'%" ++ (0xC3 ∷ 0xA9 ∷ []) ++ ascii "'"))
-    (checkedLiteral (record {
-      skipped = false;
-      spanned = true;
-      answer = record { number = 2; offset = 1; first = 0xE9; second = 0; count = 0 };
-      span = record { start = 12; end = 14 };
-    }))
+    (spanned (record { number = 2; offset = 1; first = 0xE9; second = 0; count = 0 }) 12 14)
     ∷ case (only 4) (literal (code "P") none 10 (ascii "\"(a\""))
-    (checkedLiteral (record {
-      skipped = false;
-      spanned = true;
-      answer = record { number = 11; offset = 2; first = 0; second = 0; count = 0 };
-      span = record { start = 13; end = 14 };
-    }))
+    (spanned (record { number = 11; offset = 2; first = 0; second = 0; count = 0 }) 13 14)
     ∷ case (only 4) (literal (code "F") none 0xFFFF_FFFE (ascii "\"a%#d\""))
-    (checkedLiteral (record {
-      skipped = false;
-      spanned = true;
-      answer = record { number = 6; offset = 2; first = code "#"; second = code "d"; count = 0 };
-      span = record { start = 0xFFFF_FFFF; end = 0xFFFF_FFFF };
-    }))
+    (spanned (record { number = 6; offset = 2; first = code "#"; second = code "d"; count = 0 }) 0xFFFF_FFFF 0xFFFF_FFFF)
     ∷ case (only 4) (literal (code "P") none 10 (ascii "\"(a)\""))
-    (checkedLiteral (record {
-      skipped = false;
-      spanned = false;
-      answer = record { number = 0; offset = 0; first = 0; second = 0; count = 1 };
-      span = record { start = 0; end = 0 };
-    }))
+    (unspanned (record { number = 0; offset = 0; first = 0; second = 0; count = 1 }))
     ∷ case (only 4) (literal (code "P") none 10 (ascii "\"(\\097\""))
-    (checkedLiteral (record {
-      skipped = true;
-      spanned = false;
-      answer = record { number = 0; offset = 0; first = 0; second = 0; count = 0 };
-      span = record { start = 0; end = 0 };
-    }))
+    skipped
     ∷ case (only 4) (literal (code "P") none 10 (ascii "[[(a]]"))
-    (checkedLiteral (record {
-      skipped = true;
-      spanned = false;
-      answer = record { number = 0; offset = 0; first = 0; second = 0; count = 0 };
-      span = record { start = 0; end = 0 };
-    }))
+    skipped
     ∷ case (only 4) (literal (code "P") none 10 (ascii "\"(a" ++ (0xFF ∷ []) ++ ascii "\""))
-    (checkedLiteral (record {
-      skipped = false;
-      spanned = false;
-      answer = record { number = 23; offset = 3; first = 0; second = 0; count = 0 };
-      span = record { start = 0; end = 0 };
-    }))
+    (unspanned (record { number = 23; offset = 3; first = 0; second = 0; count = 0 }))
     ∷ case (only 7) (literal (code "P") none 10 (0xFF ∷ []))
-    (checkedLiteral (record {
-      skipped = false;
-      spanned = false;
-      answer = record { number = 25; offset = 0; first = 0; second = 0; count = 0 };
-      span = record { start = 0; end = 0 };
-    }))
+    (unspanned (record { number = 25; offset = 0; first = 0; second = 0; count = 0 }))
     ∷ case (only 7) (literal (code "Q") none 10 (0xFF ∷ []))
-    (checkedLiteral (record {
-      skipped = false;
-      spanned = false;
-      answer = record { number = 30; offset = 0; first = 0; second = 0; count = 0 };
-      span = record { start = 0; end = 0 };
-    }))
+    (unspanned (record { number = 30; offset = 0; first = 0; second = 0; count = 0 }))
     ∷ []
 
 pub literals-hold : told literals ≡ wanted literals
@@ -157,71 +102,66 @@ literals-hold = refl
 
 -- ---- Decoding
 
+abbrev five : List ℕ
+five = ascii "....."
+
 abbrev pub decodings : List Case
 decodings =
-    case (only 4) (decode (ascii "\"\\u{E9}\\z  \\065\"") (ascii "....."))
-    (decoded (record { number = 0; offset = 0; written = 3 }) (0xC3 ∷ 0xA9 ∷ ascii "A.."))
-    ∷ case (only 4) (decode (ascii "[=[" ++ (code "\r" ∷ code "\n" ∷ []) ++ ascii "a]]]=]") (ascii "....."))
-    (decoded (record { number = 0; offset = 0; written = 3 }) (ascii "a]].."))
-    ∷ case (only 2) (decode (ascii "\"\\q\"") (ascii "....."))
-    (decoded (record { number = 24; offset = 0; written = 0 }) (ascii "....."))
-    ∷ case (only 1) (decode (ascii "\"\\q\"") (ascii "....."))
-    (decoded (record { number = 0; offset = 0; written = 1 }) (ascii "q...."))
-    ∷ case (only 3) (decode (ascii "\"\\u{D800}\"") (ascii "....."))
-    (decoded (record { number = 24; offset = 0; written = 0 }) (ascii "....."))
-    ∷ case (only 4) (decode (ascii "'ab'") (ascii "."))
-    (decoded (record { number = 26; offset = 0; written = 0 }) (ascii "."))
-    ∷ case (only 4) (decode (ascii "'a" ++ (0xFF ∷ []) ++ ascii "'") (ascii "....."))
-    (decoded (record { number = 23; offset = 2; written = 0 }) (ascii "....."))
-    ∷ case (only 7) (decode (0xFF ∷ []) (ascii "....."))
-    (decoded (record { number = 25; offset = 0; written = 0 }) (ascii "....."))
+    case (only 4) (decode (ascii "\"\\u{E9}\\z  \\065\"") five) (value (0xC3 ∷ 0xA9 ∷ ascii "A") (ascii ".."))
+    ∷ case (only 4) (decode (ascii "[=[" ++ (code "\r" ∷ code "\n" ∷ []) ++ ascii "a]]]=]") five)
+    (value (ascii "a]]") (ascii ".."))
+    ∷ case (only 2) (decode (ascii "\"\\q\"") five) (refused 24 0 five)
+    ∷ case (only 1) (decode (ascii "\"\\q\"") five) (value (ascii "q") (ascii "...."))
+    ∷ case (only 3) (decode (ascii "\"\\u{D800}\"") five) (refused 24 0 five)
+    ∷ case (only 4) (decode (ascii "'ab'") (ascii ".")) (refused 26 0 (ascii "."))
+    ∷ case (only 4) (decode (ascii "'a" ++ (0xFF ∷ []) ++ ascii "'") five) (refused 23 2 five)
+    ∷ case (only 7) (decode (0xFF ∷ []) five) (refused 25 0 five)
     ∷ []
 
+pub decodings-hold : told decodings ≡ wanted decodings
+unfolding checksComputed
+decodings-hold = refl
+
 -- Each other kind of escape, and of line break, in every version.
-abbrev breaks : List ℕ
-breaks = code "\n" ∷ code "a" ∷ code "\r" ∷ code "\n" ∷ code "\n" ∷ code "\r" ∷ code "\r" ∷ []
+abbrev lua : List ℕ
+lua = 1 ∷ 2 ∷ 3 ∷ 4 ∷ 5 ∷ []
+
+abbrev from52 : List ℕ
+from52 = 2 ∷ 3 ∷ 4 ∷ 5 ∷ 6 ∷ []
+
+abbrev lf : List ℕ
+lf = code "\n" ∷ []
+
+abbrev cr : List ℕ
+cr = code "\r" ∷ []
 
 abbrev escapedBreaks : List ℕ
-escapedBreaks = ascii "'\\" ++ (code "\n" ∷ code "\r" ∷ []) ++ ascii "\\" ++ (code "\r" ∷ code "\n" ∷ []) ++ ascii "'"
+escapedBreaks = ascii "'\\" ++ lf ++ cr ++ ascii "\\" ++ cr ++ lf ++ ascii "'"
+
+abbrev longBreaks : List ℕ
+longBreaks = ascii "[[" ++ lf ++ ascii "a" ++ cr ++ lf ++ lf ++ cr ++ cr ++ ascii "]]"
 
 abbrev pub escapes : List Case
 escapes =
-    case all (decode (ascii "\"\\a\\b\\f\\n\\r\\t\\v\\\\\\\"\\'\"") (ascii "..........."))
-    (decoded (record { number = 0; offset = 0; written = 10 })
-    (0x07 ∷ 0x08 ∷ 0x0C ∷ 0x0A ∷ 0x0D ∷ 0x09 ∷ 0x0B ∷ ascii "\\\"'."))
-    ∷ case all (decode (ascii "'\\0651\\9\\255'") (ascii "....."))
-    (decoded (record { number = 0; offset = 0; written = 4 }) (ascii "A1" ++ (9 ∷ 255 ∷ []) ++ ascii "."))
-    ∷ case all (decode (ascii "'\\256'") (ascii "....."))
-    (decoded (record { number = 24; offset = 0; written = 0 }) (ascii "....."))
-    ∷ case (only 1) (decode (ascii "'\\x4a\\z a'") (ascii "......"))
-    (decoded (record { number = 0; offset = 0; written = 6 }) (ascii "x4az a"))
-    ∷ case (2 ∷ 3 ∷ 4 ∷ 5 ∷ 6 ∷ []) (decode (ascii "'\\x4a\\x4A\\z a'") (ascii "......"))
-    (decoded (record { number = 0; offset = 0; written = 3 }) (ascii "JJa..."))
-    ∷ case (2 ∷ 3 ∷ 4 ∷ 5 ∷ 6 ∷ []) (decode (ascii "'\\x4'") (ascii "....."))
-    (decoded (record { number = 24; offset = 0; written = 0 }) (ascii "....."))
-    ∷ case (3 ∷ 4 ∷ 5 ∷ 6 ∷ []) (decode (ascii "'\\u{e9}'") (ascii "....."))
-    (decoded (record { number = 0; offset = 0; written = 2 }) (0xC3 ∷ 0xA9 ∷ ascii "..."))
-    ∷ case (1 ∷ 6 ∷ []) (decode (ascii "'\\q'") (ascii "....."))
-    (decoded (record { number = 0; offset = 0; written = 1 }) (ascii "q...."))
-    ∷ case (2 ∷ 3 ∷ 4 ∷ 5 ∷ []) (decode (ascii "'\\q'") (ascii "....."))
-    (decoded (record { number = 24; offset = 0; written = 0 }) (ascii "....."))
-    ∷ case (1 ∷ 2 ∷ 3 ∷ 4 ∷ 5 ∷ []) (decode escapedBreaks (ascii "....."))
-    (decoded (record { number = 0; offset = 0; written = 2 }) (10 ∷ 10 ∷ ascii "..."))
-    ∷ case (only 6) (decode escapedBreaks (ascii "....."))
-    (decoded (record { number = 0; offset = 0; written = 3 }) (10 ∷ 13 ∷ 10 ∷ ascii ".."))
-    ∷ case (1 ∷ 2 ∷ 3 ∷ 4 ∷ 5 ∷ []) (decode (ascii "[[" ++ breaks ++ ascii "]]") (ascii "......."))
-    (decoded (record { number = 0; offset = 0; written = 4 }) (code "a" ∷ 10 ∷ 10 ∷ 10 ∷ ascii "..."))
-    ∷ case (only 6) (decode (ascii "[[" ++ breaks ++ ascii "]]") (ascii "......."))
-    (decoded (record { number = 0; offset = 0; written = 5 }) (code "a" ∷ 10 ∷ 10 ∷ 13 ∷ 13 ∷ ascii ".."))
+    case every (decode (ascii "\"\\a\\b\\f\\n\\r\\t\\v\\\\\\\"\\'\"") (ascii "..........."))
+    (value (0x07 ∷ 0x08 ∷ 0x0C ∷ (lf ++ cr ++ (code "\t" ∷ 0x0B ∷ ascii "\\\"'"))) (ascii "."))
+    ∷ case every (decode (ascii "'\\0651\\9\\255'") five) (value (ascii "A1" ++ (code "\t" ∷ 0xFF ∷ [])) (ascii "."))
+    ∷ case every (decode (ascii "'\\256'") five) (refused 24 0 five)
+    ∷ case (only 1) (decode (ascii "'\\x4a\\z a'") (ascii "......")) (value (ascii "x4az a") [])
+    ∷ case from52 (decode (ascii "'\\x4a\\x4A\\z a'") five) (value (ascii "JJa") (ascii ".."))
+    ∷ case from52 (decode (ascii "'\\x4'") five) (refused 24 0 five)
+    ∷ case (3 ∷ 4 ∷ 5 ∷ 6 ∷ []) (decode (ascii "'\\u{e9}'") five) (value (0xC3 ∷ 0xA9 ∷ []) (ascii "..."))
+    ∷ case (1 ∷ 6 ∷ []) (decode (ascii "'\\q'") five) (value (ascii "q") (ascii "...."))
+    ∷ case (2 ∷ 3 ∷ 4 ∷ 5 ∷ []) (decode (ascii "'\\q'") five) (refused 24 0 five)
+    ∷ case lua (decode escapedBreaks five) (value (lf ++ lf) (ascii "..."))
+    ∷ case (only 6) (decode escapedBreaks five) (value (lf ++ cr ++ lf) (ascii ".."))
+    ∷ case lua (decode longBreaks five) (value (ascii "a" ++ lf ++ lf ++ lf) (ascii "."))
+    ∷ case (only 6) (decode longBreaks five) (value (ascii "a" ++ lf ++ lf ++ cr ++ cr) [])
     ∷ []
 
 pub escapes-hold : told escapes ≡ wanted escapes
 unfolding checksComputed
 escapes-hold = refl
-
-pub decodings-hold : told decodings ≡ wanted decodings
-unfolding checksComputed
-decodings-hold = refl
 
 -- ---- The trial
 

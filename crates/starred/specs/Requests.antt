@@ -6,21 +6,17 @@ use mathlib.Core.Path.{_≡_, refl}
 use mathlib.Core.Bool.{true, false}
 use mathlib.Core.List.{List, [], _∷_, _++_}
 use mathlib.Core.Option.{none, some}
+use lib.ListN.{length, drop}
 use Rattle.luck_text.specs.Bytes.{ascii}
 use Rattle.luck_linter.specs.Computed.{computed}
 use Rattle.starred.specs.Cases.{format, pattern, pack, packsize, date, replacement, literal, decode}
-use Rattle.starred.specs.Cases.{Case, case, checked, checkedLiteral, decoded, told, wanted}
-
-abbrev lua51 : List ℕ
-lua51 = 1 ∷ []
+use Rattle.starred.specs.Cases.{checked, spanned, unspanned, skipped, value, refused}
+use Rattle.starred.specs.Cases.{Asked, Case, case, only, every, each, told, wanted}
 
 abbrev laterVersions : List ℕ
 laterVersions = 2 ∷ 3 ∷ 4 ∷ 5 ∷ 6 ∷ []
 
 -- ---- F-4: code points up to 7FFFFFFF in 5.4 and 5.5
-
-abbrev every : List ℕ
-every = 1 ∷ laterVersions
 
 abbrev lua54and55 : List ℕ
 lua54and55 = 4 ∷ 5 ∷ []
@@ -31,153 +27,107 @@ lua53andLuau = 3 ∷ 6 ∷ []
 abbrev lent : List ℕ
 lent = ascii "........"
 
--- The first and the last of each number of bytes, surrogates, and the last that has a character; five and six bytes
--- that all differ. A number above 7FFFFFFF, and one whose lowest 64 bits are 41. Many digits and none. An output of five
--- bytes for a code point of six.
-abbrev pub upToLast : List Case
-upToLast =
-    case lua54and55 (decode (ascii "\"\\u{0}\"") lent)
-    (decoded (record { number = 0; offset = 0; written = 1 }) (0x00 ∷ ascii "......."))
-    ∷ case lua54and55 (decode (ascii "\"\\u{7F}\"") lent)
-    (decoded (record { number = 0; offset = 0; written = 1 }) (0x7F ∷ ascii "......."))
-    ∷ case lua54and55 (decode (ascii "\"\\u{80}\"") lent)
-    (decoded (record { number = 0; offset = 0; written = 2 }) (0xC2 ∷ 0x80 ∷ ascii "......"))
-    ∷ case lua54and55 (decode (ascii "\"\\u{7FF}\"") lent)
-    (decoded (record { number = 0; offset = 0; written = 2 }) (0xDF ∷ 0xBF ∷ ascii "......"))
-    ∷ case lua54and55 (decode (ascii "\"\\u{800}\"") lent)
-    (decoded (record { number = 0; offset = 0; written = 3 }) (0xE0 ∷ 0xA0 ∷ 0x80 ∷ ascii "....."))
-    ∷ case lua54and55 (decode (ascii "\"\\u{D800}\"") lent)
-    (decoded (record { number = 0; offset = 0; written = 3 }) (0xED ∷ 0xA0 ∷ 0x80 ∷ ascii "....."))
-    ∷ case lua54and55 (decode (ascii "\"\\u{DFFF}\"") lent)
-    (decoded (record { number = 0; offset = 0; written = 3 }) (0xED ∷ 0xBF ∷ 0xBF ∷ ascii "....."))
-    ∷ case lua54and55 (decode (ascii "\"\\u{FFFF}\"") lent)
-    (decoded (record { number = 0; offset = 0; written = 3 }) (0xEF ∷ 0xBF ∷ 0xBF ∷ ascii "....."))
-    ∷ case lua54and55 (decode (ascii "\"\\u{10000}\"") lent)
-    (decoded (record { number = 0; offset = 0; written = 4 }) (0xF0 ∷ 0x90 ∷ 0x80 ∷ 0x80 ∷ ascii "...."))
-    ∷ case lua54and55 (decode (ascii "\"\\u{10FFFF}\"") lent)
-    (decoded (record { number = 0; offset = 0; written = 4 }) (0xF4 ∷ 0x8F ∷ 0xBF ∷ 0xBF ∷ ascii "...."))
-    ∷ case lua54and55 (decode (ascii "\"\\u{110000}\"") lent)
-    (decoded (record { number = 0; offset = 0; written = 4 }) (0xF4 ∷ 0x90 ∷ 0x80 ∷ 0x80 ∷ ascii "...."))
-    ∷ case lua54and55 (decode (ascii "\"\\u{1FFFFF}\"") lent)
-    (decoded (record { number = 0; offset = 0; written = 4 }) (0xF7 ∷ 0xBF ∷ 0xBF ∷ 0xBF ∷ ascii "...."))
-    ∷ case lua54and55 (decode (ascii "\"\\u{200000}\"") lent)
-    (decoded (record { number = 0; offset = 0; written = 5 }) (0xF8 ∷ 0x88 ∷ 0x80 ∷ 0x80 ∷ 0x80 ∷ ascii "..."))
-    ∷ case lua54and55 (decode (ascii "\"\\u{3FFFFFF}\"") lent)
-    (decoded (record { number = 0; offset = 0; written = 5 }) (0xFB ∷ 0xBF ∷ 0xBF ∷ 0xBF ∷ 0xBF ∷ ascii "..."))
-    ∷ case lua54and55 (decode (ascii "\"\\u{4000000}\"") lent)
-    (decoded (record { number = 0; offset = 0; written = 6 }) (0xFC ∷ 0x84 ∷ 0x80 ∷ 0x80 ∷ 0x80 ∷ 0x80 ∷ ascii ".."))
-    ∷ case lua54and55 (decode (ascii "\"\\u{7FFFFFFF}\"") lent)
-    (decoded (record { number = 0; offset = 0; written = 6 }) (0xFD ∷ 0xBF ∷ 0xBF ∷ 0xBF ∷ 0xBF ∷ 0xBF ∷ ascii ".."))
-    ∷ case lua54and55 (decode (ascii "\"\\u{1234567}\"") lent)
-    (decoded (record { number = 0; offset = 0; written = 5 }) (0xF9 ∷ 0x88 ∷ 0xB4 ∷ 0x95 ∷ 0xA7 ∷ ascii "..."))
-    ∷ case lua54and55 (decode (ascii "\"\\u{12345678}\"") lent)
-    (decoded (record { number = 0; offset = 0; written = 6 }) (0xFC ∷ 0x92 ∷ 0x8D ∷ 0x85 ∷ 0x99 ∷ 0xB8 ∷ ascii ".."))
-    ∷ case lua54and55 (decode (ascii "\"\\u{80000000}\"") lent)
-    (decoded (record { number = 24; offset = 0; written = 0 }) lent)
-    ∷ case lua54and55 (decode (ascii "\"\\u{10000000000000041}\"") lent)
-    (decoded (record { number = 24; offset = 0; written = 0 }) lent)
-    ∷ case lua54and55 (decode (ascii "\"\\u{000000000000000000041}\"") lent)
-    (decoded (record { number = 0; offset = 0; written = 1 }) (ascii "A......."))
-    ∷ case lua54and55 (decode (ascii "\"\\u{}\"") lent)
-    (decoded (record { number = 24; offset = 0; written = 0 }) lent)
-    ∷ case lua54and55 (decode (ascii "\"\\u{7FFFFFFF}\"") (ascii "....."))
-    (decoded (record { number = 26; offset = 0; written = 0 }) (ascii "....."))
+-- a literal that is one code point in these digits
+abbrev codePoint : List ℕ → List ℕ
+codePoint digits = ascii "\"\\u{" ++ digits ++ ascii "}\""
+
+-- Digits and the bytes of what they spell: the first and the last of each number of bytes, surrogates, the last that has
+-- a character, five and six bytes that all differ, and many digits.
+abbrev pub codePoints : List (List ℕ × List ℕ)
+codePoints =
+    (ascii "0", 0x00 ∷ []) ∷
+    (ascii "7F", 0x7F ∷ []) ∷
+    (ascii "80", 0xC2 ∷ 0x80 ∷ []) ∷
+    (ascii "7FF", 0xDF ∷ 0xBF ∷ []) ∷
+    (ascii "800", 0xE0 ∷ 0xA0 ∷ 0x80 ∷ []) ∷
+    (ascii "D800", 0xED ∷ 0xA0 ∷ 0x80 ∷ []) ∷
+    (ascii "DFFF", 0xED ∷ 0xBF ∷ 0xBF ∷ []) ∷
+    (ascii "FFFF", 0xEF ∷ 0xBF ∷ 0xBF ∷ []) ∷
+    (ascii "10000", 0xF0 ∷ 0x90 ∷ 0x80 ∷ 0x80 ∷ []) ∷
+    (ascii "10FFFF", 0xF4 ∷ 0x8F ∷ 0xBF ∷ 0xBF ∷ []) ∷
+    (ascii "110000", 0xF4 ∷ 0x90 ∷ 0x80 ∷ 0x80 ∷ []) ∷
+    (ascii "1FFFFF", 0xF7 ∷ 0xBF ∷ 0xBF ∷ 0xBF ∷ []) ∷
+    (ascii "200000", 0xF8 ∷ 0x88 ∷ 0x80 ∷ 0x80 ∷ 0x80 ∷ []) ∷
+    (ascii "1234567", 0xF9 ∷ 0x88 ∷ 0xB4 ∷ 0x95 ∷ 0xA7 ∷ []) ∷
+    (ascii "3FFFFFF", 0xFB ∷ 0xBF ∷ 0xBF ∷ 0xBF ∷ 0xBF ∷ []) ∷
+    (ascii "4000000", 0xFC ∷ 0x84 ∷ 0x80 ∷ 0x80 ∷ 0x80 ∷ 0x80 ∷ []) ∷
+    (ascii "12345678", 0xFC ∷ 0x92 ∷ 0x8D ∷ 0x85 ∷ 0x99 ∷ 0xB8 ∷ []) ∷
+    (ascii "7FFFFFFF", 0xFD ∷ 0xBF ∷ 0xBF ∷ 0xBF ∷ 0xBF ∷ 0xBF ∷ []) ∷
+    (ascii "000000000000000000041", 0x41 ∷ []) ∷ []
+
+abbrev decodedTo : List ℕ × List ℕ → Case
+decodedTo row = case lua54and55 (decode (codePoint (row .0)) lent) (value (row .1) (drop (length (row .1)) lent))
+
+pub code-points-hold : told (each decodedTo codePoints) ≡ wanted (each decodedTo codePoints)
+unfolding computed
+code-points-hold = refl
+
+-- More than 7FFFFFFF, a number whose lowest 64 bits are 41, no digit, and five bytes for a code point of six. In the
+-- other versions: 5.3 and Luau decode characters, Luau in at most 16 digits; 5.2 refuses `\u`, 5.1 reads a letter.
+abbrev pub others : List Case
+others =
+    case lua54and55 (decode (codePoint (ascii "80000000")) lent) (refused 24 0 lent)
+    ∷ case lua54and55 (decode (codePoint (ascii "10000000000000041")) lent) (refused 24 0 lent)
+    ∷ case lua54and55 (decode (codePoint []) lent) (refused 24 0 lent)
+    ∷ case lua54and55 (decode (codePoint (ascii "7FFFFFFF")) (ascii ".....")) (refused 26 0 (ascii "....."))
+    ∷ case lua53andLuau (decode (codePoint (ascii "D800")) lent) (refused 24 0 lent)
+    ∷ case lua53andLuau (decode (codePoint (ascii "DFFF")) lent) (refused 24 0 lent)
+    ∷ case lua53andLuau (decode (codePoint (ascii "110000")) lent) (refused 24 0 lent)
+    ∷ case lua53andLuau (decode (codePoint (ascii "10FFFF")) lent)
+    (value (0xF4 ∷ 0x8F ∷ 0xBF ∷ 0xBF ∷ []) (ascii "...."))
+    ∷ case (only 3) (decode (codePoint (ascii "000000000000000000041")) lent) (value (ascii "A") (ascii "......."))
+    ∷ case (only 6) (decode (codePoint (ascii "0000000000000041")) lent) (value (ascii "A") (ascii "......."))
+    ∷ case (only 6) (decode (codePoint (ascii "00000000000000041")) lent) (refused 24 0 lent)
+    ∷ case (only 2) (decode (codePoint (ascii "41")) lent) (refused 24 0 lent)
+    ∷ case (only 1) (decode (codePoint (ascii "41")) lent) (value (ascii "u{41}") (ascii "..."))
     ∷ []
 
-pub up-to-last-holds : told upToLast ≡ wanted upToLast
+pub others-hold : told others ≡ wanted others
 unfolding computed
-up-to-last-holds = refl
-
--- The other versions: 5.3 and Luau decode characters, Luau in at most 16 digits; 5.2 refuses `\u`, 5.1 reads a letter.
-abbrev pub asBefore : List Case
-asBefore =
-    case lua53andLuau (decode (ascii "\"\\u{D800}\"") lent)
-    (decoded (record { number = 24; offset = 0; written = 0 }) lent)
-    ∷ case lua53andLuau (decode (ascii "\"\\u{DFFF}\"") lent)
-    (decoded (record { number = 24; offset = 0; written = 0 }) lent)
-    ∷ case lua53andLuau (decode (ascii "\"\\u{110000}\"") lent)
-    (decoded (record { number = 24; offset = 0; written = 0 }) lent)
-    ∷ case lua53andLuau (decode (ascii "\"\\u{10FFFF}\"") lent)
-    (decoded (record { number = 0; offset = 0; written = 4 }) (0xF4 ∷ 0x8F ∷ 0xBF ∷ 0xBF ∷ ascii "...."))
-    ∷ case (3 ∷ []) (decode (ascii "\"\\u{000000000000000000041}\"") lent)
-    (decoded (record { number = 0; offset = 0; written = 1 }) (ascii "A......."))
-    ∷ case (6 ∷ []) (decode (ascii "\"\\u{0000000000000041}\"") lent)
-    (decoded (record { number = 0; offset = 0; written = 1 }) (ascii "A......."))
-    ∷ case (6 ∷ []) (decode (ascii "\"\\u{00000000000000041}\"") lent)
-    (decoded (record { number = 24; offset = 0; written = 0 }) lent)
-    ∷ case (2 ∷ []) (decode (ascii "\"\\u{41}\"") lent)
-    (decoded (record { number = 24; offset = 0; written = 0 }) lent)
-    ∷ case lua51 (decode (ascii "\"\\u{41}\"") lent)
-    (decoded (record { number = 0; offset = 0; written = 5 }) (ascii "u{41}..."))
-    ∷ []
-
-pub as-before-holds : told asBefore ≡ wanted asBefore
-unfolding computed
-as-before-holds = refl
+others-hold = refl
 
 -- A value that is not UTF-8 is 23 to every check: ED A0 80 is `\u{D800}` of 5.4, and FF is `\255`.
-abbrev pub notUtf8 : List Case
-notUtf8 =
-    case every (format (ascii "a" ++ (0xED ∷ 0xA0 ∷ 0x80 ∷ [])))
-    (checked (record { number = 23; offset = 1; first = 0; second = 0; count = 0 }))
-    ∷ case every (pattern (ascii "a" ++ (0xED ∷ 0xA0 ∷ 0x80 ∷ [])))
-    (checked (record { number = 23; offset = 1; first = 0; second = 0; count = 0 }))
-    ∷ case every (pack (ascii "a" ++ (0xED ∷ 0xA0 ∷ 0x80 ∷ [])))
-    (checked (record { number = 23; offset = 1; first = 0; second = 0; count = 0 }))
-    ∷ case every (packsize (ascii "a" ++ (0xED ∷ 0xA0 ∷ 0x80 ∷ [])))
-    (checked (record { number = 23; offset = 1; first = 0; second = 0; count = 0 }))
-    ∷ case every (date (ascii "a" ++ (0xED ∷ 0xA0 ∷ 0x80 ∷ [])))
-    (checked (record { number = 23; offset = 1; first = 0; second = 0; count = 0 }))
-    ∷ case every (replacement none (ascii "a" ++ (0xED ∷ 0xA0 ∷ 0x80 ∷ [])))
-    (checked (record { number = 23; offset = 1; first = 0; second = 0; count = 0 }))
-    ∷ case every (decode (ascii "'a\\255'") lent)
-    (decoded (record { number = 0; offset = 0; written = 2 }) (0x61 ∷ 0xFF ∷ ascii "......"))
-    ∷ case every (pattern (ascii "a" ++ (0xFF ∷ [])))
-    (checked (record { number = 23; offset = 1; first = 0; second = 0; count = 0 }))
-    ∷ []
+abbrev surrogate : List ℕ
+surrogate = ascii "a" ++ (0xED ∷ 0xA0 ∷ 0x80 ∷ [])
 
-pub not-utf8-holds : told notUtf8 ≡ wanted notUtf8
+abbrev byteFF : List ℕ
+byteFF = ascii "a" ++ (0xFF ∷ [])
+
+abbrev checks : List ℕ → List Asked
+checks text = format text ∷ pattern text ∷ pack text ∷ packsize text ∷ date text ∷ replacement none text ∷ []
+
+abbrev notUtf8 : Asked → Case
+notUtf8 asked = case every asked (checked (record { number = 23; offset = 1; first = 0; second = 0; count = 0 }))
+
+abbrev pub valuesChecked : List Case
+valuesChecked =
+    case every (decode (ascii "'a\\255'") lent) (value byteFF (ascii "......"))
+    ∷ each notUtf8 (checks surrogate ++ checks byteFF)
+
+pub values-checked-hold : told valuesChecked ≡ wanted valuesChecked
 unfolding computed
-not-utf8-holds = refl
+values-checked-hold = refl
 
 -- ---- F-6: a replacement of 5.1 with captures unknown, or known to be 9 or more, is accepted once it is UTF-8
 
 abbrev pub onceUtf8 : List Case
 onceUtf8 =
-    case lua51 (replacement none (ascii "%9%x%"))
+    case (only 1) (replacement none (ascii "%9%x%"))
     (checked (record { number = 0; offset = 0; first = 0; second = 0; count = 0 }))
-    ∷ case lua51 (replacement (some 9) (ascii "%9%x%"))
+    ∷ case (only 1) (replacement (some 9) (ascii "%9%x%"))
     (checked (record { number = 0; offset = 0; first = 0; second = 0; count = 0 }))
-    ∷ case lua51 (replacement (some 8) (ascii "%9%x%"))
+    ∷ case (only 1) (replacement (some 8) (ascii "%9%x%"))
     (checked (record { number = 21; offset = 1; first = 0; second = 0; count = 0 }))
     ∷ case laterVersions (replacement none (ascii "%9%x%"))
     (checked (record { number = 20; offset = 3; first = 0; second = 0; count = 0 }))
-    ∷ case lua51 (replacement none (ascii "%9" ++ (0xFF ∷ [])))
+    ∷ case (only 1) (replacement none (ascii "%9" ++ (0xFF ∷ [])))
     (checked (record { number = 23; offset = 2; first = 0; second = 0; count = 0 }))
-    ∷ case lua51 (literal (code "G") none 0 (ascii "'%9%x%'"))
-    (checkedLiteral
-    (record {
-      skipped = false;
-      spanned = false;
-      answer = record { number = 0; offset = 0; first = 0; second = 0; count = 0 };
-      span = record { start = 0; end = 0 };
-    }))
-    ∷ case lua51 (literal (code "G") (some 8) 0 (ascii "'%9%x%'"))
-    (checkedLiteral
-    (record {
-      skipped = false;
-      spanned = true;
-      answer = record { number = 21; offset = 1; first = 0; second = 0; count = 0 };
-      span = record { start = 2; end = 3 };
-    }))
-    ∷ case lua51 (literal (code "G") none 0 (ascii "'%9\\65'"))
-    (checkedLiteral
-    (record {
-      skipped = true;
-      spanned = false;
-      answer = record { number = 0; offset = 0; first = 0; second = 0; count = 0 };
-      span = record { start = 0; end = 0 };
-    }))
+    ∷ case (only 1) (literal (code "G") none 0 (ascii "'%9%x%'"))
+    (unspanned (record { number = 0; offset = 0; first = 0; second = 0; count = 0 }))
+    ∷ case (only 1) (literal (code "G") (some 8) 0 (ascii "'%9%x%'"))
+    (spanned (record { number = 21; offset = 1; first = 0; second = 0; count = 0 }) 2 3)
+    ∷ case (only 1) (literal (code "G") none 0 (ascii "'%9\\65'"))
+    skipped
     ∷ []
 
 pub once-utf8-holds : told onceUtf8 ≡ wanted onceUtf8

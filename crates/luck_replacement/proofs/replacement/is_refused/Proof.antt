@@ -4,16 +4,17 @@ use Prim.Native.Nat.{_+_, _*_}
 use native.Mathlib.Omega.{arith}
 use mir.Val.{boolByte}
 use lib.Dec.{eqb, ltb}
+use Rattle.luck_text.proofs.Cases.{bit}
 use Rattle.luck_replacement.proofs.Replacements as laws
 use borrow.Author.Needs.{needs}
 use Rattle.luck_replacement.proofs.replacement.is_refused.Statement.{statement}
 use Rattle.luck_replacement.proofs.replacement.is_refused.Tie as tie
 
 mul-allowed : tie.Need-mul-allowed
-mul-allowed c = let h = laws.bit (eqb (c .args .byte) 37) in omega arith
+mul-allowed c = let h = bit (eqb (c .args .byte) 37) in omega arith
 
 add-allowed : tie.Need-add-allowed
-add-allowed c = let h = laws.bit (eqb (c .args .byte) 37) in omega arith
+add-allowed c = let h = bit (eqb (c .args .byte) 37) in omega arith
 
 returns : tie.Need-returns
 returns c =

@@ -3,13 +3,14 @@ use mathlib.Core.Logic.{⊎-elim}
 use native.Mathlib.Omega.{arith}
 use Rattle.luck_text.specs.Bytes.{isDigit}
 use Rattle.luck_text.proofs.Bytes.{within, below, above}
+use Rattle.luck_text.proofs.Cases.{bit}
 use Rattle.luck_replacement.proofs.Replacements as laws
 use borrow.Author.Needs.{needs}
 use Rattle.luck_replacement.proofs.replacement.rank.Statement.{statement}
 use Rattle.luck_replacement.proofs.replacement.rank.Tie as tie
 
 mul-result : tie.Need-mul-result
-mul-result c = let h = laws.bit (c .before .args .is-strict) in omega arith
+mul-result c = let h = bit (c .before .args .is-strict) in omega arith
 
 returns : tie.Need-returns
 unfolding isDigit

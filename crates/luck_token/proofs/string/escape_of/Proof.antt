@@ -24,54 +24,6 @@ returns-3 : tie.Need-returns-3
 unfolding escapeKind among if_then_else_ isDigit
 returns-3 c = rw (c .before .match .keys15, c .if3 .taken)
 
-returns-4 : tie.Need-returns-4
-unfolding escapeKind among if_then_else_
-returns-4 c = rw (c .match .keys1)
-
-returns-5 : tie.Need-returns-5
-unfolding escapeKind among if_then_else_
-returns-5 c = rw (c .match .keys2)
-
-returns-6 : tie.Need-returns-6
-unfolding escapeKind among if_then_else_
-returns-6 c = rw (c .match .keys3)
-
-returns-7 : tie.Need-returns-7
-unfolding escapeKind among if_then_else_
-returns-7 c = rw (c .match .keys4)
-
-returns-8 : tie.Need-returns-8
-unfolding escapeKind among if_then_else_
-returns-8 c = rw (c .match .keys5)
-
-returns-9 : tie.Need-returns-9
-unfolding escapeKind among if_then_else_
-returns-9 c = rw (c .match .keys6)
-
-returns-10 : tie.Need-returns-10
-unfolding escapeKind among if_then_else_
-returns-10 c = rw (c .match .keys7)
-
-returns-11 : tie.Need-returns-11
-unfolding escapeKind among if_then_else_
-returns-11 c = rw (c .match .keys8)
-
-returns-12 : tie.Need-returns-12
-unfolding escapeKind among if_then_else_
-returns-12 c = rw (c .match .keys9)
-
-returns-13 : tie.Need-returns-13
-unfolding escapeKind among if_then_else_
-returns-13 c = rw (c .match .keys10)
-
-returns-14 : tie.Need-returns-14
-unfolding escapeKind among if_then_else_
-returns-14 c = rw (c .match .keys11)
-
-returns-15 : tie.Need-returns-15
-unfolding escapeKind among if_then_else_
-returns-15 c = rw (c .match .keys12)
-
 returns-16 : tie.Need-returns-16
 unfolding escapeKind among if_then_else_ isDigit
 returns-16 c = c .other-escape .ensures ∙ rw (c .before .before .match .keys13, c .before .if1 .left)
@@ -96,6 +48,7 @@ returns-20 c =
     c .other-escape4 .ensures ∙ rw (ne-eqb x 97 (w .0 .0 .0 .0 .0 .0 .0 .0 .0 .0 .0 .0 .0 .0 .1), ne-eqb x 98 (w .0 .0 .0 .0 .0 .0 .0 .0 .0 .0 .0 .0 .0 .1), ne-eqb x 102 (w .0 .0 .0 .0 .0 .0 .0 .0 .0 .0 .0 .0 .1), ne-eqb x 110 (w .0 .0 .0 .0 .0 .0 .0 .0 .0 .0 .0 .1), ne-eqb x 114 (w .0 .0 .0 .0 .0 .0 .0 .0 .0 .0 .1), ne-eqb x 116 (w .0 .0 .0 .0 .0 .0 .0 .0 .0 .1), ne-eqb x 118 (w .0 .0 .0 .0 .0 .0 .0 .0 .1), ne-eqb x 92 (w .0 .0 .0 .0 .0 .0 .0 .1), ne-eqb x 34 (w .0 .0 .0 .0 .0 .0 .1), ne-eqb x 39 (w .0 .0 .0 .0 .0 .1), ne-eqb x 10 (w .0 .0 .0 .0 .1), ne-eqb x 13 (w .0 .0 .0 .1), no-digit, ne-eqb x 120 (w .0 .0 .1), ne-eqb x 122 (w .0 .1), ne-eqb x 117 (w .1))
 
 pub escape-of-spec : {M : Type 1} → statement M
+unfolding escapeKind among if_then_else_
 escape-of-spec =
     tie.close
     (tie.spec
@@ -105,18 +58,9 @@ escape-of-spec =
     (λ c κs. search needs)
     returns-3
     (λ c κs. search needs) (λ c κs. search needs)
-    returns-4
-    returns-5
-    returns-6
-    returns-7
-    returns-8
-    returns-9
-    returns-10
-    returns-11
-    returns-12
-    returns-13
-    returns-14
-    returns-15
+    (λ c. rw (c .match .keys1)) (λ c. rw (c .match .keys2)) (λ c. rw (c .match .keys3)) (λ c. rw (c .match .keys4))
+    (λ c. rw (c .match .keys5)) (λ c. rw (c .match .keys6)) (λ c. rw (c .match .keys7)) (λ c. rw (c .match .keys8))
+    (λ c. rw (c .match .keys9)) (λ c. rw (c .match .keys10)) (λ c. rw (c .match .keys11)) (λ c. rw (c .match .keys12))
     returns-16
     returns-17
     returns-18

@@ -17,7 +17,7 @@ returns c =
     ∙ ap (λ (b : ℕ). stores (a .output .now) (a .at) (b ∷ [])) (c .simple-escape .ensures)
 
 returns-2 : tie.Need-returns-2
-returns-2 c = let a = c .before .before .args in stores-none (a .output .now) (a .at) (simpleEscape (a .letter) ∷ []) (omega arith)
+returns-2 c = let a = c .before .before .args in stores-none (a .output .now) (a .at) (simpleEscape (a .byte) ∷ []) (omega arith)
 
 pub put-simple-spec : {M : Type 1} → statement M
 put-simple-spec = tie.close (tie.spec (λ c κs. search needs) (λ c. search needs) (λ c. search needs) returns returns-2)

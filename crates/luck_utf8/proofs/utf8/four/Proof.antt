@@ -17,25 +17,25 @@ second-due : (c : tie.After-second-of-four)
 second-due c = left-row (c .before .before .before .pre .0) (c .second-of-four .ensures)
 
 third-due : (c : tie.Else2) → Due (c .before .before .before .before .before .before .before .before .before) 2 (tail ∷ tail ∷ [])
-third-due c = left-in (second-due (c .before .before .before .before .before .before)) (c .before .within .ensures) (c .if2 .left) (omega arith)
+third-due c = left-in (second-due (c .before .before .before .before .before .before)) (c .before .is-between .ensures) (c .if2 .left) (omega arith)
 
 fourth-due : (c : tie.Else3) → Due (c .before .before .before .before .before .before .before .before .before .before .before) 3 (tail ∷ [])
-fourth-due c = left-in (third-due (c .before .before)) (c .before .within2 .ensures) (c .if3 .left) (omega arith)
+fourth-due c = left-in (third-due (c .before .before)) (c .before .is-between2 .ensures) (c .if3 .left) (omega arith)
 
 returns : tie.Need-returns
 returns c = left-short (second-due (c .before)) (omega arith)
 
 returns-2 : tie.Need-returns-2
-returns-2 c = left-out (second-due (c .before .before .before .before .before .before)) (c .before .within .ensures) (c .if2 .taken)
+returns-2 c = left-out (second-due (c .before .before .before .before .before .before)) (c .before .is-between .ensures) (c .if2 .taken)
 
 returns-3 : tie.Need-returns-3
-returns-3 c = left-out (third-due (c .before .before)) (c .before .within2 .ensures) (c .if3 .taken)
+returns-3 c = left-out (third-due (c .before .before)) (c .before .is-between2 .ensures) (c .if3 .taken)
 
 returns-4 : tie.Need-returns-4
-returns-4 c = left-out (fourth-due (c .before .before)) (c .before .within3 .ensures) (c .if4 .taken)
+returns-4 c = left-out (fourth-due (c .before .before)) (c .before .is-between3 .ensures) (c .if4 .taken)
 
 returns-5 : tie.Need-returns-5
-returns-5 c = left-end (left-in (fourth-due (c .before .before)) (c .before .within3 .ensures) (c .if4 .left) (omega arith))
+returns-5 c = left-end (left-in (fourth-due (c .before .before)) (c .before .is-between3 .ensures) (c .if4 .left) (omega arith))
 
 pub four-spec : {M : Type 1} → statement M
 four-spec =

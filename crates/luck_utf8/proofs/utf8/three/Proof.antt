@@ -17,19 +17,19 @@ second-due : (c : tie.After-second-of-three)
 second-due c = left-row (c .before .before .before .pre .0) (c .second-of-three .ensures)
 
 third-due : (c : tie.Else2) → Due (c .before .before .before .before .before .before .before .before) 2 (tail ∷ [])
-third-due c = left-in (second-due (c .before .before .before .before .before)) (c .before .within .ensures) (c .if2 .left) (omega arith)
+third-due c = left-in (second-due (c .before .before .before .before .before)) (c .before .is-between .ensures) (c .if2 .left) (omega arith)
 
 returns : tie.Need-returns
 returns c = left-short (second-due (c .before)) (omega arith)
 
 returns-2 : tie.Need-returns-2
-returns-2 c = left-out (second-due (c .before .before .before .before .before)) (c .before .within .ensures) (c .if2 .taken)
+returns-2 c = left-out (second-due (c .before .before .before .before .before)) (c .before .is-between .ensures) (c .if2 .taken)
 
 returns-3 : tie.Need-returns-3
-returns-3 c = left-out (third-due (c .before .before)) (c .before .within2 .ensures) (c .if3 .taken)
+returns-3 c = left-out (third-due (c .before .before)) (c .before .is-between2 .ensures) (c .if3 .taken)
 
 returns-4 : tie.Need-returns-4
-returns-4 c = left-end (left-in (third-due (c .before .before)) (c .before .within2 .ensures) (c .if3 .left) (omega arith))
+returns-4 c = left-end (left-in (third-due (c .before .before)) (c .before .is-between2 .ensures) (c .if3 .left) (omega arith))
 
 pub three-spec : {M : Type 1} → statement M
 three-spec =

@@ -31,10 +31,10 @@ returns-2 c =
     sym (sequence-none text at (s .pre .0) (no-row-low (byteAt text at) (s .pre .1) (omega arith)))
 
 returns-3 : tie.Need-returns-3
-returns-3 c = left-out (second-due (c .before .before .before .before .before .before .before) (omega arith)) (c .before .within .ensures) (c .if3 .taken)
+returns-3 c = left-out (second-due (c .before .before .before .before .before .before .before) (omega arith)) (c .before .is-between .ensures) (c .if3 .taken)
 
 returns-4 : tie.Need-returns-4
-returns-4 c = left-end (left-in (second-due (c .before .before .before .before .before .before .before) (omega arith)) (c .before .within .ensures) (c .if3 .left) (omega arith))
+returns-4 c = left-end (left-in (second-due (c .before .before .before .before .before .before .before) (omega arith)) (c .before .is-between .ensures) (c .if3 .left) (omega arith))
 
 pub two-spec : {M : Type 1} → statement M
 two-spec =
