@@ -2,11 +2,12 @@
 -- Assumes nothing.
 use Prim.Native.Nat.{ℕ, _≤_, _<_}
 use mathlib.Core.Path.{_≡_}
-use mathlib.Core.Bool.{Bool, true}
+use mathlib.Core.Bool.{true}
 use mathlib.Core.List.{List}
 use lib.ListN.{length, take}
 use Rattle.luck_text.specs.Bytes.{part}
 use Rattle.luck_lines.specs.Stream.{lineLength}
+use Rattle.luck_lines.specs.declared.stream.State.{State}
 use Rattle.bodies.specs.declared.Held.{Held}
 
 -- in a buffer of this length
@@ -20,8 +21,7 @@ Unended bytes room = (lineLength bytes ≡ length bytes) × (length bytes < room
 abbrev pub heldIn : Held → List ℕ → List ℕ
 heldIn held buffer = part buffer (held .at) (held .end)
 
--- where there is more to do: these bytes are held, and perhaps others after them, and whether their line is too long
--- already is as it was
-abbrev pub HeldGoesOn : List ℕ → Bool → Held → List ℕ → Type 0
-HeldGoesOn bytes long held buffer =
-    held .more ≡ true → (held .long ≡ long) × (take (length bytes) (heldIn held buffer) ≡ bytes)
+-- where there is more to do: these bytes are held, and perhaps others after them, and the next call is handed this
+abbrev pub HeldGoesOn : List ℕ → State → Held → List ℕ → Type 0
+HeldGoesOn bytes s held buffer =
+    held .more ≡ true → (held .state ≡ s) × (take (length bytes) (heldIn held buffer) ≡ bytes)

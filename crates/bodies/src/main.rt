@@ -1,27 +1,28 @@
-// Reads lines from standard input and writes a row for each: what the checks answer for its body. The work is luck_lines'; this is the reading
-// and the writing, with two buffers and nothing else kept, so that the input may be of any length.
+// Reads lines from standard input and writes a row for each, what the checks answer for its body, and then the totals. The work is luck_lines';
+// this is the reading and the writing, with two buffers and two counts and nothing else kept, so that the input may be of any length.
 ghost use mathlib.Core.Path.{_≡_};
 ghost use mathlib.Core.Bool.{false};
-ghost use Prim.Native.Nat.{_≤_, _<_};
+ghost use Prim.Native.Nat.{_+_, _≤_, _<_};
 ghost use lib.ListN.{length, drop};
 ghost use Rattle.luck_text.specs.Bytes.{part};
 ghost use Rattle.luck_line.specs.Line.{longest};
-ghost use Rattle.luck_lines.specs.Stream.{rowLength, lineLength, feed};
+ghost use Rattle.luck_lines.specs.Stream.{rowLength, totalsLength, lineLength, feed};
 ghost use Rattle.bodies.specs.Held.{HeldWithin, Unended, heldIn, HeldGoesOn};
 use libc::STDIN_FILENO;
 use libc::STDOUT_FILENO;
 use luck_lines::buffer;
 use luck_lines::stream;
+use luck_lines::stream::State;
 
-// The bytes of the input buffer that are not taken yet, from `at` to `end`; whether their line is too long already; and whether there is more to do.
+// The bytes of the input buffer that are not taken yet, from `at` to `end`; what the next call is handed; and whether there is more to do.
 struct Held {
     at: usize,
     end: usize,
-    long: bool,
+    state: State,
     more: bool,
 }
 
-// An error was said, or the input has ended.
+// An error was said, or the input has ended: nothing more is written. So a listing without its totals is not whole.
 fn stop() -> Held
     ensures { λ r. ⌜ HeldWithin r 0 ⌝ }
     ensures { λ r. ⌜ r .more ≡ false ⌝ }
@@ -29,7 +30,7 @@ fn stop() -> Held
     Held {
         at: 0,
         end: 0,
-        long: false,
+        state: stream::start(),
         more: false,
     }
 }
@@ -42,21 +43,21 @@ fn write_rows(rows: &[u8]) -> bool {
     is_written
 }
 
-// The input has ended, with a last line that lacks its newline, or with nothing.
-fn finish(left: &[u8], output: &mut [u8], long: bool)
+// The input has ended, with a last line that lacks its newline, or with nothing: what is left to write ends with the totals.
+fn finish(left: &[u8], output: &mut [u8], state: State)
     requires { ⌜ lineLength (now left) ≡ length (now left) ⌝ }
-    requires { ⌜ rowLength ≤ length (now output) ⌝ }
+    requires { ⌜ rowLength + totalsLength ≤ length (now output) ⌝ }
 {
-    let wrote = stream::finish(left, output, long);
+    let wrote = stream::finish(left, output, state);
     write_rows(&output[0..wrote]);
 }
 
 // No whole line is left: what there is moves to the front, and more is read after it.
-fn read_more(input: &mut [u8], output: &mut [u8], at: usize, end: usize, long: bool) -> Held
+fn read_more(input: &mut [u8], output: &mut [u8], at: usize, end: usize, state: State) -> Held
     requires { ⌜ Unended (part (now input) at end) (length (now input)) ⌝ }
-    requires { ⌜ rowLength ≤ length (now output) ⌝ }
+    requires { ⌜ rowLength + totalsLength ≤ length (now output) ⌝ }
     ensures { λ r. ⌜ HeldWithin r (length (now (input .exit))) ⌝ }
-    ensures { λ r. ⌜ HeldGoesOn (part (now (input .entry)) at end) long r (now (input .exit)) ⌝ }
+    ensures { λ r. ⌜ HeldGoesOn (part (now (input .entry)) at end) state r (now (input .exit)) ⌝ }
 {
     let kept = buffer::keep(input, at, end);
     let got = libc::read(STDIN_FILENO, &mut input[kept..]);
@@ -65,14 +66,14 @@ fn read_more(input: &mut [u8], output: &mut [u8], at: usize, end: usize, long: b
         return stop();
     }
     if got == 0 {
-        finish(&input[0..kept], output, long);
+        finish(&input[0..kept], output, state);
         return stop();
     }
     let more = io::count(got, &input[kept..]);
     Held {
         at: 0,
         end: kept + more,
-        long,
+        state,
         more: true,
     }
 }
@@ -81,39 +82,40 @@ fn read_more(input: &mut [u8], output: &mut [u8], at: usize, end: usize, long: b
 fn list_some(input: &mut [u8], output: &mut [u8], held: Held) -> Held
     requires { ⌜ HeldWithin held (length (now input)) ⌝ }
     requires { ⌜ longest < length (now input) ⌝ }
-    requires { ⌜ rowLength ≤ length (now output) ⌝ }
+    requires { ⌜ rowLength + totalsLength ≤ length (now output) ⌝ }
     ensures { λ r. ⌜ HeldWithin r (length (now (input .exit))) ⌝ }
     ensures { λ r. ⌜
-        HeldGoesOn (drop (feed (heldIn held (now (input .entry))) (length (now (output .entry))) (held .long) .used) (heldIn held (now (input .entry))))
-        (feed (heldIn held (now (input .entry))) (length (now (output .entry))) (held .long) .long) r (now (input .exit))
+        HeldGoesOn (drop (feed (heldIn held (now (input .entry))) (length (now (output .entry))) (held .state) .used) (heldIn held (now (input .entry))))
+        (feed (heldIn held (now (input .entry))) (length (now (output .entry))) (held .state) .state) r (now (input .exit))
         ⌝ }
 {
     let at = held.at;
     let end = held.end;
-    let fed = stream::feed(&input[at..end], output, held.long);
+    let fed = stream::feed(&input[at..end], output, held.state);
     let wrote = fed.wrote;
     let left = at + fed.used;
+    let state = fed.state;
     if 0 < wrote {
         let is_written = write_rows(&output[0..wrote]);
         return Held {
             at: left,
             end,
-            long: fed.long,
+            state,
             more: is_written,
         };
     }
-    read_more(input, output, left, end, fed.long)
+    read_more(input, output, left, end, state)
 }
 
 // A proved loop has to end, and nothing says that an input does: it counts its turns down, from a number that no run uses up.
 fn list(input: &mut [u8], output: &mut [u8])
     requires { ⌜ longest < length (now input) ⌝ }
-    requires { ⌜ rowLength ≤ length (now output) ⌝ }
+    requires { ⌜ rowLength + totalsLength ≤ length (now output) ⌝ }
 {
     let mut held = Held {
         at: 0,
         end: 0,
-        long: false,
+        state: stream::start(),
         more: true,
     };
     let mut turns = u64::MAX;

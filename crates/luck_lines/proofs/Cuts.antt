@@ -10,12 +10,13 @@ use lib.ListN.{length, take, drop, length-drop, length-append}
 use lib.Seq.{drop-drop, drop-length}
 use lib.Dec.{eqb, ltb}
 use borrow.Author.Tests.{ltb-true, ltb-false, eqb-true, eqb-false}
-use Rattle.luck_text.specs.Bytes.{part}
 use Rattle.luck_text.proofs.Cases.{by-test, order, same}
 use Rattle.luck_line.specs.Line.{longest}
-use Rattle.luck_lines.specs.Stream.{lineLength, rowOf, Taken, taken, FeedState, feedState, unended, feed, rowsAfter}
+use Rattle.luck_line.specs.Row.{answerRow}
+use Rattle.luck_lines.specs.Stream.{lineLength, answerOf, tooLong, counted, Taken, taken, FeedState, feedState, unended, feed, listingAfter}
+use Rattle.luck_lines.specs.declared.stream.State.{State}
 use Rattle.luck_lines.proofs.Listings.{after-line, after-long}
-use Rattle.luck_lines.proofs.Streams.{on, starts, at-end, no-newline, no-room, after, line-taken, line-inside, input-ends, rowOf-length}
+use Rattle.luck_lines.proofs.Streams.{on, starts, at-end, no-newline, no-room, answer, after, line-taken, line-inside, input-ends, answer-length}
 
 or-false : (a b : Bool) → (a || b) ≡ false → (a ≡ false) × (b ≡ false)
 or-false true b e = absurd-true e
@@ -31,22 +32,22 @@ or-true false b e f = e
 -- What each turn hands back from the state after it to the state before it, a call has of the state that it begins in.
 module _ (input : List ℕ) (room : ℕ) (R : ℕ → FeedState → Taken → Type 0)
     (ended : (p : ℕ) (s : FeedState) → p ≤ length input → p + lineLength (drop p input) ≡ length input → R p s (unended input p s))
-    (full : (p : ℕ) (written : List ℕ) (long : Bool) → room - length written < 19 → R p (feedState written long) (taken p written long))
-    (line : (p : ℕ) (written : List ℕ) (long : Bool) (h : p < length input) (n : p + lineLength (drop p input) ≡ length input → ⊥) (t : Taken)
-    → 19 ≤ room - length written → R (p + (lineLength (drop p input) + 1)) (after input room p written long h n) t → R p (feedState written long) t) where
+    (full : (p : ℕ) (written : List ℕ) (s : State) → room - length written < 19 → R p (feedState written s) (taken p written s))
+    (line : (p : ℕ) (written : List ℕ) (s : State) (h : p < length input) (n : p + lineLength (drop p input) ≡ length input → ⊥) (t : Taken)
+    → 19 ≤ room - length written → R (p + (lineLength (drop p input) + 1)) (after input room p written s h n) t → R p (feedState written s) t) where
   module _ (p : ℕ) (further : (q : ℕ) (s : FeedState) → p < q → q ≤ length input → R q s (on input room q s)) where
-    by-room : (written : List ℕ) (long : Bool) → p < length input → (p + lineLength (drop p input) ≡ length input → ⊥)
-        → (room - length written < 19) ⊎ (19 ≤ room - length written) → R p (feedState written long) (on input room p (feedState written long))
-    by-room written long l n (inl r) = subst (R p (feedState written long)) (sym (no-room input room p written long l n r)) (full p written long r)
-    by-room written long l n (inr r) =
-        subst (R p (feedState written long)) (sym (line-taken input room p written long l n r))
-        (line p written long l n _ r
-        (further (p + (lineLength (drop p input) + 1)) (after input room p written long l n) (omega arith) (omega (arith, line-inside input p (omega arith), n))))
+    by-room : (written : List ℕ) (s : State) → p < length input → (p + lineLength (drop p input) ≡ length input → ⊥)
+        → (room - length written < 19) ⊎ (19 ≤ room - length written) → R p (feedState written s) (on input room p (feedState written s))
+    by-room written s l n (inl r) = subst (R p (feedState written s)) (sym (no-room input room p written s l n r)) (full p written s r)
+    by-room written s l n (inr r) =
+        subst (R p (feedState written s)) (sym (line-taken input room p written s l n r))
+        (line p written s l n _ r
+        (further (p + (lineLength (drop p input) + 1)) (after input room p written s l n) (omega arith) (omega (arith, line-inside input p (omega arith), n))))
 
     by-newline : (s : FeedState) → p < length input → (p + lineLength (drop p input) ≡ length input) ⊎ (p + lineLength (drop p input) ≡ length input → ⊥)
         → R p s (on input room p s)
     by-newline s l (inl e) = subst (R p s) (sym (no-newline input room p s l e)) (ended p s (omega arith) e)
-    by-newline s l (inr n) = by-room (s .written) (s .long) l n (order (room - length (s .written)) 19)
+    by-newline s l (inr n) = by-room (s .written) (s .state) l n (order (room - length (s .written)) 19)
 
     by-place : (s : FeedState) → (p < length input) ⊎ (length input ≤ p) → p ≤ length input → R p s (on input room p s)
     by-place s (inl l) h = by-newline s l (same (p + lineLength (drop p input)) (length input))
@@ -57,48 +58,46 @@ module _ (input : List ℕ) (room : ℕ) (R : ℕ → FeedState → Taken → Ty
   by-left zero p s f h = by-place p (λ q t l g. absurd (omega arith)) s (order p (length input)) h
   by-left (suc left) p s f h = by-place p (λ q t l g. by-left left q t (omega arith) g) s (order p (length input)) h
 
-  pub every-call : (long : Bool) → R 0 (feedState [] long) (feed input room long)
-  every-call long = subst (R 0 (feedState [] long)) (starts input room long) (by-left (length input) 0 (feedState [] long) (omega arith) (omega arith))
+  pub every-call : (s : State) → R 0 (feedState [] s) (feed input room s)
+  every-call s = subst (R 0 (feedState [] s)) (starts input room s) (by-left (length input) 0 (feedState [] s) (omega arith) (omega arith))
 
--- ---- The rows that are due
+-- ---- What is due
 
 module _ (input rest : List ℕ) (room : ℕ) where
   -- the rows so far, and what is due from a place on
-  abbrev due : List ℕ → Bool → ℕ → List ℕ
-  due written long p = written ++ rowsAfter long (drop p input ++ rest)
+  abbrev due : List ℕ → State → ℕ → List ℕ
+  due written s p = written ++ listingAfter s (drop p input ++ rest)
 
   -- a state, and the answer that it leads to
   abbrev Leads : ℕ → FeedState → Taken → Type 0
-  Leads p s t = due (s .written) (s .long) p ≡ due (t .written) (t .long) (t .used)
+  Leads p s t = due (s .written) (s .state) p ≡ due (t .written) (t .state) (t .used)
 
-  ends-long : (p : ℕ) (s : FeedState) → p ≤ length input → p + lineLength (drop p input) ≡ length input → (s .long || ltb longest (length input - p)) ≡ true
-      → Leads p s (taken (length input) (s .written) true)
+  ends-long : (p : ℕ) (s : FeedState) → p ≤ length input → p + lineLength (drop p input) ≡ length input → (s .state .long || ltb longest (length input - p)) ≡ true
+      → Leads p s (taken (length input) (s .written) (tooLong (s .state)))
   ends-long p s h e t =
       ap (λ (x : List ℕ). s .written ++ x)
-      (after-long (s .long) (drop p input) rest (omega (arith, e, length-drop p input)) (λ f. omega (arith, ltb-true longest (length input - p) (or-true _ _ t f), length-drop p input))
-      ∙ ap (λ (x : List ℕ). rowsAfter true (x ++ rest)) (sym (drop-length input)))
-
-  ends-short : (p : ℕ) (s : FeedState) → (s .long || ltb longest (length input - p)) ≡ false → Leads p s (taken p (s .written) false)
-  ends-short p s t = ap (λ (x : Bool). due (s .written) x p) (or-false _ _ t .0)
+      (after-long (s .state) (drop p input) rest (omega (arith, e, length-drop p input)) (λ f. omega (arith, ltb-true longest (length input - p) (or-true _ _ t f), length-drop p input))
+      ∙ ap (λ (x : List ℕ). listingAfter (tooLong (s .state)) (x ++ rest)) (sym (drop-length input)))
 
   ends-there : (p : ℕ) (s : FeedState) → p ≤ length input → p + lineLength (drop p input) ≡ length input → Leads p s (unended input p s)
   unfolding unended
-  ends-there p s h e = by-test (Leads p s) (s .long || ltb longest (length input - p)) _ _ (ends-long p s h e) (ends-short p s)
+  ends-there p s h e = by-test (Leads p s) (s .state .long || ltb longest (length input - p)) _ _ (ends-long p s h e) (λ t. refl)
 
-  line-due : (p : ℕ) (written : List ℕ) (long : Bool) (h : p < length input) (n : p + lineLength (drop p input) ≡ length input → ⊥)
-      → due written long p ≡ due (after input room p written long h n .written) false (p + (lineLength (drop p input) + 1))
-  line-due p written long h n =
+  line-due : (p : ℕ) (written : List ℕ) (s : State) (h : p < length input) (n : p + lineLength (drop p input) ≡ length input → ⊥)
+      → due written s p ≡ due (after input room p written s h n .written) (after input room p written s h n .state) (p + (lineLength (drop p input) + 1))
+  line-due p written s h n =
       let m = lineLength (drop p input) in
+      let a = answerOf (s .long) (take m (drop p input)) in
       let shorter : m < length (drop p input) = omega (arith, line-inside input p (omega arith), length-drop p input, n) in
       let line : m ≡ p + m - p = omega arith in
       let on-at : p + suc m ≡ p + (m + 1) = omega arith in
-      ap (λ (x : List ℕ). written ++ x) (after-line long (drop p input) rest shorter)
-      ∙ sym (append-assoc written (rowOf long (take m (drop p input))) (rowsAfter false (drop (suc m) (drop p input) ++ rest)))
-      ∙ ap (λ (x : ℕ). (written ++ rowOf long (take x (drop p input))) ++ rowsAfter false (drop (suc m) (drop p input) ++ rest)) line
-      ∙ ap (λ (x : List ℕ). (written ++ rowOf long (take (p + m - p) (drop p input))) ++ rowsAfter false (x ++ rest)) (drop-drop (suc m) p input ∙ ap (λ (k : ℕ). drop k input) on-at)
+      ap (λ (x : List ℕ). written ++ x) (after-line s (drop p input) rest shorter)
+      ∙ sym (append-assoc written (answerRow a) (listingAfter (counted s a) (drop (suc m) (drop p input) ++ rest)))
+      ∙ ap (λ (x : List ℕ). (written ++ answerRow a) ++ listingAfter (counted s a) (x ++ rest)) (drop-drop (suc m) p input ∙ ap (λ (k : ℕ). drop k input) on-at)
+      ∙ ap (λ (x : ℕ). due (written ++ answerRow (answerOf (s .long) (take x (drop p input)))) (counted s (answerOf (s .long) (take x (drop p input)))) (p + (m + 1))) line
 
-  pub cut : (long : Bool) → rowsAfter long (input ++ rest) ≡ feed input room long .written ++ rowsAfter (feed input room long .long) (drop (feed input room long .used) input ++ rest)
-  cut long = every-call input room Leads ends-there (λ p written l r. refl) (λ p written l h n t r e. line-due p written l h n ∙ e) long
+  pub cut : (s : State) → listingAfter s (input ++ rest) ≡ feed input room s .written ++ listingAfter (feed input room s .state) (drop (feed input room s .used) input ++ rest)
+  cut s = every-call input room Leads ends-there (λ p written s r. refl) (λ p written s h n t r e. line-due p written s h n ∙ e) s
 
 -- ---- What is left
 
@@ -119,22 +118,26 @@ module _ (input : List ℕ) (room : ℕ) where
   short-left : (p : ℕ) (s : FeedState) → p ≤ length input → p + lineLength (drop p input) ≡ length input → Leaves p s (unended input p s)
   unfolding unended
   short-left p s h e =
-      by-test (Leaves p s) (s .long || ltb longest (length input - p)) _ _
+      by-test (Leaves p s) (s .state .long || ltb longest (length input - p)) _ _
       (λ t. (omega arith, λ r q. (omega arith, at-the-end)))
       (λ t. (
         omega arith,
-        λ r q. (ltb-false longest (length input - p) (or-false (s .long) (ltb longest (length input - p)) t .1), omega (arith, e, length-drop p input)),
+        λ r q. (ltb-false longest (length input - p) (or-false (s .state .long) (ltb longest (length input - p)) t .1), omega (arith, e, length-drop p input)),
       ))
 
-  pub left-short : (long : Bool) → 19 ≤ room → feed input room long .written ≡ []
-      → (length input - feed input room long .used ≤ 4005) × NoNewline (feed input room long .used)
-  left-short long h e =
-      every-call input room Leaves short-left (λ p written l r. (omega arith, λ q z. absurd (omega arith)))
-      (λ p written l g n t r more.
-      let longer = length-append written (rowOf l (part input p (p + lineLength (drop p input)))) in
-      let row = rowOf-length l (part input p (p + lineLength (drop p input))) in
-      (omega (arith, longer, row, more .0), λ q z. absurd (omega (arith, longer, row, more .0, z))))
-      long .1 (omega arith) (ap length e)
+  -- a row is added for a line
+  row-added : (p : ℕ) (written : List ℕ) (s : State) (h : p < length input) (n : p + lineLength (drop p input) ≡ length input → ⊥)
+      → length (after input room p written s h n .written) ≡ length written + 19
+  row-added p written s h n = let a = answer input room p written s h n in omega (arith, length-append written (answerRow a), answer-length a)
+
+  pub left-short : (s : State) → 19 ≤ room → feed input room s .written ≡ []
+      → (length input - feed input room s .used ≤ 4005) × NoNewline (feed input room s .used)
+  left-short s h e =
+      every-call input room Leaves short-left (λ p written s r. (omega arith, λ q z. absurd (omega arith)))
+      (λ p written s g n t r more.
+      let longer = row-added p written s g n in
+      (omega (arith, longer, more .0), λ q z. absurd (omega (arith, longer, more .0, z))))
+      s .1 (omega arith) (ap length e)
 
   -- with room for a row for every byte, every line is taken
   abbrev Clear : ℕ → FeedState → Taken → Type 0
@@ -143,13 +146,10 @@ module _ (input : List ℕ) (room : ℕ) where
   clear-there : (p : ℕ) (s : FeedState) → p ≤ length input → p + lineLength (drop p input) ≡ length input → Clear p s (unended input p s)
   unfolding unended
   clear-there p s h e =
-      by-test (Clear p s) (s .long || ltb longest (length input - p)) _ _ (λ t r. at-the-end) (λ t r. omega (arith, e, length-drop p input))
+      by-test (Clear p s) (s .state .long || ltb longest (length input - p)) _ _ (λ t r. at-the-end) (λ t r. omega (arith, e, length-drop p input))
 
-  pub all-taken : (long : Bool) → 19 * length input ≤ room → NoNewline (feed input room long .used)
-  all-taken long h =
-      every-call input room Clear clear-there (λ p written l r q. omega (arith, input-ends input p (omega arith), length-drop p input))
-      (λ p written l g n t r more q.
-      let longer = length-append written (rowOf l (part input p (p + lineLength (drop p input)))) in
-      let row = rowOf-length l (part input p (p + lineLength (drop p input))) in
-      more (omega (arith, longer, row, g, q)))
-      long (omega arith)
+  pub all-taken : (s : State) → 19 * length input ≤ room → NoNewline (feed input room s .used)
+  all-taken s h =
+      every-call input room Clear clear-there (λ p written s r q. omega (arith, input-ends input p (omega arith), length-drop p input))
+      (λ p written s g n t r more q. more (omega (arith, row-added p written s g n, g, q)))
+      s (omega arith)

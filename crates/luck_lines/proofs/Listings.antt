@@ -1,20 +1,21 @@
--- Laws of lines and listings: a line that ends in what is there, bytes with no newline, and a line that is too long already.
+-- Laws of lines and listings: a line that ends in what is there, bytes with no newline, a line that is too long already, and the totals.
 -- Assumes nothing.
-use mathlib.Core.Path.{_≡_, refl, sym, ap, _∙_}
-use Prim.Native.Nat.{ℕ, suc, _+_, _-_, _<_}
+use mathlib.Core.Path.{_≡_, refl, sym, ap, ap₂, _∙_}
+use Prim.Native.Nat.{ℕ, suc, _+_, _-_, _<_, min}
 use native.Mathlib.Nat.{not-suc-le-zero, le-of-suc-le-suc, suc-inj, suc-ne-zero}
 use native.Mathlib.Omega.{arith}
 use mathlib.Core.Bool.{Bool, true, false, not}
-use mathlib.Core.List.{List, [], _∷_, _++_, append-nil}
+use mathlib.Core.List.{List, [], _∷_, _++_, append-nil, append-assoc}
 use lib.ListN.{length, take, drop, replicate, length-append, length-replicate}
 use lib.Seq.{append-snoc}
 use lib.Dec.{eqb}
 use Rattle.luck_text.specs.Bytes.{if_then_else_, run}
-use Rattle.luck_answer.specs.Answer.{refused}
+use Rattle.luck_answer.specs.Answer.{Answer, refused}
 use Rattle.luck_line.specs.Line.{lineAnswer}
-use Rattle.luck_line.specs.Row.{answerRow}
-use Rattle.luck_lines.specs.Lines.{lastLine, linesFrom, rows}
-use Rattle.luck_lines.specs.Stream.{lineLength, rowOf, passed, rowsAfter}
+use Rattle.luck_line.specs.Row.{justified, sevenColumns, answerRow, totalsRow}
+use Rattle.luck_lines.specs.Lines.{lastLine, linesFrom, lines, answers, rows, isRefused, refusals, listing, isEmpty}
+use Rattle.luck_lines.specs.Stream.{lineLength, start, answerOf, tooLong, counted, totals, lastOf, passed, listingAfter}
+use Rattle.luck_lines.specs.declared.stream.State.{State}
 use Rattle.luck_line.proofs.Heads.{too-long}
 
 -- ---- A newline among the bytes that are there
@@ -53,28 +54,28 @@ lines-none line (b ∷ xs) rest h = past-none (eqb b 10) line b xs rest (λ l. l
 
 -- ---- A line that is too long already: which bytes it had makes no difference
 
-long-row : (l : List ℕ) → 4005 < length l → answerRow (lineAnswer l) ≡ answerRow (refused 31 0)
-long-row l h = ap answerRow (sym (too-long l h))
+long-answer : (l : List ℕ) → 4005 < length l → lineAnswer l ≡ refused 31 0
+long-answer l h = sym (too-long l h)
 
-last-long : (l : List ℕ) → 4005 < length l → rows (lastLine l) ≡ answerRow (refused 31 0) ++ []
-unfolding rows lastLine
+last-long : (l : List ℕ) → 4005 < length l → answers (lastLine l) ≡ refused 31 0 ∷ []
+unfolding answers lastLine
 last-long [] h = absurd (not-suc-le-zero h)
-last-long (b ∷ l) h = ap (λ (r : List ℕ). r ++ []) (long-row (b ∷ l) h)
+last-long (b ∷ l) h = ap (λ (a : Answer). a ∷ []) (long-answer (b ∷ l) h)
 
 longer : (l : List ℕ) (b : ℕ) → 4005 < length l → 4005 < length (l ++ (b ∷ []))
 longer l b h = omega (arith, length-append l (b ∷ []))
 
-same-next : (t : Bool) (l m : List ℕ) (next : List (List ℕ)) (on on′ : List (List ℕ)) → 4005 < length l → 4005 < length m → rows on ≡ rows on′
-    → rows (if t then l ∷ next else on) ≡ rows (if t then m ∷ next else on′)
-unfolding if_then_else_ rows
-same-next true l m next on on′ hl hm e = ap (λ (r : List ℕ). r ++ rows next) (long-row l hl ∙ sym (long-row m hm))
+same-next : (t : Bool) (l m : List ℕ) (next : List (List ℕ)) (on on′ : List (List ℕ)) → 4005 < length l → 4005 < length m → answers on ≡ answers on′
+    → answers (if t then l ∷ next else on) ≡ answers (if t then m ∷ next else on′)
+unfolding if_then_else_ answers
+same-next true l m next on on′ hl hm e = ap (λ (a : Answer). a ∷ answers next) (long-answer l hl ∙ sym (long-answer m hm))
 same-next false l m next on on′ hl hm e = e
 
-pub rows-long : (l m xs : List ℕ) → 4005 < length l → 4005 < length m → rows (linesFrom l xs) ≡ rows (linesFrom m xs)
+answers-long : (l m xs : List ℕ) → 4005 < length l → 4005 < length m → answers (linesFrom l xs) ≡ answers (linesFrom m xs)
 unfolding linesFrom
-rows-long l m [] hl hm = last-long l hl ∙ sym (last-long m hm)
-rows-long l m (b ∷ xs) hl hm =
-    same-next (eqb b 10) l m (linesFrom [] xs) _ _ hl hm (rows-long (l ++ (b ∷ [])) (m ++ (b ∷ [])) xs (longer l b hl) (longer m b hm))
+answers-long l m [] hl hm = last-long l hl ∙ sym (last-long m hm)
+answers-long l m (b ∷ xs) hl hm =
+    same-next (eqb b 10) l m (linesFrom [] xs) _ _ hl hm (answers-long (l ++ (b ∷ [])) (m ++ (b ∷ [])) xs (longer l b hl) (longer m b hm))
 
 many : (s : List ℕ) → 4005 < length (passed true ++ s)
 unfolding passed
@@ -84,39 +85,116 @@ many-alone : 4005 < length (passed true)
 unfolding passed
 many-alone = omega (arith, length-replicate {A = ℕ} 4006 0)
 
+-- ---- The answers after what was passed
+
+-- a line that ends in what is there
+first-answer : (long : Bool) (xs rest : List ℕ) → lineLength xs < length xs
+    → answers (linesFrom (passed long) (xs ++ rest)) ≡ answerOf long (take (lineLength xs) xs) ∷ answers (linesFrom [] (drop (suc (lineLength xs)) xs ++ rest))
+unfolding answerOf answers passed
+first-answer false xs rest h = ap answers (lines-newline [] xs rest h)
+first-answer true xs rest h =
+    ap answers (lines-newline (passed true) xs rest h)
+    ∙ ap (λ (a : Answer). a ∷ answers (linesFrom [] (drop (suc (lineLength xs)) xs ++ rest))) (long-answer (passed true ++ take (lineLength xs) xs) (many (take (lineLength xs) xs)))
+
+-- none ends, and the one that goes on is too long
+none-passed : (xs rest : List ℕ) → 4005 < length xs → answers (linesFrom (passed false ++ xs) rest) ≡ answers (linesFrom (passed true) rest)
+unfolding passed
+none-passed xs rest h = answers-long xs (passed true) rest h many-alone
+
+long-answers : (long : Bool) (xs rest : List ℕ) → lineLength xs ≡ length xs → (long ≡ false → 4005 < length xs)
+    → answers (linesFrom (passed long) (xs ++ rest)) ≡ answers (linesFrom (passed true) rest)
+long-answers false xs rest e h = ap answers (lines-none (passed false) xs rest e) ∙ none-passed xs rest (h refl)
+long-answers true xs rest e h = ap answers (lines-none (passed true) xs rest e) ∙ answers-long (passed true ++ xs) (passed true) rest (many xs) many-alone
+
+-- the input ends
+due : (long : Bool) (xs : List ℕ) → (long ≡ false → length xs ≡ 0 → ⊥) → answers (linesFrom (passed long ++ xs) []) ≡ answerOf long xs ∷ []
+unfolding linesFrom answerOf answers lastLine passed
+due false [] n = absurd (n refl refl)
+due false (b ∷ xs) n = refl
+due true xs n = last-long (passed true ++ xs) (many xs)
+
+last-answer : (long : Bool) (xs : List ℕ) → lineLength xs ≡ length xs → (long ≡ false → length xs ≡ 0 → ⊥)
+    → answers (linesFrom (passed long) xs) ≡ answerOf long xs ∷ []
+last-answer long xs e h =
+    ap (λ (x : List ℕ). answers (linesFrom (passed long) x)) (sym (append-nil xs)) ∙ ap answers (lines-none (passed long) xs [] e) ∙ due long xs h
+
+no-answer : (long : Bool) (xs : List ℕ) → long ≡ false → length xs ≡ 0 → answers (linesFrom (passed long) xs) ≡ []
+unfolding linesFrom answers lastLine passed
+no-answer false [] l e = refl
+no-answer true [] l e = let z : _≡_ {A = ℕ} 0 1 = cc in absurd (omega arith)
+no-answer long (b ∷ xs) l e = absurd (suc-ne-zero (length xs) e)
+
+-- ---- The totals
+
+-- A number that stops at the most that is shown is shown as one that does not.
+shown-more : (total n : ℕ) → min (total + suc n) 9999999 ≡ min (min (total + 1) 9999999 + n) 9999999
+shown-more total n = omega arith
+
+-- a rows' listing, behind so many lines
+abbrev listed : ℕ → ℕ → List Answer → List ℕ
+listed read refused all = rows all ++ totalsRow (read + length all) (refused + refusals all)
+
+refused-more : (t : Bool) (total n : ℕ) → min (total + ((if t then 1 else 0) + n)) 9999999 ≡ min ((if t then min (total + 1) 9999999 else total) + n) 9999999
+unfolding if_then_else_
+refused-more true total n = omega arith
+refused-more false total n = omega arith
+
+totals-more : (s : State) (a : Answer) (n m : ℕ)
+    → totalsRow (s .read + suc n) (s .refused + ((if isRefused a then 1 else 0) + m)) ≡ totalsRow (counted s a .read + n) (counted s a .refused + m)
+unfolding totalsRow counted
+totals-more s a n m = rw (shown-more (s .read) n, refused-more (isRefused a) (s .refused) m)
+
+listed-more : (s : State) (a : Answer) (all : List Answer)
+    → listed (s .read) (s .refused) (a ∷ all) ≡ answerRow a ++ listed (counted s a .read) (counted s a .refused) all
+unfolding rows refusals
+listed-more s a all =
+    append-assoc (answerRow a) (rows all) _
+    ∙ ap (λ (x : List ℕ). answerRow a ++ (rows all ++ x)) (totals-more s a (length all) (refusals all))
+
+listed-none : (read refused : ℕ) → listed read refused [] ≡ totalsRow read refused
+unfolding rows refusals
+listed-none read refused = ap₂ totalsRow (omega arith) (omega arith)
+
 -- ---- The listing after what was passed
 
-pub after-line : (long : Bool) (s rest : List ℕ) → lineLength s < length s
-    → rowsAfter long (s ++ rest) ≡ rowOf long (take (lineLength s) s) ++ rowsAfter false (drop (suc (lineLength s)) s ++ rest)
-unfolding rowsAfter rowOf rows passed
-after-line false s rest h = ap rows (lines-newline [] s rest h)
-after-line true s rest h =
-    ap rows (lines-newline (passed true) s rest h)
-    ∙ ap (λ (r : List ℕ). r ++ rows (linesFrom [] (drop (suc (lineLength s)) s ++ rest))) (long-row (passed true ++ take (lineLength s) s) (many (take (lineLength s) s)))
+module _ (s : State) (xs rest : List ℕ) where
+  pub after-line : lineLength xs < length xs
+      → listingAfter s (xs ++ rest)
+      ≡ answerRow (answerOf (s .long) (take (lineLength xs) xs))
+      ++ listingAfter (counted s (answerOf (s .long) (take (lineLength xs) xs))) (drop (suc (lineLength xs)) xs ++ rest)
+  unfolding listingAfter counted passed
+  after-line h = ap (listed (s .read) (s .refused)) (first-answer (s .long) xs rest h) ∙ listed-more s (answerOf (s .long) (take (lineLength xs) xs)) _
 
-none-passed : (s rest : List ℕ) → 4005 < length s → rows (linesFrom (passed false ++ s) rest) ≡ rows (linesFrom (passed true) rest)
-unfolding passed
-none-passed s rest h = rows-long s (passed true) rest h many-alone
+  pub after-long : lineLength xs ≡ length xs → (s .long ≡ false → 4005 < length xs) → listingAfter s (xs ++ rest) ≡ listingAfter (tooLong s) rest
+  unfolding listingAfter
+  after-long e h = ap (listed (s .read) (s .refused)) (long-answers (s .long) xs rest e h)
 
-pub after-long : (long : Bool) (s rest : List ℕ) → lineLength s ≡ length s → (long ≡ false → 4005 < length s) → rowsAfter long (s ++ rest) ≡ rowsAfter true rest
-unfolding rowsAfter
-after-long false s rest e h = ap rows (lines-none (passed false) s rest e) ∙ none-passed s rest (h refl)
-after-long true s rest e h = ap rows (lines-none (passed true) s rest e) ∙ rows-long (passed true ++ s) (passed true) rest (many s) many-alone
+-- nothing was passed
+pub from-start : (input : List ℕ) → listingAfter start input ≡ listing input
+unfolding listingAfter listing lines passed
+from-start input = let all = answers (linesFrom [] input) in ap₂ (λ (x y : ℕ). rows all ++ totalsRow x y) (omega arith) (omega arith)
 
 -- ---- The end of the input
 
-due : (long : Bool) (s : List ℕ) → (long ≡ false → length s ≡ 0 → ⊥) → rows (linesFrom (passed long ++ s) []) ≡ rowOf long s
-unfolding linesFrom rowOf rows lastLine passed
-due false [] n = absurd (n refl refl)
-due false (b ∷ s) n = append-nil (answerRow (lineAnswer (b ∷ s)))
-due true s n = last-long (passed true ++ s) (many s) ∙ append-nil (answerRow (refused 31 0))
+module _ (s : State) (xs : List ℕ) where
+  pub last-row : lineLength xs ≡ length xs → (s .long ≡ false → length xs ≡ 0 → ⊥) → lastOf s xs ≡ listingAfter s xs
+  unfolding listingAfter lastOf
+  last-row e h =
+      let a = answerOf (s .long) xs in
+      sym
+      (ap (listed (s .read) (s .refused)) (last-answer (s .long) xs e h) ∙ listed-more s a []
+      ∙ ap (λ (x : List ℕ). answerRow a ++ x) (listed-none (counted s a .read) (counted s a .refused)))
 
-pub last-row : (long : Bool) (s : List ℕ) → lineLength s ≡ length s → (long ≡ false → length s ≡ 0 → ⊥) → rowOf long s ≡ rowsAfter long s
-unfolding rowsAfter
-last-row long s e h =
-    sym (ap (λ (x : List ℕ). rows (linesFrom (passed long) x)) (sym (append-nil s)) ∙ ap rows (lines-none (passed long) s [] e) ∙ due long s h)
+  pub last-none : s .long ≡ false → length xs ≡ 0 → totals s ≡ listingAfter s xs
+  unfolding listingAfter
+  last-none l e = sym (ap (listed (s .read) (s .refused)) (no-answer (s .long) xs l e) ∙ listed-none (s .read) (s .refused))
 
-pub last-none : (s : List ℕ) → length s ≡ 0 → [] ≡ rowsAfter false s
-unfolding rowsAfter linesFrom rows lastLine passed
-last-none [] e = refl
-last-none (b ∷ s) e = absurd (suc-ne-zero (length s) e)
+-- the totals are always due
+behind : (xs : List ℕ) (read refused : ℕ) → isEmpty (xs ++ totalsRow read refused) ≡ false
+unfolding isEmpty totalsRow sevenColumns justified
+behind [] read refused = refl
+behind (x ∷ xs) read refused = refl
+
+pub some-due : (s : State) (input : List ℕ) → isEmpty (listingAfter s input) ≡ false
+unfolding listingAfter
+some-due s input = behind (rows (answers (linesFrom (passed (s .long)) input))) _ _

@@ -1,40 +1,56 @@
 -- What is promised of the line machine: however an input is cut into pieces, and whenever its lines are taken, what is written is the listing of the
--- whole input; and of every line: its number is 0 or a refusal of document 01, and its offset and its count are at most the body's length.
+-- whole input, its totals included; a listing that is cut off is told from a whole one; and of every line: its number is 0 or a refusal of document 01, and its offset and its count are at most the
+-- body's length.
 -- Assumes nothing.
-use Prim.Native.Nat.{ℕ, _-_, _≤_}
-use mathlib.Core.Path.{_≡_}
-use mathlib.Core.Bool.{Bool, true, false}
+use Prim.Native.Nat.{ℕ, _+_, _*_, _-_, _≤_}
+use mathlib.Core.Path.{_≡_, subst, _∙_}
+use mathlib.Core.Bool.{true, false}
 use mathlib.Core.List.{List, [], _++_}
 use lib.ListN.{length, drop}
 use Rattle.luck_text.specs.Bytes.{among}
 use Rattle.luck_line.specs.Line.{longest, lineAnswer, lineNumbers}
-use Rattle.luck_lines.specs.Lines.{lines, listing}
-use Rattle.luck_lines.specs.Stream.{rowLength, lineLength, feed, passed, rowsAfter, Run}
+use Rattle.luck_lines.specs.Lines.{lines, listing, isEmpty, isWhole}
+use Rattle.luck_lines.specs.Stream.{rowLength, lineLength, start, feed, listingAfter, Run}
+use Rattle.luck_lines.specs.declared.stream.State.{State}
 use Rattle.luck_line.proofs.Answers.{line-fits}
+use Rattle.luck_lines.proofs.Listings.{from-start}
 use Rattle.luck_lines.proofs.Cuts.{cut, left-short}
-use Rattle.luck_lines.proofs.Runs.{run-written, one-run}
+use Rattle.luck_lines.proofs.Runs.{run-gives, one-run}
+use Rattle.luck_lines.proofs.Ends.{listing-bytes, whole-or-cut, cut-off}
 
--- every run over an input writes its listing,
-pub whole-listing : (input written : List ℕ) → Run false [] input written → written ≡ listing input
-unfolding listing lines rowsAfter passed
-whole-listing input written run = run-written false [] input written run
+-- every whole run over an input writes its listing,
+pub whole-listing : (input written : List ℕ) → Run true start [] input written → written ≡ listing input
+whole-listing input written run = run-gives true start [] input written run ∙ from-start input
 
 -- and there is one
-pub some-run : (input : List ℕ) → Run false [] input (listing input)
-unfolding listing lines rowsAfter passed
-some-run input = one-run input
+pub some-run : (input : List ℕ) → Run true start [] input (listing input)
+some-run input = subst (Run true start [] input) (from-start input) (one-run input)
 
--- in a run that is not at its end: the rows that a call writes, and then those that are due for what it leaves and for all that follows
-pub rows-due : (input rest : List ℕ) (room : ℕ) (long : Bool)
-    → rowsAfter long (input ++ rest) ≡ feed input room long .written ++ rowsAfter (feed input room long .long) (drop (feed input room long .used) input ++ rest)
-rows-due input rest room long = cut input rest room long
+-- 19 bytes for each line, and 15
+pub listing-length : (input : List ℕ) → length (listing input) ≡ 19 * length (lines input) + 15
+listing-length input = listing-bytes input
+
+-- of all that a listing begins with, the listing alone ends in a line of 14 columns and its newline;
+pub whole-told : (input out rest : List ℕ) → out ++ rest ≡ listing input → isWhole out ≡ isEmpty rest
+whole-told input out rest e = whole-or-cut input out rest e
+
+-- so nothing that a run wrote does which stopped where a read or a write failed, were it cut off anywhere
+pub stopped-told : (input written out rest : List ℕ) → Run false start [] input written → out ++ rest ≡ written → isWhole out ≡ false
+stopped-told input written out rest run e =
+    let (more, (f, n)) = run-gives false start [] input written run in
+    cut-off input written more out rest (f ∙ from-start input) n e
+
+-- in a run that is not at its end: the rows that a call writes, and then what is due for what it leaves and for all that follows
+pub listing-due : (input rest : List ℕ) (room : ℕ) (s : State)
+    → listingAfter s (input ++ rest) ≡ feed input room s .written ++ listingAfter (feed input room s .state) (drop (feed input room s .used) input ++ rest)
+listing-due input rest room s = cut input rest room s
 
 -- a call with room for a row that writes none leaves no newline, so that `finish` may follow at the end of the input, and at most 4,005 bytes, so that
 -- a larger buffer has room for more
-pub leaves : (input : List ℕ) (room : ℕ) (long : Bool) → rowLength ≤ room → feed input room long .written ≡ []
-    → (length input - feed input room long .used ≤ longest)
-    × (lineLength (drop (feed input room long .used) input) ≡ length (drop (feed input room long .used) input))
-leaves input room long h e = left-short input room long h e
+pub leaves : (input : List ℕ) (room : ℕ) (s : State) → rowLength ≤ room → feed input room s .written ≡ []
+    → (length input - feed input room s .used ≤ longest)
+    × (lineLength (drop (feed input room s .used) input) ≡ length (drop (feed input room s .used) input))
+leaves input room s h e = left-short input room s h e
 
 -- every line
 pub line-refusals : (line : List ℕ)

@@ -6,7 +6,7 @@ use native.Mathlib.Nat.{le-of-eq}
 use native.Mathlib.Omega.{arith}
 use mathlib.Core.Bool.{Bool, true, false, not, _||_}
 use mathlib.Core.List.{List, [], _++_, append-nil}
-use lib.ListN.{length, take, drop, take-append-drop, length-append, length-drop, drop-of-length-le}
+use lib.ListN.{length, take, drop, take-append-drop, length-append, length-take, length-drop, drop-of-length-le}
 use lib.Seq.{take-at, drop-at, take-all, length-take-le, take-append-add, take-append-le, drop-append-add, drop-append-le, drop-drop}
 use lib.Dec.{eqb, ltb}
 use borrow.Author.Tests.{lt-ltb, le-ltb, ne-eqb, eq-eqb}
@@ -16,14 +16,15 @@ use Rattle.luck_text.specs.Walk.{stop, goes, walkFrom}
 use Rattle.luck_text.proofs.Walk.{walk-end, walk-stop, walk-goes}
 use Rattle.luck_text.proofs.Bytes.{run-more, run-stop, run-end, run-inside}
 use Rattle.luck_text.proofs.Cases.{by-test}
-use Rattle.luck_answer.specs.Answer.{refused}
+use Rattle.luck_answer.specs.Answer.{Answer, refused}
 use Rattle.luck_line.specs.Line.{longest, lineAnswer}
 use Rattle.luck_line.specs.Row.{answerRow}
-use Rattle.luck_lines.specs.Stream.{lineLength, rowOf, Taken, taken, FeedState, feedState, unended, lineTurn, feedTurn, feed, finish, fedOf}
+use Rattle.luck_lines.specs.Stream.{lineLength, answerOf, counted, totals, lastOf, Taken, taken, FeedState, feedState, unended, lineTurn, feedTurn, feed, finish, fedOf}
 use Rattle.luck_lines.specs.Inner.{unendedAt}
+use Rattle.luck_lines.specs.declared.stream.State.{State}
 use Rattle.luck_lines.specs.declared.stream.Fed.{Fed}
 use Rattle.luck_line.proofs.Heads.{part-whole}
-use Rattle.luck_line.proofs.Rows.{row-length}
+use Rattle.luck_line.proofs.Rows.{row-length, totals-length}
 
 pub line-inside : (input : List ℕ) (p : ℕ) → p ≤ length input → p + lineLength (drop p input) ≤ length input
 unfolding lineLength
@@ -62,17 +63,15 @@ blocks-passed input p end l h f =
     let passed = line-block input (end - p) p (omega arith) (λ k m. f (p + k) (omega arith) (omega arith)) in
     omega (arith, passed ∙ ap (λ (q : ℕ). end - p + lineLength (drop q input)) e)
 
-pub rowOf-length : (long : Bool) (line : List ℕ) → length (rowOf long line) ≡ 19
-unfolding rowOf
-rowOf-length true line = row-length 31 0 0
-rowOf-length false line = row-length (lineAnswer line .number) (lineAnswer line .offset) (lineAnswer line .count)
+pub answer-length : (a : Answer) → length (answerRow a) ≡ 19
+answer-length a = row-length (a .number) (a .offset) (a .count)
 
-pub of-long : (long : Bool) (line : List ℕ) → long ≡ true → answerRow (refused 31 0) ≡ rowOf long line
-unfolding rowOf
+pub of-long : (long : Bool) (line : List ℕ) → long ≡ true → refused 31 0 ≡ answerOf long line
+unfolding answerOf
 of-long long line e = rw e
 
-pub of-short : (long : Bool) (line : List ℕ) → long ≡ false → answerRow (lineAnswer line) ≡ rowOf long line
-unfolding rowOf
+pub of-short : (long : Bool) (line : List ℕ) → long ≡ false → lineAnswer line ≡ answerOf long line
+unfolding answerOf
 of-short long line e = rw e
 
 fed-if : (b : Bool) (x y : Taken) → (if b then fedOf x else fedOf y) ≡ fedOf (if b then x else y)
@@ -87,9 +86,9 @@ module _ (input : List ℕ) (room : ℕ) where
   abbrev pub on : ℕ → FeedState → Taken
   on p s = walkFrom (feedTurn input room) (unended input) (length input) p s
 
-  pub starts : (long : Bool) → on 0 (feedState [] long) ≡ feed input room long
+  pub starts : (s : State) → on 0 (feedState [] s) ≡ feed input room s
   unfolding feed
-  starts long = refl
+  starts s = refl
 
   pub at-end : (p : ℕ) (s : FeedState) → length input ≤ p → on p s ≡ unended input p s
   at-end p s h = walk-end (feedTurn input room) (unended input) (length input) p s h
@@ -101,34 +100,37 @@ module _ (input : List ℕ) (room : ℕ) where
   pub no-newline : (p : ℕ) (s : FeedState) → p < length input → p + lineLength (drop p input) ≡ length input → on p s ≡ unended input p s
   no-newline p s h e = walk-stop (feedTurn input room) (unended input) (length input) p s (unended input p s) h (turn-none p s e)
 
-  module _ (p : ℕ) (written : List ℕ) (long : Bool) (h : p < length input) (n : p + lineLength (drop p input) ≡ length input → ⊥) where
-    turn-full : room - length written < 19 → feedTurn input room p (feedState written long) ≡ stop (taken p written long)
+  module _ (p : ℕ) (written : List ℕ) (s : State) (h : p < length input) (n : p + lineLength (drop p input) ≡ length input → ⊥) where
+    turn-full : room - length written < 19 → feedTurn input room p (feedState written s) ≡ stop (taken p written s)
     unfolding feedTurn lineTurn if_then_else_
     turn-full r = rw (ne-eqb (p + lineLength (drop p input)) (length input) n, lt-ltb (room - length written) 19 r)
 
-    pub no-room : room - length written < 19 → on p (feedState written long) ≡ taken p written long
-    no-room r = walk-stop (feedTurn input room) (unended input) (length input) p (feedState written long) _ h (turn-full r)
+    pub no-room : room - length written < 19 → on p (feedState written s) ≡ taken p written s
+    no-room r = walk-stop (feedTurn input room) (unended input) (length input) p (feedState written s) _ h (turn-full r)
 
-    -- the state after a line that is taken
+    -- the line's answer, and the state after it is taken
+    abbrev pub answer : Answer
+    answer = answerOf (s .long) (part input p (p + lineLength (drop p input)))
+
     abbrev pub after : FeedState
-    after = feedState (written ++ rowOf long (part input p (p + lineLength (drop p input)))) false
+    after = feedState (written ++ answerRow answer) (counted s answer)
 
-    turn-line : 19 ≤ room - length written → feedTurn input room p (feedState written long) ≡ goes (lineLength (drop p input) + 1) after
+    turn-line : 19 ≤ room - length written → feedTurn input room p (feedState written s) ≡ goes (lineLength (drop p input) + 1) after
     unfolding feedTurn lineTurn if_then_else_
     turn-line r = rw (ne-eqb (p + lineLength (drop p input)) (length input) n, le-ltb (room - length written) 19 r)
 
-    pub line-taken : 19 ≤ room - length written → on p (feedState written long) ≡ on (p + (lineLength (drop p input) + 1)) after
+    pub line-taken : 19 ≤ room - length written → on p (feedState written s) ≡ on (p + (lineLength (drop p input) + 1)) after
     line-taken r =
         let i = line-inside input p (omega arith) in
-        walk-goes (feedTurn input room) (unended input) (length input) p (feedState written long) (lineLength (drop p input) + 1) after (omega arith) (omega (arith, i, n)) (turn-line r)
+        walk-goes (feedTurn input room) (unended input) (length input) p (feedState written s) (lineLength (drop p input) + 1) after (omega arith) (omega (arith, i, n)) (turn-line r)
 
   pub unended-written : (p : ℕ) (s : FeedState) → unended input p s .written ≡ s .written
   unfolding unended
-  unended-written p s = by-test (λ (t : Taken). t .written ≡ s .written) (s .long || ltb longest (length input - p)) _ _ (λ e. refl) (λ e. refl)
+  unended-written p s = by-test (λ (t : Taken). t .written ≡ s .written) (s .state .long || ltb longest (length input - p)) _ _ (λ e. refl) (λ e. refl)
 
-  pub unended-fed : (p w : ℕ) (s : FeedState) → w ≡ length (s .written) → unendedAt (length input) p w (s .long) ≡ fedOf (unended input p s)
+  pub unended-fed : (p w : ℕ) (s : FeedState) → w ≡ length (s .written) → unendedAt (length input) p w (s .state) ≡ fedOf (unended input p s)
   unfolding unended
-  unended-fed p w s e = ap (λ (x : ℕ). unendedAt (length input) p x (s .long)) e ∙ fed-if (s .long || ltb longest (length input - p)) _ _
+  unended-fed p w s e = ap (λ (x : ℕ). unendedAt (length input) p x (s .state)) e ∙ fed-if (s .state .long || ltb longest (length input - p)) _ _
 
 -- ---- The output
 
@@ -160,85 +162,125 @@ as-written out first written w h e f =
 
 -- ---- The loop of `feed`: from place p on, w bytes of the output are written
 
-module _ (input first out : List ℕ) (p w : ℕ) (start long : Bool)
+module _ (input first out : List ℕ) (p w : ℕ) (begun s : State)
     (inside : p ≤ length input) (fits : w ≤ length out) (same : length out ≡ length first) (kept : drop w out ≡ drop w first)
-    (whole : on input (length first) p (feedState (take w out) long) ≡ feed input (length first) start) where
+    (whole : on input (length first) p (feedState (take w out) s) ≡ feed input (length first) begun) where
   -- what is promised of an answer
   abbrev pub Answered : Fed → Type 0
   Answered r =
-      (r ≡ fedOf (feed input (length first) start))
-      × ((out ≡ inFront (feed input (length first) start .written) first) × ((r .used ≤ length input) × (r .wrote ≤ length first)))
+      (r ≡ fedOf (feed input (length first) begun))
+      × ((out ≡ inFront (feed input (length first) begun .written) first) × ((r .used ≤ length input) × (r .wrote ≤ length first)))
 
-  answered : (r : Fed) (t : Taken) → t ≡ feed input (length first) start → r ≡ fedOf t → t .written ≡ take w out → r .used ≤ length input → r .wrote ≤ length first → Answered r
+  answered : (r : Fed) (t : Taken) → t ≡ feed input (length first) begun → r ≡ fedOf t → t .written ≡ take w out → r .used ≤ length input → r .wrote ≤ length first → Answered r
   answered r t e f g u v = (f ∙ ap fedOf e, (as-written out first _ w fits kept (ap (λ (x : Taken). x .written) (sym e) ∙ g), (u, v)))
 
-  used-inside : unendedAt (length input) p w long .used ≤ length input
-  used-inside = by-test (λ (x : Fed). x .used ≤ length input) (long || ltb longest (length input - p)) _ _ (λ e. omega arith) (λ e. inside)
+  used-inside : unendedAt (length input) p w s .used ≤ length input
+  used-inside = by-test (λ (x : Fed). x .used ≤ length input) (s .long || ltb longest (length input - p)) _ _ (λ e. omega arith) (λ e. inside)
 
-  wrote-inside : unendedAt (length input) p w long .wrote ≤ length first
-  wrote-inside = by-test (λ (x : Fed). x .wrote ≤ length first) (long || ltb longest (length input - p)) _ _ (λ e. omega arith) (λ e. omega arith)
+  wrote-inside : unendedAt (length input) p w s .wrote ≤ length first
+  wrote-inside = by-test (λ (x : Fed). x .wrote ≤ length first) (s .long || ltb longest (length input - p)) _ _ (λ e. omega arith) (λ e. omega arith)
 
-  pub nothing-ends : (r : Fed) → r ≡ unendedAt (length input) p w long → on input (length first) p (feedState (take w out) long) ≡ unended input p (feedState (take w out) long) → Answered r
+  pub nothing-ends : (r : Fed) → r ≡ unendedAt (length input) p w s → on input (length first) p (feedState (take w out) s) ≡ unended input p (feedState (take w out) s) → Answered r
   nothing-ends r e f =
-      answered r (unended input p (feedState (take w out) long)) (sym f ∙ whole)
-      (e ∙ unended-fed input (length first) p w (feedState (take w out) long) (sym (length-take-le w out fits)))
-      (unended-written input (length first) p (feedState (take w out) long))
+      answered r (unended input p (feedState (take w out) s)) (sym f ∙ whole)
+      (e ∙ unended-fed input (length first) p w (feedState (take w out) s) (sym (length-take-le w out fits)))
+      (unended-written input (length first) p (feedState (take w out) s))
       (subst (λ (x : Fed). x .used ≤ length input) (sym e) used-inside)
       (subst (λ (x : Fed). x .wrote ≤ length first) (sym e) wrote-inside)
 
-  pub is-full : on input (length first) p (feedState (take w out) long) ≡ taken p (take w out) long → Answered (record { used = p; wrote = w; long = long })
+  pub is-full : on input (length first) p (feedState (take w out) s) ≡ taken p (take w out) s → Answered (record { used = p; wrote = w; state = s })
   is-full f =
-      answered _ (taken p (take w out) long) (sym f ∙ whole)
-      (ap (λ (n : ℕ). record { used = p; wrote = n; long = long }) (sym (length-take-le w out fits)))
+      answered _ (taken p (take w out) s) (sym f ∙ whole)
+      (ap (λ (n : ℕ). record { used = p; wrote = n; state = s }) (sym (length-take-le w out fits)))
       refl inside (omega arith)
 
   module _ (end : ℕ) (e : end ≡ p + lineLength (drop p input)) (h : p < length input) (n : end ≡ length input → ⊥) (r : 19 ≤ length out - w)
-      (row : List ℕ) (put : row ≡ rowOf long (part input p end) ++ drop 19 (take (length out - w) (drop w out))) where
-    row-19 : length (rowOf long (part input p end)) ≡ 19
-    row-19 = rowOf-length long (part input p end)
+      (row : List ℕ) (put : row ≡ answerRow (answerOf (s .long) (part input p end)) ++ drop 19 (take (length out - w) (drop w out))) where
+    row-19 : length (answerRow (answerOf (s .long) (part input p end))) ≡ 19
+    row-19 = answer-length (answerOf (s .long) (part input p end))
 
     row-fits : 19 ≤ length row
-    row-fits = omega (arith, ap length put, length-append (rowOf long (part input p end)) (drop 19 (take (length out - w) (drop w out))), row-19)
+    row-fits = omega (arith, ap length put, length-append (answerRow (answerOf (s .long) (part input p end))) (drop 19 (take (length out - w) (drop w out))), row-19)
 
-    pub line-put : take (w + 19) (putMid w (length out - w) out row) ≡ take w out ++ rowOf long (part input p end)
+    pub line-put : take (w + 19) (putMid w (length out - w) out row) ≡ take w out ++ answerRow (answerOf (s .long) (part input p end))
     line-put =
         front out row w 19 fits row-fits
-        ∙ ap (λ (x : List ℕ). take w out ++ x) (ap (take 19) put ∙ take-at (rowOf long (part input p end)) _ 19 row-19)
+        ∙ ap (λ (x : List ℕ). take w out ++ x) (ap (take 19) put ∙ take-at (answerRow (answerOf (s .long) (part input p end))) _ 19 row-19)
 
     pub line-kept : drop (w + 19) (putMid w (length out - w) out row) ≡ drop (w + 19) first
-    line-kept = rest-kept out row w 19 fits row-fits first kept (ap (drop 19) put ∙ drop-at (rowOf long (part input p end)) _ 19 row-19)
+    line-kept = rest-kept out row w 19 fits row-fits first kept (ap (drop 19) put ∙ drop-at (answerRow (answerOf (s .long) (part input p end))) _ 19 row-19)
 
-    pub line-on : on input (length first) (end + 1) (feedState (take (w + 19) (putMid w (length out - w) out row)) false) ≡ feed input (length first) start
-    line-on =
+    pub line-on : (next : State) → next ≡ counted s (answerOf (s .long) (part input p end))
+        → on input (length first) (end + 1) (feedState (take (w + 19) (putMid w (length out - w) out row)) next) ≡ feed input (length first) begun
+    line-on next c =
         let q : end + 1 ≡ p + (lineLength (drop p input) + 1) = omega (arith, e) in
-        ap₂ (λ (x : ℕ) (y : List ℕ). on input (length first) x (feedState y false)) q (line-put ∙ ap (λ (x : ℕ). take w out ++ rowOf long (part input p x)) e)
-        ∙ sym (line-taken input (length first) p (take w out) long h (λ x. n (e ∙ x)) (omega (arith, length-take-le w out fits)))
+        ap₂ (λ (x : ℕ) (y : FeedState). on input (length first) x y) q
+        (ap₂ feedState line-put c ∙ ap (λ (x : ℕ). feedState (take w out ++ answerRow (answerOf (s .long) (part input p x))) (counted s (answerOf (s .long) (part input p x)))) e)
+        ∙ sym (line-taken input (length first) p (take w out) s h (λ x. n (e ∙ x)) (omega (arith, length-take-le w out fits)))
         ∙ whole
 
--- a row at the front of an output
-pub row-put : (b r out o : List ℕ) → b ≡ r → length r ≡ 19 → o ≡ take (length b) b ++ drop (length b) out → o ≡ r ++ drop 19 out
-row-put b r out o e l p =
-    p ∙ ap (λ (x : List ℕ). take (length x) x ++ drop (length x) out) e ∙ ap₂ _++_ (take-all (length r) r (le-of-eq refl)) (ap (λ (n : ℕ). drop n out) l)
+-- bytes at the front of an output
+pub bytes-put : (n : ℕ) (b r out o : List ℕ) → b ≡ r → length r ≡ n → o ≡ take (length b) b ++ drop (length b) out → o ≡ r ++ drop n out
+bytes-put n b r out o e l p =
+    p ∙ ap (λ (x : List ℕ). take (length x) x ++ drop (length x) out) e ∙ ap₂ _++_ (take-all (length r) r (le-of-eq refl)) (ap (λ (m : ℕ). drop m out) l)
 
-pub row-front : (f r out o : List ℕ) → f ≡ r → length r ≡ 19 → o ≡ r ++ drop 19 out → (19 ≡ length f) × (o ≡ inFront f out)
-row-front f r out o e l p = (sym (ap length e ∙ l), p ∙ ap₂ (λ (x : List ℕ) (n : ℕ). x ++ drop n out) (sym e) (sym (ap length e ∙ l)))
+pub bytes-front : (n : ℕ) (f r out o : List ℕ) → f ≡ r → length r ≡ n → o ≡ r ++ drop n out → (n ≡ length f) × (o ≡ inFront f out)
+bytes-front n f r out o e l p = (sym (ap length e ∙ l), p ∙ ap₂ (λ (x : List ℕ) (m : ℕ). x ++ drop m out) (sym e) (sym (ap length e ∙ l)))
+
+-- bytes at the front, and others behind them
+pub bytes-behind : (n m : ℕ) (r t first out part : List ℕ) → length r ≡ n → length t ≡ m → n + m ≤ length first
+    → out ≡ r ++ drop n first → part ≡ t ++ drop m (take (length out - n) (drop n out)) → putMid n (length out - n) out part ≡ inFront (r ++ t) first
+bytes-behind n m r t first out part l k h e p =
+    let inside : n ≤ length out = omega (arith, ap length e, length-append r (drop n first)) in
+    let fits : m ≤ length part = omega (arith, ap length p, length-append t (drop m (take (length out - n) (drop n out)))) in
+    let put : take (n + m) (putMid n (length out - n) out part) ≡ r ++ t =
+    front out part n m inside fits
+    ∙ ap₂ _++_ (ap (take n) e ∙ take-at r (drop n first) n l) (ap (take m) p ∙ take-at t (drop m (take (length out - n) (drop n out))) m k) in
+    let kept : drop (n + m) (putMid n (length out - n) out part) ≡ drop (n + m) first =
+    rest-kept out part n m inside fits first (ap (drop n) e ∙ drop-at r (drop n first) n l)
+    (ap (drop m) p ∙ drop-at t (drop m (take (length out - n) (drop n out))) m k) in
+    let size : n + m ≤ length (putMid n (length out - n) out part) =
+    omega (arith, ap length put, length-append r t, length-take (n + m) (putMid n (length out - n) out part)) in
+    as-written (putMid n (length out - n) out part) first (r ++ t) (n + m) size kept (sym put)
 
 -- ---- The end of the input
 
-module _ (long : Bool) (left : List ℕ) (room : ℕ) where
-  pub finish-full : room < 19 → finish long left room ≡ []
+pub last-length : (s : State) (line : List ℕ) → length (lastOf s line) ≡ 34
+unfolding lastOf
+last-length s line =
+    let a = answerOf (s .long) line in
+    omega (arith, length-append (answerRow a) (totals (counted s a)), answer-length a, totals-length (counted s a .read) (counted s a .refused))
+
+-- the row, and the totals behind it
+pub last-put : (s all : State) (line first out part : List ℕ) → 34 ≤ length first → all ≡ counted s (answerOf (s .long) line)
+    → out ≡ answerRow (answerOf (s .long) line) ++ drop 19 first → part ≡ totals all ++ drop 15 (take (length out - 19) (drop 19 out))
+    → putMid 19 (length out - 19) out part ≡ inFront (lastOf s line) first
+unfolding lastOf
+last-put s all line first out part h n e p =
+    let a = answerOf (s .long) line in
+    let behind = p ∙ ap (λ (x : State). totals x ++ drop 15 (take (length out - 19) (drop 19 out))) n in
+    bytes-behind 19 15 (answerRow a) (totals (counted s a)) first out part (answer-length a) (totals-length (counted s a .read) (counted s a .refused)) h e behind
+
+module _ (s : State) (left : List ℕ) (room : ℕ) where
+  pub finish-full : room < 34 → finish s left room ≡ []
   unfolding finish if_then_else_
-  finish-full h = rw (lt-ltb room 19 h)
+  finish-full h = rw (lt-ltb room 34 h)
 
-  module _ (h : 19 ≤ room) where
-    pub finish-long : long ≡ true → finish long left room ≡ rowOf long left
+  module _ (h : 34 ≤ room) where
+    pub finish-long : s .long ≡ true → finish s left room ≡ lastOf s left
     unfolding finish if_then_else_
-    finish-long e = rw (le-ltb room 19 h, e)
+    finish-long e = rw (le-ltb room 34 h, e)
 
-    pub finish-empty : long ≡ false → length left ≡ 0 → finish long left room ≡ []
+    pub finish-empty : s .long ≡ false → length left ≡ 0 → finish s left room ≡ totals s
     unfolding finish if_then_else_
-    finish-empty e l = rw (le-ltb room 19 h, e, eq-eqb (length left) 0 l)
+    finish-empty e l = rw (le-ltb room 34 h, e, eq-eqb (length left) 0 l)
 
-    pub finish-row : long ≡ false → (length left ≡ 0 → ⊥) → finish long left room ≡ rowOf long left
+    pub finish-row : s .long ≡ false → (length left ≡ 0 → ⊥) → finish s left room ≡ lastOf s left
     unfolding finish if_then_else_
-    finish-row e l = rw (le-ltb room 19 h, e, ne-eqb (length left) 0 l)
+    finish-row e l = rw (le-ltb room 34 h, e, ne-eqb (length left) 0 l)
+
+    -- with the row of a last line
+    pub last-finished : (first out : List ℕ) (r : ℕ) → length first ≡ room → finish s left room ≡ lastOf s left → r ≡ 34 → out ≡ inFront (lastOf s left) first
+        → (r ≡ length (finish s left room)) × ((out ≡ inFront (finish s left room) first) × (r ≤ length first))
+    last-finished first out r l e n o =
+        (n ∙ sym (ap length e ∙ last-length s left), (o ∙ ap (λ (f : List ℕ). inFront f first) (sym e), omega (arith, n, l)))

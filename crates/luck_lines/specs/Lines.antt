@@ -1,11 +1,15 @@
--- The listing of an input: a row for each line (document 01, the program `bodies`).
+-- The listing of an input: a row for each line (document 01, the program `bodies`), and behind the last one the totals
+-- (document 02, F-9).
 -- Assumes nothing.
-use Prim.Native.Nat.{ℕ}
+use Prim.Native.Nat.{ℕ, _+_}
+use mathlib.Core.Bool.{Bool, true, false, not, _&&_, _||_}
 use mathlib.Core.List.{List, [], _∷_, _++_}
+use lib.ListN.{length}
 use lib.Dec.{eqb}
 use Rattle.luck_text.specs.Bytes.{if_then_else_}
+use Rattle.luck_answer.specs.Answer.{Answer}
 use Rattle.luck_line.specs.Line.{lineAnswer}
-use Rattle.luck_line.specs.Row.{newline, answerRow}
+use Rattle.luck_line.specs.Row.{newline, answerRow, totalsRow}
 
 -- what is left of an input when it ends: a last line that lacks its newline, or nothing
 unfoldable pub lastLine : List ℕ → List (List ℕ)
@@ -23,10 +27,40 @@ linesFrom line (b ∷ input) =
 unfoldable pub lines : List ℕ → List (List ℕ)
 lines input = linesFrom [] input
 
-unfoldable pub rows : List (List ℕ) → List ℕ
+unfoldable pub answers : List (List ℕ) → List Answer
+answers [] = []
+answers (line ∷ more) = lineAnswer line ∷ answers more
+
+unfoldable pub rows : List Answer → List ℕ
 rows [] = []
-rows (line ∷ more) = answerRow (lineAnswer line) ++ rows more
+rows (a ∷ more) = answerRow a ++ rows more
+
+-- a line is refused where its number is not 0: 25, 30 and 31 too (document 03)
+abbrev pub isRefused : Answer → Bool
+isRefused a = not (eqb (a .number) 0)
+
+-- how many are refused
+unfoldable pub refusals : List Answer → ℕ
+refusals [] = 0
+refusals (a ∷ more) = (if isRefused a then 1 else 0) + refusals more
 
 -- what the program writes
 unfoldable pub listing : List ℕ → List ℕ
-listing input = rows (lines input)
+listing input = let all = answers (lines input) in rows all ++ totalsRow (length all) (refusals all)
+
+-- ---- A listing that is cut off is told from a whole one
+
+unfoldable pub isEmpty : List ℕ → Bool
+isEmpty [] = true
+isEmpty (b ∷ text) = false
+
+-- a text ends in a line of 14 columns, with its newline; `columns` are there of its first line already
+unfoldable pub endsInTotals : ℕ → List ℕ → Bool
+endsInTotals columns [] = false
+endsInTotals columns (b ∷ text) =
+    let next = isEmpty text && eqb columns 14 || endsInTotals 0 text in
+    let on = endsInTotals (columns + 1) text in
+    if eqb b newline then next else on
+
+unfoldable pub isWhole : List ℕ → Bool
+isWhole text = endsInTotals 0 text

@@ -6,14 +6,14 @@ use Rattle.bodies.proofs.list_some.Statement.{statement}
 use Rattle.bodies.proofs.list_some.Tie as tie
 
 returns : tie.Need-returns
-returns c = let a = c .before .before .before .before .before .before .before .before .before .before .before .before .before .args in (search needs, λ m. rows-on (a .input .now) (a .held .at) (a .held .end) (length (a .output .now)) (a .held .long) (c .before .before .before .before .before .before .before .feed .result) (c .before .before .before .before .before .before .before .feed .ensures .0))
+returns c = let a = c .before .before .before .before .before .before .before .before .before .before .before .before .before .before .args in (search needs, λ m. rows-on (a .input .now) (a .held .at) (a .held .end) (length (a .output .now)) (a .held .state) (c .before .before .before .before .before .before .before .before .feed .result) (c .before .before .before .before .before .before .before .before .feed .ensures .0))
 
 read-more-requires : tie.Need-read-more-requires
-read-more-requires c κs = let a = c .before .before .before .before .before .before .before .before .before .before .before .before .args in
-    (may-read (a .input .now) (a .held .at) (a .held .end) (length (a .output .now)) (a .held .long) (c .before .before .before .before .before .before .feed .result) (c .before .before .before .before .before .before .feed .ensures .0) (c .before .before .if1 .left) (search needs) (search needs), search needs)
+read-more-requires c κs = let a = c .before .before .before .before .before .before .before .before .before .before .before .before .before .args in
+    (may-read (a .input .now) (a .held .at) (a .held .end) (length (a .output .now)) (a .held .state) (c .before .before .before .before .before .before .before .feed .result) (c .before .before .before .before .before .before .before .feed .ensures .0) (c .before .before .if1 .left) (search needs) (search needs), search needs)
 
 returns-2 : tie.Need-returns-2
-returns-2 c = let a = c .before .before .before .before .before .before .before .before .before .before .before .before .before .before .before .before .before .args in (search needs, read-after (a .input .now) (a .held .at) (a .held .end) (length (a .output .now)) (a .held .long) (c .before .before .before .before .before .before .before .before .before .before .before .feed .result) (c .before .before .before .before .before .before .before .before .before .before .before .feed .ensures .0) (c .before .before .before .before .read-more .result) _ (c .before .before .before .before .read-more .ensures .1))
+returns-2 c = let a = c .before .before .before .before .before .before .before .before .before .before .before .before .before .before .before .before .before .before .args in (search needs, read-after (a .input .now) (a .held .at) (a .held .end) (length (a .output .now)) (a .held .state) (c .before .before .before .before .before .before .before .before .before .before .before .before .feed .result) (c .before .before .before .before .before .before .before .before .before .before .before .before .feed .ensures .0) (c .before .before .before .before .read-more .result) _ (c .before .before .before .before .read-more .ensures .1))
 
 pub list-some-spec : {M : Type 1} → statement M
 list-some-spec =

@@ -9,7 +9,7 @@ use Rattle.bodies.proofs.read_more.Statement.{statement}
 use Rattle.bodies.proofs.read_more.Tie as tie
 
 returns : tie.Need-returns
-returns c = let a = c .before .before .before .before .before .before .before .before .before .before .before .before .before .before .args in (search needs, stopped (part (a .input .now) (a .at) (a .end)) _ (a .long) (c .stop .result) (c .stop .ensures .1))
+returns c = let a = c .before .before .before .before .before .before .before .before .before .before .before .before .before .before .args in (search needs, stopped (part (a .input .now) (a .at) (a .end)) _ (a .state) (c .stop .result) (c .stop .ensures .1))
 
 finish-requires : tie.Need-finish-requires
 finish-requires c κs = let a = c .before .before .before .before .before .before .before .before .before .before .before .before .before .before .before .args in
@@ -18,7 +18,7 @@ finish-requires c κs = let a = c .before .before .before .before .before .befor
     (subst (λ x. lineLength x ≡ length x) (sym (kept-in-front (a .input .now) (kept .last .0) (read .last .1 .0) (part (a .input .now) (a .at) (a .end)) (kept .result) (kept .ensures .0) (kept .ensures .1 .0) (kept .ensures .1 .1))) (c .before .before .before .before .before .before .before .before .before .before .before .before .before .before .before .pre .0 .0), search needs)
 
 returns-2 : tie.Need-returns-2
-returns-2 c = let a = c .before .before .before .before .before .before .before .before .before .before .before .before .before .before .before .before .before .before .before .args in (search needs, stopped (part (a .input .now) (a .at) (a .end)) _ (a .long) (c .stop2 .result) (c .stop2 .ensures .1))
+returns-2 c = let a = c .before .before .before .before .before .before .before .before .before .before .before .before .before .before .before .before .before .before .before .args in (search needs, stopped (part (a .input .now) (a .at) (a .end)) _ (a .state) (c .stop2 .result) (c .stop2 .ensures .1))
 
 returns-3 : tie.Need-returns-3
 returns-3 c = let a = c .before .before .before .before .before .before .before .before .before .before .before .before .before .before .before .args in

@@ -11,27 +11,27 @@ use Rattle.luck_lines.proofs.stream.feed.Statement.{statement}
 use Rattle.luck_lines.proofs.stream.feed.Tie as tie
 
 abbrev Inv-loop : tie.InvT-loop
-Inv-loop input output₀ long used₀ wrote₀ is-long₀ output used wrote is-long =
+Inv-loop input output₀ used₀ wrote₀ state output used wrote so-far =
     (used ≤ length input) × (wrote ≤ length output) × (length output ≡ length output₀) × (drop wrote output ≡ drop wrote output₀)
-    × (streams.on input (length output₀) used (feedState (take wrote output) is-long) ≡ feed input (length output₀) long)
+    × (streams.on input (length output₀) used (feedState (take wrote output) so-far) ≡ feed input (length output₀) state)
 
 abbrev μ-loop : tie.MeasureT-loop
-μ-loop input output₀ long used₀ wrote₀ is-long₀ output used wrote is-long = length input - used
+μ-loop input output₀ used₀ wrote₀ state output used wrote so-far = length input - used
 
 loop-holds : tie.Need-loop-holds Inv-loop μ-loop
-loop-holds c = (omega arith, omega arith, refl, refl, streams.starts (c .before .before .args .input .now) (length (c .before .before .args .output .now)) (c .before .before .args .long))
+loop-holds c = (omega arith, omega arith, refl, refl, streams.starts (c .before .before .args .input .now) (length (c .before .before .args .output .now)) (c .before .before .args .state))
 
 returns : tie.Need-returns Inv-loop μ-loop
 returns c = let a = c .before .before .before .before .before .before .before .args in
     let l = c .before .before .before .before .loop in
-    streams.nothing-ends (a .input .now) (a .output .now) (l .output) (l .used) (l .wrote) (a .long) (l .is-long) (l .inv .0) (l .inv .1) (l .inv .2) (l .inv .3) (l .inv .4) _ (c .unended .ensures)
-    (streams.no-newline (a .input .now) (length (a .output .now)) (l .used) (feedState (take (l .wrote) (l .output)) (l .is-long)) (c .before .before .before .loop-test .taken) (sym (c .before .before .line-end .ensures) ∙ c .before .if1 .taken))
+    streams.nothing-ends (a .input .now) (a .output .now) (l .output) (l .used) (l .wrote) (a .state) (l .so-far) (l .inv .0) (l .inv .1) (l .inv .2) (l .inv .3) (l .inv .4) _ (c .unended .ensures)
+    (streams.no-newline (a .input .now) (length (a .output .now)) (l .used) (feedState (take (l .wrote) (l .output)) (l .so-far)) (c .before .before .before .loop-test .taken) (sym (c .before .before .line-end .ensures) ∙ c .before .if1 .taken))
 
 returns-2 : tie.Need-returns-2 Inv-loop μ-loop
 returns-2 c = let a = c .before .before .before .before .before .before .before .args in
     let l = c .before .before .before .before .loop in
-    streams.is-full (a .input .now) (a .output .now) (l .output) (l .used) (l .wrote) (a .long) (l .is-long) (l .inv .0) (l .inv .1) (l .inv .2) (l .inv .3) (l .inv .4)
-    (streams.no-room (a .input .now) (length (a .output .now)) (l .used) (take (l .wrote) (l .output)) (l .is-long) (c .before .before .before .loop-test .taken) (λ e. c .before .if1 .left (c .before .before .line-end .ensures ∙ e)) (omega (arith, c .if2 .taken, length-take-le (l .wrote) (l .output) (l .inv .1), l .inv .2)))
+    streams.is-full (a .input .now) (a .output .now) (l .output) (l .used) (l .wrote) (a .state) (l .so-far) (l .inv .0) (l .inv .1) (l .inv .2) (l .inv .3) (l .inv .4)
+    (streams.no-room (a .input .now) (length (a .output .now)) (l .used) (take (l .wrote) (l .output)) (l .so-far) (c .before .before .before .loop-test .taken) (λ e. c .before .if1 .left (c .before .before .line-end .ensures ∙ e)) (omega (arith, c .if2 .taken, length-take-le (l .wrote) (l .output) (l .inv .1), l .inv .2)))
 
 part-put-row-end : tie.Need-part-put-row-end Inv-loop μ-loop
 part-put-row-end c = omega (arith, c .before .before .line-end .ensures, streams.line-inside (c .before .before .before .before .before .before .before .args .input .now) (c .before .before .before .before .loop .used) (c .before .before .before .before .loop .inv .0))
@@ -44,16 +44,16 @@ loop-again c = let a = c .before .before .before .before .before .before .before
     let l = c .before .before .before .before .before .before .before .before .before .loop in
     let end = c .before .before .before .before .before .before .before .line-end in
     let put = c .before .before .put-row in
-    let turn-on = streams.line-on (a .input .now) (a .output .now) (l .output) (l .used) (l .wrote) (a .long) (l .is-long) (l .inv .0) (l .inv .1) (l .inv .2) (l .inv .3) (l .inv .4) (end .result) (end .ensures) (c .before .before .before .before .before .before .before .before .loop-test .taken) (c .before .before .before .before .before .before .if1 .left) (omega (arith, c .before .before .before .before .before .if2 .left)) (put .last .1 .1 .0) (put .ensures) in
-    let turn-kept = streams.line-kept (a .input .now) (a .output .now) (l .output) (l .used) (l .wrote) (a .long) (l .is-long) (l .inv .0) (l .inv .1) (l .inv .2) (l .inv .3) (l .inv .4) (end .result) (end .ensures) (c .before .before .before .before .before .before .before .before .loop-test .taken) (c .before .before .before .before .before .before .if1 .left) (omega (arith, c .before .before .before .before .before .if2 .left)) (put .last .1 .1 .0) (put .ensures) in
+    let turn-on = streams.line-on (a .input .now) (a .output .now) (l .output) (l .used) (l .wrote) (a .state) (l .so-far) (l .inv .0) (l .inv .1) (l .inv .2) (l .inv .3) (l .inv .4) (end .result) (end .ensures) (c .before .before .before .before .before .before .before .before .loop-test .taken) (c .before .before .before .before .before .before .if1 .left) (omega (arith, c .before .before .before .before .before .if2 .left)) (put .last .1 .0) (put .ensures .1) (put .result) (put .ensures .0) in
+    let turn-kept = streams.line-kept (a .input .now) (a .output .now) (l .output) (l .used) (l .wrote) (a .state) (l .so-far) (l .inv .0) (l .inv .1) (l .inv .2) (l .inv .3) (l .inv .4) (end .result) (end .ensures) (c .before .before .before .before .before .before .before .before .loop-test .taken) (c .before .before .before .before .before .before .if1 .left) (omega (arith, c .before .before .before .before .before .if2 .left)) (put .last .1 .0) (put .ensures .1) in
     let inside = streams.line-inside (a .input .now) (l .used) (l .inv .0) in
     (omega (arith, inside, end .ensures, c .before .before .before .before .before .before .if1 .left), search needs, search needs, turn-kept, turn-on)
 
 returns-3 : tie.Need-returns-3 Inv-loop μ-loop
 returns-3 c = let a = c .before .before .before .before .before .args in
     let l = c .before .before .loop in
-    streams.nothing-ends (a .input .now) (a .output .now) (l .output) (l .used) (l .wrote) (a .long) (l .is-long) (l .inv .0) (l .inv .1) (l .inv .2) (l .inv .3) (l .inv .4) _ (c .unended2 .ensures)
-    (streams.at-end (a .input .now) (length (a .output .now)) (l .used) (feedState (take (l .wrote) (l .output)) (l .is-long)) (c .before .loop-test .left))
+    streams.nothing-ends (a .input .now) (a .output .now) (l .output) (l .used) (l .wrote) (a .state) (l .so-far) (l .inv .0) (l .inv .1) (l .inv .2) (l .inv .3) (l .inv .4) _ (c .unended2 .ensures)
+    (streams.at-end (a .input .now) (length (a .output .now)) (l .used) (feedState (take (l .wrote) (l .output)) (l .so-far)) (c .before .loop-test .left))
 
 pub feed-spec : {M : Type 1} → statement M
 feed-spec =

@@ -1,4 +1,5 @@
 -- `luck_lines::stream::unended` meets its contract. Assumes nothing.
+use mathlib.Core.Path.{_∙_}
 use Prim.Native.Nat.{_-_}
 use Rattle.luck_text.specs.Bytes.{if_then_else_}
 use borrow.Author.Tests.{lt-ltb, le-ltb}
@@ -8,15 +9,19 @@ use Rattle.luck_lines.proofs.stream.unended.Tie as tie
 
 returns : tie.Need-returns
 unfolding if_then_else_
-returns c = rw (c .if1 .taken)
+returns c = c .passed .ensures ∙ rw (c .before .if1 .taken)
 
 returns-2 : tie.Need-returns-2
 unfolding if_then_else_
-returns-2 c = let a = c .before .before .args in rw (c .before .if1 .left, lt-ltb 4005 (a .length - a .used) (c .if2 .taken))
+returns-2 c =
+    let a = c .before .before .before .args in
+    c .passed2 .ensures ∙ rw (c .before .before .if1 .left, lt-ltb 4005 (a .length - a .used) (c .before .if2 .taken))
 
 returns-3 : tie.Need-returns-3
 unfolding if_then_else_
 returns-3 c = let a = c .before .before .args in rw (c .before .if1 .left, le-ltb 4005 (a .length - a .used) (c .if2 .left))
 
 pub unended-spec : {M : Type 1} → statement M
-unended-spec = tie.close (tie.spec returns (λ c. search needs) returns-2 returns-3)
+unended-spec =
+    tie.close
+    (tie.spec (λ c κs. search needs) returns (λ c. search needs) (λ c κs. search needs) returns-2 returns-3)
