@@ -39,7 +39,8 @@ unfolding computed
 none-and-empty = (refl, refl)
 
 -- one line, with its newline and without
-pub with-and-without : (listing (line (ascii "F1   %d") []) ≡ line (ascii "   0      0      1") (line (ascii "      1      0") []))
+pub with-and-without : (listing (line (ascii "F1   %d") [])
+    ≡ line (ascii "   0      0      1") (line (ascii "      1      0") []))
     × (listing (ascii "F1   %d") ≡ line (ascii "   0      0      1") (line (ascii "      1      0") []))
 unfolding computed
 with-and-without = (refl, refl)
@@ -53,7 +54,8 @@ bad-lines = refl
 
 -- 9999999 stands for that many or more, in each total by itself
 pub largest-totals : (totalsRow 9999998 9999999 ≡ line (ascii "99999989999999") [])
-    × (totalsRow 10000000 9999998 ≡ line (ascii "99999999999998") []) × (totalsRow 10000001 0 ≡ line (ascii "9999999      0") [])
+    × (totalsRow 10000000 9999998 ≡ line (ascii "99999999999998") [])
+    × (totalsRow 10000001 0 ≡ line (ascii "9999999      0") [])
     × (totalsRow 1234567 89 ≡ line (ascii "1234567     89") [])
 unfolding computed
 largest-totals = (refl, refl, refl, refl)
@@ -62,7 +64,8 @@ largest-totals = (refl, refl, refl, refl)
 pub whole-listings : (isWhole (listing (ascii "F")) ≡ true)
     × (isWhole (line (ascii "  30      0      0") []) ≡ false)
     × (isWhole (line (ascii "  30      0      0") (ascii "      1      1")) ≡ false)
-    × (isWhole (ascii "  30      0   ") ≡ false) × (isWhole (line (ascii "      0      0") []) ≡ true) × (isWhole [] ≡ false)
+    × (isWhole (ascii "  30      0   ") ≡ false)
+    × (isWhole (line (ascii "      0      0") []) ≡ true) × (isWhole [] ≡ false)
 unfolding computed
 whole-listings = (refl, refl, refl, refl, refl, refl)
 
