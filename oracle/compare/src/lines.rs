@@ -1,7 +1,8 @@
-//! What is right of the program `bodies`: document 01's rules of a line, and luck's answer for the body.
+//! What is right of the program `bodies`: document 01's rules of a line, luck's answer for the body, and the totals of F-9.
 
 pub mod comparison;
 mod heads;
+mod long;
 mod program;
 pub mod texts;
 
@@ -29,6 +30,31 @@ impl fmt::Display for Row {
     }
 }
 
+/// What the program writes after the last row: how many lines there were, and how many of them it refused.
+#[derive(Debug, Clone, Copy, Default, PartialEq, Eq)]
+pub struct Totals {
+    pub read: u64,
+    pub refused: u64,
+}
+
+impl Totals {
+    /// Stands for all that is more, too: seven columns hold no larger number.
+    const MOST: u64 = 9_999_999;
+
+    const fn add(&mut self, row: &Row) {
+        self.read += 1;
+        if row.number != 0 {
+            self.refused += 1;
+        }
+    }
+}
+
+impl fmt::Display for Totals {
+    fn fmt(&self, f: &mut fmt::Formatter<'_>) -> fmt::Result {
+        write!(f, "{:>7}{:>7}", self.read.min(Self::MOST), self.refused.min(Self::MOST))
+    }
+}
+
 /// The lines of an input, without their newlines. After the last newline no line follows but one that has bytes.
 pub fn lines(input: &[u8]) -> impl Iterator<Item = &[u8]> {
     input.split_inclusive(|&byte| byte == b'\n').map(|line| line.strip_suffix(b"\n").unwrap_or(line))
@@ -36,7 +62,19 @@ pub fn lines(input: &[u8]) -> impl Iterator<Item = &[u8]> {
 
 /// All that the program writes.
 pub fn output(input: &[u8]) -> Vec<u8> {
-    lines(input).map(|line| format!("{}\n", row(line))).collect::<String>().into_bytes()
+    let (rows, totals) = rows(input);
+    [rows, format!("{totals}\n")].concat().into_bytes()
+}
+
+/// The rows of an input's lines, and their totals.
+fn rows(input: &[u8]) -> (String, Totals) {
+    let mut totals = Totals::default();
+    let rows = lines(input).map(|line| {
+        let row = row(line);
+        totals.add(&row);
+        format!("{row}\n")
+    });
+    (rows.collect(), totals)
 }
 
 /// The refusals in their order: 31, 30, 25, then those of the body, 23 first.

@@ -1,13 +1,15 @@
 //! Gives the program `bodies` inputs of lines, cut into pieces, and compares every byte that it writes with the reference.
 
 use std::fmt;
-use std::io;
+use std::io::{self, Read};
 use std::path::Path;
 use std::time::Instant;
 
 use crate::comparison::report::Shown;
+use crate::lines::long::{self, LongInput};
+use crate::lines::program::{self, Run};
 use crate::lines::texts::{self, Lines};
-use crate::lines::{self, LONGEST, heads, program};
+use crate::lines::{self, LONGEST, heads};
 use crate::store::lines as stored;
 use crate::texts::random::Random;
 
@@ -37,6 +39,8 @@ impl<'program> LineComparison<'program> {
         comparison.endings()?;
         comparison.single_bytes(seed)?;
         comparison.cuts()?;
+        comparison.short_totals()?;
+        comparison.long_totals()?;
         Ok(comparison)
     }
 
@@ -137,6 +141,35 @@ impl<'program> LineComparison<'program> {
         })
     }
 
+    /// Of few lines none, all and each number between are refused, at any places, and all of them with the same number.
+    fn short_totals(&mut self) -> io::Result<()> {
+        const MOST: usize = 11;
+        const ACCEPTED: &[u8] = b"F1   %d\n";
+        self.section("totals of short inputs", |comparison| {
+            let too_long = line_of(LONGEST + 1, b"\n");
+            let each_refused: [&[u8]; 6] = [b"F7   \n", b"\n", &too_long, b"F1   \xFF\n", b"P1   (\n", b"G4 1 %2\n"];
+            for line in each_refused {
+                for read in 0..=MOST {
+                    for refused in 0..=read {
+                        let mut lines = vec![ACCEPTED; read - refused];
+                        (0..refused).for_each(|_| lines.insert(comparison.random.below(lines.len() + 1), line));
+                        comparison.in_pieces(&lines.concat())?;
+                    }
+                }
+            }
+            Ok(())
+        })
+    }
+
+    fn long_totals(&mut self) -> io::Result<()> {
+        self.section("totals of each length", |comparison| {
+            long::numbers().iter().try_for_each(|input| comparison.compare_long(input))
+        })?;
+        self.section("totals about the largest", |comparison| {
+            long::largest().iter().try_for_each(|input| comparison.compare_long(input))
+        })
+    }
+
     fn in_one(&mut self, input: &[u8]) -> io::Result<()> {
         self.compare(input, &[input])
     }
@@ -161,19 +194,64 @@ impl<'program> LineComparison<'program> {
 
     fn compare(&mut self, input: &[u8], pieces: &[&[u8]]) -> io::Result<()> {
         let wanted = lines::output(input);
-        let run = program::run(self.program, pieces, wanted.len() + EXCESS)?;
+        let most = wanted.len() + EXCESS;
+        let mut found = Vec::new();
+        let run = program::run(self.program, pieces.iter().copied(), |stdout| {
+            stdout.take(most as u64).read_to_end(&mut found).map(|length| length < most)
+        })?;
         self.inputs += 1;
-        self.rows(input, &wanted, &run.output);
-        if !run.has_read_all {
-            self.differ(|| format!("{} pieces, {}: the input was not read to its end", pieces.len(), Shown(input)));
-        }
-        if !run.status.success() {
-            self.differ(|| format!("{} pieces, {}: ended with {}", pieces.len(), Shown(input), run.status));
-        }
+        self.rows(input, &wanted, &found);
+        self.ending(run, || format!("{} pieces, {}", pieces.len(), Shown(input)));
         Ok(())
     }
 
-    /// The rows one by one: where one is missing, all after it stand in a wrong place.
+    fn compare_long(&mut self, input: &LongInput) -> io::Result<()> {
+        let (by_hand, reference) = (input.by_hand(), input.totals().to_string());
+        if by_hand != reference {
+            self.differ(|| format!("{input}: the totals by hand `{by_hand}`, the reference `{reference}`"));
+        }
+        let run = program::run(self.program, input.pieces(), |stdout| self.read_long(input, stdout))?;
+        self.inputs += 1;
+        self.lines += input.totals().read;
+        self.ending(run, || input.to_string());
+        Ok(())
+    }
+
+    /// Compares the rows block by block, and then the totals, up to the first difference. Whether the output came to its end.
+    fn read_long(&mut self, input: &LongInput, stdout: &mut impl Read) -> io::Result<bool> {
+        let mut found = Vec::new();
+        let mut before = 0;
+        for wanted in input.rows() {
+            found.clear();
+            stdout.take(wanted.len() as u64).read_to_end(&mut found)?;
+            if found != wanted {
+                self.differ(|| format!("{input}: {}", wrong_row(wanted, &found, before)));
+                return Ok(found.len() < wanted.len());
+            }
+            before += wanted.split_inclusive(|&byte| byte == b'\n').count();
+        }
+        let wanted = format!("{}\n", input.by_hand()).into_bytes();
+        let most = wanted.len() + EXCESS;
+        found.clear();
+        stdout.take(most as u64).read_to_end(&mut found)?;
+        if found != wanted {
+            self.differ(|| format!("{input}: the totals: {}", wanted_and_found(Some(&wanted), Some(&found))));
+        }
+        Ok(found.len() < most)
+    }
+
+    /// Where the program was stopped, a difference is known already.
+    fn ending(&mut self, run: Option<Run>, input: impl Fn() -> String) {
+        let Some(Run { status, has_read_all }) = run else { return };
+        if !has_read_all {
+            self.differ(|| format!("{}: the input was not read to its end", input()));
+        }
+        if !status.success() {
+            self.differ(|| format!("{}: ended with {status}", input()));
+        }
+    }
+
+    /// The rows one by one, and then the totals: where one is missing, all after it stand in a wrong place.
     fn rows(&mut self, input: &[u8], wanted: &[u8], found: &[u8]) {
         self.lines += lines::lines(input).count() as u64;
         if wanted == found {
@@ -187,11 +265,12 @@ impl<'program> LineComparison<'program> {
                 (None, None) => return,
                 (wanted, found) if wanted == found => {}
                 (wanted, found) => self.differ(|| {
-                    let line =
-                        line.map_or("after the last line".to_owned(), |(line, number)| format!("line {number} {}", Shown(line)));
-                    let [wanted, found] =
-                        [wanted, found].map(|row| row.map_or("nothing".to_owned(), |row| Shown(row).to_string()));
-                    format!("{line}: wanted {wanted}, found {found}")
+                    let place = match line {
+                        Some((line, number)) => format!("line {number} {}", Shown(line)),
+                        None if wanted.is_some() => format!("the totals of {}", Shown(input)),
+                        None => format!("after the totals of {}", Shown(input)),
+                    };
+                    format!("{place}: {}", wanted_and_found(wanted, found))
                 }),
             }
         }
@@ -225,6 +304,20 @@ impl fmt::Display for LineComparison<'_> {
         }
         write!(f, "{} lines compared in {} inputs, {} differences", self.lines, self.inputs, self.differing)
     }
+}
+
+/// The first row that differs in a block, after so many other rows.
+fn wrong_row(wanted: &[u8], found: &[u8], before: usize) -> String {
+    let [wanted, mut found] = [wanted, found].map(|rows| rows.split_inclusive(|&byte| byte == b'\n'));
+    let mut rows = wanted.map(|wanted| (wanted, found.next())).zip(before + 1..);
+    let wrong = rows.find(|&((wanted, found), _)| found != Some(wanted));
+    let ((wanted, found), number) = wrong.expect("the blocks differ, and the one found is not the longer one");
+    format!("line {number}: {}", wanted_and_found(Some(wanted), found))
+}
+
+fn wanted_and_found(wanted: Option<&[u8]>, found: Option<&[u8]>) -> String {
+    let [wanted, found] = [wanted, found].map(|row| row.map_or("nothing".to_owned(), |row| Shown(row).to_string()));
+    format!("wanted {wanted}, found {found}")
 }
 
 /// A format of so many bytes, and what is to stand after it.

@@ -1,49 +1,46 @@
 //! Runs a program on an input that is cut into pieces.
 
-use std::io::{self, Read, Write};
+use std::io::{self, Write};
 use std::os::fd::AsRawFd;
 use std::path::Path;
-use std::process::{Child, ChildStdin, Command, ExitStatus, Stdio};
+use std::process::{ChildStdin, ChildStdout, Command, ExitStatus, Stdio};
 use std::sync::atomic::{AtomicBool, Ordering};
 use std::thread;
 
-/// What a run left.
+/// How a run ended.
 pub struct Run {
-    pub output: Vec<u8>,
     pub status: ExitStatus,
     /// Whether it read the whole input.
     pub has_read_all: bool,
 }
 
-/// Writes the pieces to the program's standard input, each as soon as the one before was read, and reads at most `most` bytes of
-/// its output; a program that writes so many is stopped.
-pub fn run(program: &Path, pieces: &[&[u8]], most: usize) -> io::Result<Run> {
+/// Writes the pieces to the program's standard input, each as soon as the one before was read. `read` takes its output and answers
+/// whether that came to its end; if not, the program is stopped, and there is nothing to say of how it ended.
+pub fn run<'pieces>(
+    program: &Path,
+    pieces: impl Iterator<Item = &'pieces [u8]> + Send,
+    read: impl FnOnce(&mut ChildStdout) -> io::Result<bool>,
+) -> io::Result<Option<Run>> {
     let mut child = Command::new(program).stdin(Stdio::piped()).stdout(Stdio::piped()).spawn()?;
     let stdin = child.stdin.take().expect("standard input is piped");
+    let mut stdout = child.stdout.take().expect("standard output is piped");
     let has_ended = AtomicBool::new(false);
     thread::scope(|scope| {
         let writer = scope.spawn(|| write(stdin, pieces, &has_ended));
-        let output = read(&mut child, most);
+        let is_whole = read(&mut stdout);
+        let stopped = if matches!(is_whole, Ok(true)) { Ok(()) } else { child.kill() };
         let status = child.wait();
         has_ended.store(true, Ordering::Relaxed);
         let has_read_all = writer.join().expect("the writer does not panic");
-        Ok(Run { output: output?, status: status?, has_read_all })
+        stopped?;
+        let run = Run { status: status?, has_read_all };
+        Ok(is_whole?.then_some(run))
     })
 }
 
-fn read(child: &mut Child, most: usize) -> io::Result<Vec<u8>> {
-    let mut output = Vec::new();
-    let stdout = child.stdout.take().expect("standard output is piped");
-    let read = stdout.take(most as u64).read_to_end(&mut output);
-    if read.is_err() || output.len() == most {
-        child.kill()?;
-    }
-    read.map(|_| output)
-}
-
 /// Whether the program read every piece. Writing fails where it has ended before.
-fn write(mut stdin: ChildStdin, pieces: &[&[u8]], has_ended: &AtomicBool) -> bool {
-    pieces.iter().all(|piece| stdin.write_all(piece).is_ok() && is_read(&stdin, has_ended))
+fn write<'pieces>(mut stdin: ChildStdin, mut pieces: impl Iterator<Item = &'pieces [u8]>, has_ended: &AtomicBool) -> bool {
+    pieces.all(|piece| stdin.write_all(piece).is_ok() && is_read(&stdin, has_ended))
 }
 
 /// Waits until nothing is left in the pipe, so that the next piece is not read together with this one.

@@ -1,7 +1,7 @@
-//! The stored lines of the program `bodies`, and the rows that it must write for them.
+//! The stored lines of the program `bodies`, and the rows and totals that it must write for them.
 //!
-//! The rows are the reference's, and the library is not asked. Those of the lines picked by hand are written by hand too, from
-//! documents 01 and 03: a reference that is wrong is noticed there.
+//! They are the reference's, and the library is not asked. The rows of the lines picked by hand are written by hand too, from
+//! documents 01 and 03, and so are the totals: a reference that is wrong is noticed there.
 
 use std::fs;
 use std::io;
@@ -20,9 +20,9 @@ const SEED: u64 = 3;
 /// Of each kind in each version.
 const RANDOM_LINES: usize = 10;
 
-/// Document 01's example, whole.
+/// Document 01's example, whole, with the totals of F-9.
 const EXAMPLE_INPUT: &[u8] = b"F1   %d%s\nG4 1 %2\nP1   [^]\n";
-const EXAMPLE_OUTPUT: &[u8] = b"   0      0      2\n  21      1      0\n   9      0      0\n";
+const EXAMPLE_OUTPUT: &[u8] = b"   0      0      2\n  21      1      0\n   9      0      0\n      3      2\n";
 const EXAMPLE: [ByHand<'_>; 3] = [(b"F1   %d%s", 0, 0, 2), (b"G4 1 %2", 21, 1, 0), (b"P1   [^]", 9, 0, 0)];
 
 /// A line, and the number, the offset and the count of its row.
@@ -199,6 +199,9 @@ const LONG: [LongByHand; 18] = [
     (b"D2   ", b'a', b"%Q", 8200, (31, 0, 0)),
 ];
 
+/// The stored lines, and those of them that are refused, counted in the file.
+const TOTALS: &str = "    514    302";
+
 /// Writes both files and answers how many lines and bytes they have.
 pub fn write(folder: &Path, input: &[u8]) -> io::Result<(usize, usize)> {
     let output = lines::output(input);
@@ -239,12 +242,14 @@ fn long_line(&(head, filler, end, length, (number, offset, count)): &LongByHand)
     Stored::by_hand(&(&line, number, offset, count))
 }
 
-/// All lines, the last without its newline, where the reference finds just these lines in them and has the rows written by hand.
+/// All lines, the last without its newline, where the reference finds just these lines in them and has the rows and the totals
+/// written by hand.
 fn checked(stored: &[Stored]) -> Result<Vec<u8>, String> {
     let all: Vec<&[u8]> = stored.iter().map(|stored| stored.line.as_slice()).collect();
     let input = all.join(&b'\n');
     let output = String::from_utf8(lines::output(&input)).expect("rows are digits and blanks");
-    let rows: Vec<&str> = output.lines().collect();
+    let mut rows: Vec<&str> = output.lines().collect();
+    let totals = rows.pop().unwrap_or_default();
     if rows.len() != stored.len() {
         return Err(format!("{} lines are stored, and the reference finds {}", stored.len(), rows.len()));
     }
@@ -254,6 +259,9 @@ fn checked(stored: &[Stored]) -> Result<Vec<u8>, String> {
         {
             return Err(format!("{}: by hand `{row}`, the reference `{found}`", Shown(line)));
         }
+    }
+    if totals != TOTALS {
+        return Err(format!("the totals: by hand `{TOTALS}`, the reference `{totals}`"));
     }
     Ok(input)
 }
