@@ -1,6 +1,7 @@
 //! What is right of the program `bodies`: document 01's rules of a line, luck's answer for the body, and the totals of F-9.
 
 pub mod comparison;
+mod failures;
 mod heads;
 mod long;
 mod program;

@@ -9,7 +9,7 @@ use crate::comparison::report::Shown;
 use crate::lines::long::{self, LongInput};
 use crate::lines::program::{self, Run};
 use crate::lines::texts::{self, Lines};
-use crate::lines::{self, LONGEST, heads};
+use crate::lines::{self, LONGEST, failures, heads};
 use crate::store::lines as stored;
 use crate::texts::random::Random;
 
@@ -41,6 +41,7 @@ impl<'program> LineComparison<'program> {
         comparison.cuts()?;
         comparison.short_totals()?;
         comparison.long_totals()?;
+        comparison.failures()?;
         Ok(comparison)
     }
 
@@ -167,6 +168,18 @@ impl<'program> LineComparison<'program> {
         })?;
         self.section("totals about the largest", |comparison| {
             long::largest().iter().try_for_each(|input| comparison.compare_long(input))
+        })
+    }
+
+    fn failures(&mut self) -> io::Result<()> {
+        self.section("reads and writes that fail", |comparison| {
+            for failure in failures::all() {
+                comparison.inputs += 1;
+                if let Some(difference) = failure.difference(comparison.program)? {
+                    comparison.differ(|| format!("{failure}: {difference}"));
+                }
+            }
+            Ok(())
         })
     }
 
