@@ -44,7 +44,7 @@ pub fn run(plan: &Plan, tables: &mut Tables, program: &Path, folder: &Path) -> R
     Ok(())
 }
 
-/// Every byte of the program's output.
+/// Every byte of the program's output, its totals too.
 fn compare(reading: &Reading, text: &[u8]) -> Result<(), String> {
     let output = reading.command()?.stderr(Stdio::inherit()).output().map_err(|error| reading.failed(&error))?;
     let mut wanted = Vec::new();
@@ -52,7 +52,7 @@ fn compare(reading: &Reading, text: &[u8]) -> Result<(), String> {
     if output.status.success() && output.stdout == wanted {
         Ok(())
     } else {
-        Err(format!("bodies, {} bytes: the rows differ from luck's", text.len()))
+        Err(format!("bodies, {} bytes: the rows or the totals differ from luck's", text.len()))
     }
 }
 

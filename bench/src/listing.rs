@@ -1,4 +1,4 @@
-//! What the program `bodies` does, written in Rust over luck: lines that are in memory already, and rows into a buffer.
+//! What the program `bodies` does, written in Rust over luck: lines that are in memory already, and rows and totals into a buffer.
 
 use std::io::BufRead;
 use std::str;
@@ -11,6 +11,10 @@ const LONGEST: usize = 4005;
 const MOST_CAPTURES: usize = 32;
 /// The columns of number, offset and count, and the newline.
 const ROW: usize = 19;
+/// The columns of the lines read and of those refused, and the newline.
+const TOTALS: usize = 15;
+/// Stands for all that is more, too.
+const MOST_COUNTED: usize = 9_999_999;
 const BUFFER: usize = 1 << 16;
 
 struct Row {
@@ -19,17 +23,26 @@ struct Row {
     count: usize,
 }
 
-/// Hands on the rows of the input's lines, each time that the buffer is full, and at the end.
+/// Hands on the rows of the input's lines and their totals, each time that the buffer is full, and at the end.
 pub fn list(mut input: &[u8], mut write: impl FnMut(&[u8])) {
     let mut rows = Vec::with_capacity(BUFFER);
+    let (mut read, mut refused) = (0, 0);
     while !input.is_empty() {
         let line = next_line(&mut input);
         if rows.len() + ROW > BUFFER {
             write(&rows);
             rows.clear();
         }
-        push(&mut rows, &row(line));
+        let row = row(line);
+        read += 1;
+        refused += usize::from(row.number != 0);
+        push(&mut rows, &row);
     }
+    if rows.len() + TOTALS > BUFFER {
+        write(&rows);
+        rows.clear();
+    }
+    push_totals(&mut rows, read, refused);
     write(&rows);
 }
 
@@ -82,6 +95,14 @@ fn push(rows: &mut Vec<u8>, row: &Row) {
     rows.extend_from_slice(&columns);
 }
 
+fn push_totals(rows: &mut Vec<u8>, read: usize, refused: usize) {
+    let mut columns = [b' '; TOTALS];
+    justify(&mut columns[..7], read.min(MOST_COUNTED));
+    justify(&mut columns[7..14], refused.min(MOST_COUNTED));
+    columns[14] = b'\n';
+    rows.extend_from_slice(&columns);
+}
+
 /// The digits of a number that is not too long for its columns, at their end.
 fn justify(columns: &mut [u8], mut number: usize) {
     for column in columns.iter_mut().rev() {
@@ -90,5 +111,40 @@ fn justify(columns: &mut [u8], mut number: usize) {
         if number == 0 {
             return;
         }
+    }
+}
+
+#[cfg(test)]
+mod tests {
+    use super::*;
+
+    fn listed(input: &[u8]) -> Vec<u8> {
+        let mut all = Vec::new();
+        list(input, |rows| all.extend_from_slice(rows));
+        all
+    }
+
+    #[test]
+    fn a_listing_ends_with_its_totals() {
+        assert_eq!(listed(b""), b"      0      0\n");
+        assert_eq!(
+            listed(b"F1   %d%s\nG4 1 %2\nP1   [^]\n"),
+            b"   0      0      2\n  21      1      0\n   9      0      0\n      3      2\n"
+        );
+    }
+
+    /// So many rows fit into the buffer, and no totals after them.
+    #[test]
+    fn totals_come_after_a_full_buffer() {
+        let lines = BUFFER / ROW;
+        assert!(lines * ROW + TOTALS > BUFFER);
+        assert!(listed(&vec![b'\n'; lines]).ends_with(b"  30      0      0\n   3449   3449\n"));
+    }
+
+    #[test]
+    fn the_largest_number_stands_for_more() {
+        let mut rows = Vec::new();
+        push_totals(&mut rows, 10_000_000, 9_999_998);
+        assert_eq!(rows, b"99999999999998\n");
     }
 }
