@@ -92,9 +92,9 @@ module _ (input rest : List ℕ) (room : ℕ) where
       let line : m ≡ p + m - p = omega arith in
       let on-at : p + suc m ≡ p + (m + 1) = omega arith in
       ap (λ (x : List ℕ). written ++ x) (after-line s (drop p input) rest shorter)
-      ∙ sym (append-assoc written (answerRow a) (listingAfter (counted s a) (drop (suc m) (drop p input) ++ rest)))
-      ∙ ap (λ (x : List ℕ). (written ++ answerRow a) ++ listingAfter (counted s a) (x ++ rest)) (drop-drop (suc m) p input ∙ ap (λ (k : ℕ). drop k input) on-at)
-      ∙ ap (λ (x : ℕ). due (written ++ answerRow (answerOf (s .long) (take x (drop p input)))) (counted s (answerOf (s .long) (take x (drop p input)))) (p + (m + 1))) line
+      ∙ sym (append-assoc written (answerRow a) (listingAfter (counted s (a .number)) (drop (suc m) (drop p input) ++ rest)))
+      ∙ ap (λ (x : List ℕ). (written ++ answerRow a) ++ listingAfter (counted s (a .number)) (x ++ rest)) (drop-drop (suc m) p input ∙ ap (λ (k : ℕ). drop k input) on-at)
+      ∙ ap (λ (x : ℕ). due (written ++ answerRow (answerOf (s .long) (take x (drop p input)))) (counted s (answerOf (s .long) (take x (drop p input)) .number)) (p + (m + 1))) line
 
   pub cut : (s : State) → listingAfter s (input ++ rest) ≡ feed input room s .written ++ listingAfter (feed input room s .state) (drop (feed input room s .used) input ++ rest)
   cut s = every-call input room Leads ends-there (λ p written s r. refl) (λ p written s h n t r e. line-due p written s h n ∙ e) s

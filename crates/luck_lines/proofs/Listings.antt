@@ -140,12 +140,12 @@ refused-more true total n = omega arith
 refused-more false total n = omega arith
 
 totals-more : (s : State) (a : Answer) (n m : ℕ)
-    → totalsRow (s .read + suc n) (s .refused + ((if isRefused a then 1 else 0) + m)) ≡ totalsRow (counted s a .read + n) (counted s a .refused + m)
+    → totalsRow (s .read + suc n) (s .refused + ((if isRefused (a .number) then 1 else 0) + m)) ≡ totalsRow (counted s (a .number) .read + n) (counted s (a .number) .refused + m)
 unfolding totalsRow counted
-totals-more s a n m = rw (shown-more (s .read) n, refused-more (isRefused a) (s .refused) m)
+totals-more s a n m = rw (shown-more (s .read) n, refused-more (isRefused (a .number)) (s .refused) m)
 
 listed-more : (s : State) (a : Answer) (all : List Answer)
-    → listed (s .read) (s .refused) (a ∷ all) ≡ answerRow a ++ listed (counted s a .read) (counted s a .refused) all
+    → listed (s .read) (s .refused) (a ∷ all) ≡ answerRow a ++ listed (counted s (a .number) .read) (counted s (a .number) .refused) all
 unfolding rows refusals
 listed-more s a all =
     append-assoc (answerRow a) (rows all) _
@@ -161,7 +161,7 @@ module _ (s : State) (xs rest : List ℕ) where
   pub after-line : lineLength xs < length xs
       → listingAfter s (xs ++ rest)
       ≡ answerRow (answerOf (s .long) (take (lineLength xs) xs))
-      ++ listingAfter (counted s (answerOf (s .long) (take (lineLength xs) xs))) (drop (suc (lineLength xs)) xs ++ rest)
+      ++ listingAfter (counted s (answerOf (s .long) (take (lineLength xs) xs) .number)) (drop (suc (lineLength xs)) xs ++ rest)
   unfolding listingAfter counted passed
   after-line h = ap (listed (s .read) (s .refused)) (first-answer (s .long) xs rest h) ∙ listed-more s (answerOf (s .long) (take (lineLength xs) xs)) _
 
@@ -183,7 +183,7 @@ module _ (s : State) (xs : List ℕ) where
       let a = answerOf (s .long) xs in
       sym
       (ap (listed (s .read) (s .refused)) (last-answer (s .long) xs e h) ∙ listed-more s a []
-      ∙ ap (λ (x : List ℕ). answerRow a ++ x) (listed-none (counted s a .read) (counted s a .refused)))
+      ∙ ap (λ (x : List ℕ). answerRow a ++ x) (listed-none (counted s (a .number) .read) (counted s (a .number) .refused)))
 
   pub last-none : s .long ≡ false → length xs ≡ 0 → totals s ≡ listingAfter s xs
   unfolding listingAfter

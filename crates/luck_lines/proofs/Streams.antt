@@ -113,7 +113,7 @@ module _ (input : List ℕ) (room : ℕ) where
     answer = answerOf (s .long) (part input p (p + lineLength (drop p input)))
 
     abbrev pub after : FeedState
-    after = feedState (written ++ answerRow answer) (counted s answer)
+    after = feedState (written ++ answerRow answer) (counted s (answer .number))
 
     turn-line : 19 ≤ room - length written → feedTurn input room p (feedState written s) ≡ goes (lineLength (drop p input) + 1) after
     unfolding feedTurn lineTurn if_then_else_
@@ -210,12 +210,13 @@ module _ (input first out : List ℕ) (p w : ℕ) (begun s : State)
     pub line-kept : drop (w + 19) (putMid w (length out - w) out row) ≡ drop (w + 19) first
     line-kept = rest-kept out row w 19 fits row-fits first kept (ap (drop 19) put ∙ drop-at (answerRow (answerOf (s .long) (part input p end))) _ 19 row-19)
 
-    pub line-on : (next : State) → next ≡ counted s (answerOf (s .long) (part input p end))
+    pub line-on : (number : ℕ) (next : State) → number ≡ answerOf (s .long) (part input p end) .number → next ≡ counted s number
         → on input (length first) (end + 1) (feedState (take (w + 19) (putMid w (length out - w) out row)) next) ≡ feed input (length first) begun
-    line-on next c =
+    line-on number next m c =
         let q : end + 1 ≡ p + (lineLength (drop p input) + 1) = omega (arith, e) in
         ap₂ (λ (x : ℕ) (y : FeedState). on input (length first) x y) q
-        (ap₂ feedState line-put c ∙ ap (λ (x : ℕ). feedState (take w out ++ answerRow (answerOf (s .long) (part input p x))) (counted s (answerOf (s .long) (part input p x)))) e)
+        (ap₂ feedState line-put (c ∙ ap (counted s) m)
+        ∙ ap (λ (x : ℕ). feedState (take w out ++ answerRow (answerOf (s .long) (part input p x))) (counted s (answerOf (s .long) (part input p x) .number))) e)
         ∙ sym (line-taken input (length first) p (take w out) s h (λ x. n (e ∙ x)) (omega (arith, length-take-le w out fits)))
         ∙ whole
 
@@ -249,17 +250,17 @@ pub last-length : (s : State) (line : List ℕ) → length (lastOf s line) ≡ 3
 unfolding lastOf
 last-length s line =
     let a = answerOf (s .long) line in
-    omega (arith, length-append (answerRow a) (totals (counted s a)), answer-length a, totals-length (counted s a .read) (counted s a .refused))
+    omega (arith, length-append (answerRow a) (totals (counted s (a .number))), answer-length a, totals-length (counted s (a .number) .read) (counted s (a .number) .refused))
 
 -- the row, and the totals behind it
-pub last-put : (s all : State) (line first out part : List ℕ) → 34 ≤ length first → all ≡ counted s (answerOf (s .long) line)
+pub last-put : (s all : State) (number : ℕ) (line first out part : List ℕ) → 34 ≤ length first → number ≡ answerOf (s .long) line .number → all ≡ counted s number
     → out ≡ answerRow (answerOf (s .long) line) ++ drop 19 first → part ≡ totals all ++ drop 15 (take (length out - 19) (drop 19 out))
     → putMid 19 (length out - 19) out part ≡ inFront (lastOf s line) first
 unfolding lastOf
-last-put s all line first out part h n e p =
+last-put s all number line first out part h m n e p =
     let a = answerOf (s .long) line in
-    let behind = p ∙ ap (λ (x : State). totals x ++ drop 15 (take (length out - 19) (drop 19 out))) n in
-    bytes-behind 19 15 (answerRow a) (totals (counted s a)) first out part (answer-length a) (totals-length (counted s a .read) (counted s a .refused)) h e behind
+    let behind = p ∙ ap (λ (x : State). totals x ++ drop 15 (take (length out - 19) (drop 19 out))) (n ∙ ap (counted s) m) in
+    bytes-behind 19 15 (answerRow a) (totals (counted s (a .number))) first out part (answer-length a) (totals-length (counted s (a .number) .read) (counted s (a .number) .refused)) h e behind
 
 module _ (s : State) (left : List ℕ) (room : ℕ) where
   pub finish-full : room < 34 → finish s left room ≡ []

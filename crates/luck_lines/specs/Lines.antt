@@ -36,13 +36,13 @@ rows [] = []
 rows (a ∷ more) = answerRow a ++ rows more
 
 -- a line is refused where its number is not 0: 25, 30 and 31 too (document 03)
-abbrev pub isRefused : Answer → Bool
-isRefused a = not (eqb (a .number) 0)
+abbrev pub isRefused : ℕ → Bool
+isRefused number = not (eqb number 0)
 
 -- how many are refused
 unfoldable pub refusals : List Answer → ℕ
 refusals [] = 0
-refusals (a ∷ more) = (if isRefused a then 1 else 0) + refusals more
+refusals (a ∷ more) = (if isRefused (a .number) then 1 else 0) + refusals more
 
 -- what the program writes
 unfoldable pub listing : List ℕ → List ℕ

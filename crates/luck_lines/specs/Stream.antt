@@ -41,12 +41,12 @@ unfoldable pub answerOf : Bool → List ℕ → Answer
 answerOf true line = refused 31 0
 answerOf false line = lineAnswer line
 
--- after a line with this answer; no number grows beyond what is shown
-unfoldable pub counted : State → Answer → State
-counted s a = record {
+-- after a line whose answer has this number; no total grows beyond what is shown
+unfoldable pub counted : State → ℕ → State
+counted s number = record {
   long = false;
   read = min (s .read + 1) mostShown;
-  refused = if isRefused a then min (s .refused + 1) mostShown else s .refused;
+  refused = if isRefused number then min (s .refused + 1) mostShown else s .refused;
 }
 
 abbrev pub totals : State → List ℕ
@@ -82,7 +82,7 @@ module _ (input : List ℕ) (room : ℕ) where
   lineTurn p s n =
       let a = answerOf (s .state .long) (part input p (p + n)) in
       if ltb (room - length (s .written)) rowLength then stop (taken p (s .written) (s .state))
-      else goes (n + 1) (feedState (s .written ++ answerRow a) (counted (s .state) a))
+      else goes (n + 1) (feedState (s .written ++ answerRow a) (counted (s .state) (a .number)))
 
   unfoldable pub feedTurn : ℕ → FeedState → Turn FeedState Taken
   feedTurn p s =
@@ -95,7 +95,7 @@ module _ (input : List ℕ) (room : ℕ) where
 
 -- the row of a last line, and the totals
 unfoldable pub lastOf : State → List ℕ → List ℕ
-lastOf s line = let a = answerOf (s .long) line in answerRow a ++ totals (counted s a)
+lastOf s line = let a = answerOf (s .long) line in answerRow a ++ totals (counted s (a .number))
 
 -- the end of the input: what is left, with no newline in it, is a last line that lacks its newline, if there is
 -- anything; nothing is written if there is no room for a row and the totals

@@ -78,12 +78,12 @@ fn one_more(total: u32) -> u32
     MOST_SHOWN
 }
 
-// After a line with this answer.
-fn counted(state: State, answer: Answer) -> State
-    ensures { λ r. ⌜ r ≡ counted state (checkAnswer answer) ⌝ }
+// After a line whose answer has this number.
+fn counted(state: State, number: u32) -> State
+    ensures { λ r. ⌜ r ≡ counted state number ⌝ }
 {
     let read = one_more(state.read);
-    if answer.number == 0 {
+    if number == 0 {
         return State {
             long: false,
             read,
@@ -97,16 +97,16 @@ fn counted(state: State, answer: Answer) -> State
     }
 }
 
-// Writes the row of a line to the front of the output.
-fn put_row(line: &[u8], output: &mut [u8], state: State) -> State
+// Writes the row of a line to the front of the output, and answers its number.
+fn put_row(line: &[u8], output: &mut [u8], long: bool) -> u32
     requires { ⌜ rowLength ≤ length (now output) ⌝ }
-    ensures state { λ r. ⌜ r ≡ counted state (answerOf (state .long) (now (line .entry))) ⌝ }
-    ensures output { λ r. ⌜ now (output .exit) ≡ answerRow (answerOf (state .long) (now (line .entry))) ++ drop rowLength (now (output .entry)) ⌝ }
+    ensures number { λ r. ⌜ r ≡ answerOf long (now (line .entry)) .number ⌝ }
+    ensures output { λ r. ⌜ now (output .exit) ≡ answerRow (answerOf long (now (line .entry))) ++ drop rowLength (now (output .entry)) ⌝ }
 {
-    let answer = answer_of(line, state.long);
+    let answer = answer_of(line, long);
     let bytes = row::of_answer(answer);
     bytes::copy(&bytes, output);
-    counted(state, answer)
+    answer.number
 }
 
 // Takes whole lines from the front of the input, while the output has room for a row, and passes over a line that is too long already.
@@ -130,7 +130,8 @@ pub fn feed(input: &[u8], output: &mut [u8], state: State) -> Fed
                 state: so_far,
             };
         }
-        so_far = put_row(&input[used..end], &mut output[wrote..], so_far);
+        let number = put_row(&input[used..end], &mut output[wrote..], so_far.long);
+        so_far = counted(so_far, number);
         used = end + 1;
         wrote += ROW;
     }
@@ -180,8 +181,8 @@ fn put_last(left: &[u8], output: &mut [u8], state: State) -> usize
     ensures wrote { λ r. ⌜ r ≡ rowLength + totalsLength ⌝ }
     ensures output { λ r. ⌜ now (output .exit) ≡ inFront (lastOf state (now (left .entry))) (now (output .entry)) ⌝ }
 {
-    let all = put_row(left, output, state);
-    put_totals(&mut output[ROW..], all);
+    let number = put_row(left, output, state.long);
+    put_totals(&mut output[ROW..], counted(state, number));
     ROW + TOTALS
 }
 

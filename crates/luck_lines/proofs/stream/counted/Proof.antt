@@ -8,15 +8,15 @@ use Rattle.luck_lines.proofs.stream.counted.Tie as tie
 
 returns : tie.Need-returns
 unfolding counted if_then_else_
-returns c = rw (c .before .before .one-more .ensures, eq-eqb (c .before .before .before .args .answer .number) 0 (c .if1 .taken))
+returns c = rw (c .before .one-more .ensures, eq-eqb (c .before .before .args .number) 0 (c .if1 .taken))
 
 returns-2 : tie.Need-returns-2
 unfolding counted if_then_else_
 returns-2 c =
     rw (
-      c .before .before .before .one-more .ensures,
+      c .before .before .one-more .ensures,
       c .one-more2 .ensures,
-      ne-eqb (c .before .before .before .before .args .answer .number) 0 (c .before .if1 .left),
+      ne-eqb (c .before .before .before .args .number) 0 (c .before .if1 .left),
     )
 
 pub counted-spec : {M : Type 1} → statement M

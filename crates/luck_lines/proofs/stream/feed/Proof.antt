@@ -37,17 +37,17 @@ part-put-row-end : tie.Need-part-put-row-end Inv-loop μ-loop
 part-put-row-end c = omega (arith, c .before .before .line-end .ensures, streams.line-inside (c .before .before .before .before .before .before .before .args .input .now) (c .before .before .before .before .loop .used) (c .before .before .before .before .loop .inv .0))
 
 add-used : tie.Need-add-used Inv-loop μ-loop
-add-used c = omega (arith, c .before .before .before .before .before .before .before .line-end .ensures, streams.line-inside (c .before .before .before .before .before .before .before .before .before .before .before .before .args .input .now) (c .before .before .before .before .before .before .before .before .before .loop .used) (c .before .before .before .before .before .before .before .before .before .loop .inv .0))
+add-used c = omega (arith, c .before .before .before .before .before .before .before .before .line-end .ensures, streams.line-inside (c .before .before .before .before .before .before .before .before .before .before .before .before .before .args .input .now) (c .before .before .before .before .before .before .before .before .before .before .loop .used) (c .before .before .before .before .before .before .before .before .before .before .loop .inv .0))
 
 loop-again : tie.Need-loop-again Inv-loop μ-loop
-loop-again c = let a = c .before .before .before .before .before .before .before .before .before .before .before .before .args in
-    let l = c .before .before .before .before .before .before .before .before .before .loop in
-    let end = c .before .before .before .before .before .before .before .line-end in
-    let put = c .before .before .put-row in
-    let turn-on = streams.line-on (a .input .now) (a .output .now) (l .output) (l .used) (l .wrote) (a .state) (l .so-far) (l .inv .0) (l .inv .1) (l .inv .2) (l .inv .3) (l .inv .4) (end .result) (end .ensures) (c .before .before .before .before .before .before .before .before .loop-test .taken) (c .before .before .before .before .before .before .if1 .left) (omega (arith, c .before .before .before .before .before .if2 .left)) (put .last .1 .0) (put .ensures .1) (put .result) (put .ensures .0) in
-    let turn-kept = streams.line-kept (a .input .now) (a .output .now) (l .output) (l .used) (l .wrote) (a .state) (l .so-far) (l .inv .0) (l .inv .1) (l .inv .2) (l .inv .3) (l .inv .4) (end .result) (end .ensures) (c .before .before .before .before .before .before .before .before .loop-test .taken) (c .before .before .before .before .before .before .if1 .left) (omega (arith, c .before .before .before .before .before .if2 .left)) (put .last .1 .0) (put .ensures .1) in
+loop-again c = let a = c .before .before .before .before .before .before .before .before .before .before .before .before .before .args in
+    let l = c .before .before .before .before .before .before .before .before .before .before .loop in
+    let end = c .before .before .before .before .before .before .before .before .line-end in
+    let put = c .before .before .before .put-row in
+    let turn-on = streams.line-on (a .input .now) (a .output .now) (l .output) (l .used) (l .wrote) (a .state) (l .so-far) (l .inv .0) (l .inv .1) (l .inv .2) (l .inv .3) (l .inv .4) (end .result) (end .ensures) (c .before .before .before .before .before .before .before .before .before .loop-test .taken) (c .before .before .before .before .before .before .before .if1 .left) (omega (arith, c .before .before .before .before .before .before .if2 .left)) (put .last .1 .0) (put .ensures .1) (put .result) (c .counted .result) (put .ensures .0) (c .counted .ensures) in
+    let turn-kept = streams.line-kept (a .input .now) (a .output .now) (l .output) (l .used) (l .wrote) (a .state) (l .so-far) (l .inv .0) (l .inv .1) (l .inv .2) (l .inv .3) (l .inv .4) (end .result) (end .ensures) (c .before .before .before .before .before .before .before .before .before .loop-test .taken) (c .before .before .before .before .before .before .before .if1 .left) (omega (arith, c .before .before .before .before .before .before .if2 .left)) (put .last .1 .0) (put .ensures .1) in
     let inside = streams.line-inside (a .input .now) (l .used) (l .inv .0) in
-    (omega (arith, inside, end .ensures, c .before .before .before .before .before .before .if1 .left), search needs, search needs, turn-kept, turn-on)
+    (omega (arith, inside, end .ensures, c .before .before .before .before .before .before .before .if1 .left), search needs, search needs, turn-kept, turn-on)
 
 returns-3 : tie.Need-returns-3 Inv-loop μ-loop
 returns-3 c = let a = c .before .before .before .before .before .args in
@@ -68,7 +68,7 @@ feed-spec =
     returns-2
     (λ c. search needs) (λ c. search needs)
     part-put-row-end
-    (λ c. search needs) (λ c. search needs) (λ c. search needs) (λ c κs. search needs)
+    (λ c. search needs) (λ c. search needs) (λ c. search needs) (λ c κs. search needs) (λ c κs. search needs)
     add-used
     (λ c. search needs) (λ c. search needs)
     loop-again

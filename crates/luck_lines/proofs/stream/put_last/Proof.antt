@@ -7,11 +7,12 @@ use Rattle.luck_lines.proofs.stream.put_last.Tie as tie
 
 returns : tie.Need-returns
 returns c =
-    let a = c .before .before .before .before .before .before .before .before .before .before .args in
-    let put = c .before .before .before .before .before .before .put-row in
+    let a = c .before .before .before .before .before .before .before .before .before .before .before .args in
+    let put = c .before .before .before .before .before .before .before .put-row in
+    let all = c .before .before .before .counted in
     let behind = c .before .before .put-totals in (
       refl,
-      streams.last-put (a .state) (put .result) (a .left .now) (a .output .now) (put .last .1 .0) (behind .last .0) (search needs) (put .ensures .0) (put .ensures .1) (behind .ensures),
+      streams.last-put (a .state) (all .result) (put .result) (a .left .now) (a .output .now) (put .last .1 .0) (behind .last .0) (search needs) (put .ensures .0) (all .ensures) (put .ensures .1) (behind .ensures),
     )
 
 pub put-last-spec : {M : Type 1} → statement M
@@ -19,5 +20,5 @@ put-last-spec =
     tie.close
     (tie.spec
     (λ c κs. search needs) (λ c. search needs) (λ c. search needs) (λ c. search needs) (λ c κs. search needs)
-    (λ c. search needs) (λ c. search needs)
+    (λ c κs. search needs) (λ c. search needs) (λ c. search needs)
     returns)
