@@ -13,7 +13,7 @@ use borrow.Author.Tests.{ltb-true, ltb-false, eqb-true, eqb-false}
 use Rattle.luck_text.proofs.Cases.{by-test, order, same}
 use Rattle.luck_line.specs.Line.{longest}
 use Rattle.luck_line.specs.Row.{answerRow}
-use Rattle.luck_lines.specs.Stream.{lineLength, answerOf, tooLong, counted, Taken, taken, FeedState, feedState, unended, feed, listingAfter}
+use Rattle.luck_lines.specs.Stream.{lineLength, answerAfter, tooLong, counted, Taken, taken, FeedState, feedState, unended, feed, listingAfter}
 use Rattle.luck_lines.specs.declared.stream.State.{State}
 use Rattle.luck_lines.proofs.Listings.{after-line, after-long}
 use Rattle.luck_lines.proofs.Streams.{on, starts, at-end, no-newline, no-room, answer, after, line-taken, line-inside, input-ends, answer-length}
@@ -87,14 +87,14 @@ module _ (input rest : List ℕ) (room : ℕ) where
       → due written s p ≡ due (after input room p written s h n .written) (after input room p written s h n .state) (p + (lineLength (drop p input) + 1))
   line-due p written s h n =
       let m = lineLength (drop p input) in
-      let a = answerOf (s .long) (take m (drop p input)) in
+      let a = answerAfter (s .long) (take m (drop p input)) in
       let shorter : m < length (drop p input) = omega (arith, line-inside input p (omega arith), length-drop p input, n) in
       let line : m ≡ p + m - p = omega arith in
       let on-at : p + suc m ≡ p + (m + 1) = omega arith in
       ap (λ (x : List ℕ). written ++ x) (after-line s (drop p input) rest shorter)
       ∙ sym (append-assoc written (answerRow a) (listingAfter (counted s (a .number)) (drop (suc m) (drop p input) ++ rest)))
       ∙ ap (λ (x : List ℕ). (written ++ answerRow a) ++ listingAfter (counted s (a .number)) (x ++ rest)) (drop-drop (suc m) p input ∙ ap (λ (k : ℕ). drop k input) on-at)
-      ∙ ap (λ (x : ℕ). due (written ++ answerRow (answerOf (s .long) (take x (drop p input)))) (counted s (answerOf (s .long) (take x (drop p input)) .number)) (p + (m + 1))) line
+      ∙ ap (λ (x : ℕ). due (written ++ answerRow (answerAfter (s .long) (take x (drop p input)))) (counted s (answerAfter (s .long) (take x (drop p input)) .number)) (p + (m + 1))) line
 
   pub cut : (s : State) → listingAfter s (input ++ rest) ≡ feed input room s .written ++ listingAfter (feed input room s .state) (drop (feed input room s .used) input ++ rest)
   cut s = every-call input room Leads ends-there (λ p written s r. refl) (λ p written s h n t r e. line-due p written s h n ∙ e) s

@@ -14,7 +14,7 @@ use Rattle.luck_answer.specs.Answer.{Answer}
 use Rattle.luck_line.specs.Row.{column, justified, fourColumns, sevenColumns, listingRow, answerRow, totalsRow}
 use Rattle.luck_line.proofs.Rows.{totals-length}
 use Rattle.luck_lines.proofs.Streams.{answer-length}
-use Rattle.luck_lines.specs.Lines.{answers, lines, rows, refusals, listing, isEmpty, endsInTotals, isWhole}
+use Rattle.luck_lines.specs.Lines.{answers, lines, rows, refusedCount, listing, isEmpty, endsInTotals, isWhole}
 
 -- ---- Rows have no newline but the last byte
 
@@ -44,7 +44,7 @@ something-left : (rest more : List ℕ) (b : ℕ) → rest ≡ b ∷ more → fa
 unfolding isEmpty
 something-left rest more b e = ap isEmpty (sym e)
 
-at-newline : (k b : ℕ) (out : List ℕ) → b ≡ 10 → endsInTotals k (b ∷ out) ≡ (isEmpty out && eqb k 14 || endsInTotals 0 out)
+at-newline : (k b : ℕ) (out : List ℕ) → b ≡ 10 → endsInTotals k (b ∷ out) ≡ ((isEmpty out && eqb k 14) || endsInTotals 0 out)
 unfolding endsInTotals if_then_else_
 at-newline k b out e = rw (eq-eqb b 10 e)
 
@@ -54,7 +54,7 @@ in-line k b out e = rw e
 
 -- What holds from a line's newline on holds from its beginning, with k columns before it.
 module _ (width : ℕ) (more : List ℕ)
-    (after : (out rest : List ℕ) → out ++ rest ≡ more → (isEmpty out && eqb width 14 || endsInTotals 0 out) ≡ isEmpty rest) where
+    (after : (out rest : List ℕ) → out ++ rest ≡ more → ((isEmpty out && eqb width 14) || endsInTotals 0 out) ≡ isEmpty rest) where
   through : (line : List ℕ) (k : ℕ) → NoNewline line → k + length line ≡ width → (out rest : List ℕ) → out ++ rest ≡ line ++ 10 ∷ more
       → endsInTotals k out ≡ isEmpty rest
   unfolding endsInTotals
@@ -64,7 +64,7 @@ module _ (width : ℕ) (more : List ℕ)
       let same : b ≡ 10 = cc in
       let left : out ++ rest ≡ more = cc in
       let columns : k ≡ width = omega arith in
-      at-newline k b out same ∙ ap (λ (x : ℕ). isEmpty out && eqb x 14 || endsInTotals 0 out) columns ∙ after out rest left
+      at-newline k b out same ∙ ap (λ (x : ℕ). (isEmpty out && eqb x 14) || endsInTotals 0 out) columns ∙ after out rest left
   through (x ∷ line) k n w (b ∷ out) rest e =
       let same : b ≡ x = cc in
       let left : out ++ rest ≡ line ++ 10 ∷ more = cc in
@@ -77,11 +77,11 @@ and-false true = refl
 and-false false = refl
 
 -- behind a row
-row-on : (out : List ℕ) (t : Bool) → endsInTotals 0 out ≡ t → (isEmpty out && false || endsInTotals 0 out) ≡ t
+row-on : (out : List ℕ) (t : Bool) → endsInTotals 0 out ≡ t → ((isEmpty out && false) || endsInTotals 0 out) ≡ t
 row-on out t e = ap (λ (x : Bool). x || endsInTotals 0 out) (and-false (isEmpty out)) ∙ e
 
 -- behind the totals nothing is left
-nothing : (out rest : List ℕ) → out ++ rest ≡ [] → (isEmpty out && true || endsInTotals 0 out) ≡ isEmpty rest
+nothing : (out rest : List ℕ) → out ++ rest ≡ [] → ((isEmpty out && true) || endsInTotals 0 out) ≡ isEmpty rest
 unfolding isEmpty
 nothing [] [] e = refl
 nothing [] (b ∷ rest) e = let z : _≡_ {A = ℕ} 0 1 = cc in absurd (omega arith)
@@ -123,7 +123,7 @@ told (a ∷ all) read refused out rest e =
 
 pub whole-or-cut : (input out rest : List ℕ) → out ++ rest ≡ listing input → isWhole out ≡ isEmpty rest
 unfolding listing isWhole
-whole-or-cut input out rest e = told (answers (lines input)) (length (answers (lines input))) (refusals (answers (lines input))) out rest e
+whole-or-cut input out rest e = told (answers (lines input)) (length (answers (lines input))) (refusedCount (answers (lines input))) out rest e
 
 -- bytes that are still to come
 not-all : (rest more : List ℕ) → isEmpty more ≡ false → isEmpty (rest ++ more) ≡ false
@@ -151,4 +151,4 @@ pub listing-bytes : (input : List ℕ) → length (listing input) ≡ 19 * lengt
 unfolding listing
 listing-bytes input =
     let all = answers (lines input) in
-    omega (arith, length-append (rows all) (totalsRow (length all) (refusals all)), rows-length all, answers-length (lines input), totals-length (length all) (refusals all))
+    omega (arith, length-append (rows all) (totalsRow (length all) (refusedCount all)), rows-length all, answers-length (lines input), totals-length (length all) (refusedCount all))

@@ -13,8 +13,8 @@ use Rattle.luck_text.specs.Bytes.{if_then_else_, run}
 use Rattle.luck_answer.specs.Answer.{Answer, refused}
 use Rattle.luck_line.specs.Line.{lineAnswer}
 use Rattle.luck_line.specs.Row.{justified, sevenColumns, answerRow, totalsRow}
-use Rattle.luck_lines.specs.Lines.{lastLine, linesFrom, lines, answers, rows, isRefused, refusals, listing, isEmpty}
-use Rattle.luck_lines.specs.Stream.{lineLength, start, answerOf, tooLong, counted, totals, lastOf, passed, listingAfter}
+use Rattle.luck_lines.specs.Lines.{lastLine, linesFrom, lines, answers, rows, isRefused, refusedCount, listing, isEmpty}
+use Rattle.luck_lines.specs.Stream.{lineLength, start, answerAfter, tooLong, counted, totals, lastOf, passed, listingAfter}
 use Rattle.luck_lines.specs.declared.stream.State.{State}
 use Rattle.luck_line.proofs.Heads.{too-long}
 
@@ -89,8 +89,8 @@ many-alone = omega (arith, length-replicate {A = ℕ} 4006 0)
 
 -- a line that ends in what is there
 first-answer : (long : Bool) (xs rest : List ℕ) → lineLength xs < length xs
-    → answers (linesFrom (passed long) (xs ++ rest)) ≡ answerOf long (take (lineLength xs) xs) ∷ answers (linesFrom [] (drop (suc (lineLength xs)) xs ++ rest))
-unfolding answerOf answers passed
+    → answers (linesFrom (passed long) (xs ++ rest)) ≡ answerAfter long (take (lineLength xs) xs) ∷ answers (linesFrom [] (drop (suc (lineLength xs)) xs ++ rest))
+unfolding answerAfter answers passed
 first-answer false xs rest h = ap answers (lines-newline [] xs rest h)
 first-answer true xs rest h =
     ap answers (lines-newline (passed true) xs rest h)
@@ -107,14 +107,14 @@ long-answers false xs rest e h = ap answers (lines-none (passed false) xs rest e
 long-answers true xs rest e h = ap answers (lines-none (passed true) xs rest e) ∙ answers-long (passed true ++ xs) (passed true) rest (many xs) many-alone
 
 -- the input ends
-due : (long : Bool) (xs : List ℕ) → (long ≡ false → length xs ≡ 0 → ⊥) → answers (linesFrom (passed long ++ xs) []) ≡ answerOf long xs ∷ []
-unfolding linesFrom answerOf answers lastLine passed
+due : (long : Bool) (xs : List ℕ) → (long ≡ false → length xs ≡ 0 → ⊥) → answers (linesFrom (passed long ++ xs) []) ≡ answerAfter long xs ∷ []
+unfolding linesFrom answerAfter answers lastLine passed
 due false [] n = absurd (n refl refl)
 due false (b ∷ xs) n = refl
 due true xs n = last-long (passed true ++ xs) (many xs)
 
 last-answer : (long : Bool) (xs : List ℕ) → lineLength xs ≡ length xs → (long ≡ false → length xs ≡ 0 → ⊥)
-    → answers (linesFrom (passed long) xs) ≡ answerOf long xs ∷ []
+    → answers (linesFrom (passed long) xs) ≡ answerAfter long xs ∷ []
 last-answer long xs e h =
     ap (λ (x : List ℕ). answers (linesFrom (passed long) x)) (sym (append-nil xs)) ∙ ap answers (lines-none (passed long) xs [] e) ∙ due long xs h
 
@@ -132,7 +132,7 @@ shown-more total n = omega arith
 
 -- a rows' listing, behind so many lines
 abbrev listed : ℕ → ℕ → List Answer → List ℕ
-listed read refused all = rows all ++ totalsRow (read + length all) (refused + refusals all)
+listed read refused all = rows all ++ totalsRow (read + length all) (refused + refusedCount all)
 
 refused-more : (t : Bool) (total n : ℕ) → min (total + ((if t then 1 else 0) + n)) 9999999 ≡ min ((if t then min (total + 1) 9999999 else total) + n) 9999999
 unfolding if_then_else_
@@ -146,13 +146,13 @@ totals-more s a n m = rw (shown-more (s .read) n, refused-more (isRefused (a .nu
 
 listed-more : (s : State) (a : Answer) (all : List Answer)
     → listed (s .read) (s .refused) (a ∷ all) ≡ answerRow a ++ listed (counted s (a .number) .read) (counted s (a .number) .refused) all
-unfolding rows refusals
+unfolding rows refusedCount
 listed-more s a all =
     append-assoc (answerRow a) (rows all) _
-    ∙ ap (λ (x : List ℕ). answerRow a ++ (rows all ++ x)) (totals-more s a (length all) (refusals all))
+    ∙ ap (λ (x : List ℕ). answerRow a ++ (rows all ++ x)) (totals-more s a (length all) (refusedCount all))
 
 listed-none : (read refused : ℕ) → listed read refused [] ≡ totalsRow read refused
-unfolding rows refusals
+unfolding rows refusedCount
 listed-none read refused = ap₂ totalsRow (omega arith) (omega arith)
 
 -- ---- The listing after what was passed
@@ -160,10 +160,10 @@ listed-none read refused = ap₂ totalsRow (omega arith) (omega arith)
 module _ (s : State) (xs rest : List ℕ) where
   pub after-line : lineLength xs < length xs
       → listingAfter s (xs ++ rest)
-      ≡ answerRow (answerOf (s .long) (take (lineLength xs) xs))
-      ++ listingAfter (counted s (answerOf (s .long) (take (lineLength xs) xs) .number)) (drop (suc (lineLength xs)) xs ++ rest)
+      ≡ answerRow (answerAfter (s .long) (take (lineLength xs) xs))
+      ++ listingAfter (counted s (answerAfter (s .long) (take (lineLength xs) xs) .number)) (drop (suc (lineLength xs)) xs ++ rest)
   unfolding listingAfter counted passed
-  after-line h = ap (listed (s .read) (s .refused)) (first-answer (s .long) xs rest h) ∙ listed-more s (answerOf (s .long) (take (lineLength xs) xs)) _
+  after-line h = ap (listed (s .read) (s .refused)) (first-answer (s .long) xs rest h) ∙ listed-more s (answerAfter (s .long) (take (lineLength xs) xs)) _
 
   pub after-long : lineLength xs ≡ length xs → (s .long ≡ false → 4005 < length xs) → listingAfter s (xs ++ rest) ≡ listingAfter (tooLong s) rest
   unfolding listingAfter
@@ -180,7 +180,7 @@ module _ (s : State) (xs : List ℕ) where
   pub last-row : lineLength xs ≡ length xs → (s .long ≡ false → length xs ≡ 0 → ⊥) → lastOf s xs ≡ listingAfter s xs
   unfolding listingAfter lastOf
   last-row e h =
-      let a = answerOf (s .long) xs in
+      let a = answerAfter (s .long) xs in
       sym
       (ap (listed (s .read) (s .refused)) (last-answer (s .long) xs e h) ∙ listed-more s a []
       ∙ ap (λ (x : List ℕ). answerRow a ++ x) (listed-none (counted s (a .number) .read) (counted s (a .number) .refused)))

@@ -19,7 +19,7 @@ use Rattle.luck_text.proofs.Cases.{by-test}
 use Rattle.luck_answer.specs.Answer.{Answer, refused}
 use Rattle.luck_line.specs.Line.{longest, lineAnswer}
 use Rattle.luck_line.specs.Row.{answerRow}
-use Rattle.luck_lines.specs.Stream.{lineLength, answerOf, counted, totals, lastOf, Taken, taken, FeedState, feedState, unended, lineTurn, feedTurn, feed, finish, fedOf}
+use Rattle.luck_lines.specs.Stream.{lineLength, answerAfter, counted, totals, lastOf, Taken, taken, FeedState, feedState, unended, lineTurn, feedTurn, feed, finish, fedOf}
 use Rattle.luck_lines.specs.Inner.{unendedAt}
 use Rattle.luck_lines.specs.declared.stream.State.{State}
 use Rattle.luck_lines.specs.declared.stream.Fed.{Fed}
@@ -66,12 +66,12 @@ blocks-passed input p end l h f =
 pub answer-length : (a : Answer) → length (answerRow a) ≡ 19
 answer-length a = row-length (a .number) (a .offset) (a .count)
 
-pub of-long : (long : Bool) (line : List ℕ) → long ≡ true → refused 31 0 ≡ answerOf long line
-unfolding answerOf
+pub of-long : (long : Bool) (line : List ℕ) → long ≡ true → refused 31 0 ≡ answerAfter long line
+unfolding answerAfter
 of-long long line e = rw e
 
-pub of-short : (long : Bool) (line : List ℕ) → long ≡ false → lineAnswer line ≡ answerOf long line
-unfolding answerOf
+pub of-short : (long : Bool) (line : List ℕ) → long ≡ false → lineAnswer line ≡ answerAfter long line
+unfolding answerAfter
 of-short long line e = rw e
 
 fed-if : (b : Bool) (x y : Taken) → (if b then fedOf x else fedOf y) ≡ fedOf (if b then x else y)
@@ -110,7 +110,7 @@ module _ (input : List ℕ) (room : ℕ) where
 
     -- the line's answer, and the state after it is taken
     abbrev pub answer : Answer
-    answer = answerOf (s .long) (part input p (p + lineLength (drop p input)))
+    answer = answerAfter (s .long) (part input p (p + lineLength (drop p input)))
 
     abbrev pub after : FeedState
     after = feedState (written ++ answerRow answer) (counted s (answer .number))
@@ -195,28 +195,28 @@ module _ (input first out : List ℕ) (p w : ℕ) (begun s : State)
       refl inside (omega arith)
 
   module _ (end : ℕ) (e : end ≡ p + lineLength (drop p input)) (h : p < length input) (n : end ≡ length input → ⊥) (r : 19 ≤ length out - w)
-      (row : List ℕ) (put : row ≡ answerRow (answerOf (s .long) (part input p end)) ++ drop 19 (take (length out - w) (drop w out))) where
-    row-19 : length (answerRow (answerOf (s .long) (part input p end))) ≡ 19
-    row-19 = answer-length (answerOf (s .long) (part input p end))
+      (row : List ℕ) (put : row ≡ answerRow (answerAfter (s .long) (part input p end)) ++ drop 19 (take (length out - w) (drop w out))) where
+    row-19 : length (answerRow (answerAfter (s .long) (part input p end))) ≡ 19
+    row-19 = answer-length (answerAfter (s .long) (part input p end))
 
     row-fits : 19 ≤ length row
-    row-fits = omega (arith, ap length put, length-append (answerRow (answerOf (s .long) (part input p end))) (drop 19 (take (length out - w) (drop w out))), row-19)
+    row-fits = omega (arith, ap length put, length-append (answerRow (answerAfter (s .long) (part input p end))) (drop 19 (take (length out - w) (drop w out))), row-19)
 
-    pub line-put : take (w + 19) (putMid w (length out - w) out row) ≡ take w out ++ answerRow (answerOf (s .long) (part input p end))
+    pub line-put : take (w + 19) (putMid w (length out - w) out row) ≡ take w out ++ answerRow (answerAfter (s .long) (part input p end))
     line-put =
         front out row w 19 fits row-fits
-        ∙ ap (λ (x : List ℕ). take w out ++ x) (ap (take 19) put ∙ take-at (answerRow (answerOf (s .long) (part input p end))) _ 19 row-19)
+        ∙ ap (λ (x : List ℕ). take w out ++ x) (ap (take 19) put ∙ take-at (answerRow (answerAfter (s .long) (part input p end))) _ 19 row-19)
 
     pub line-kept : drop (w + 19) (putMid w (length out - w) out row) ≡ drop (w + 19) first
-    line-kept = rest-kept out row w 19 fits row-fits first kept (ap (drop 19) put ∙ drop-at (answerRow (answerOf (s .long) (part input p end))) _ 19 row-19)
+    line-kept = rest-kept out row w 19 fits row-fits first kept (ap (drop 19) put ∙ drop-at (answerRow (answerAfter (s .long) (part input p end))) _ 19 row-19)
 
-    pub line-on : (number : ℕ) (next : State) → number ≡ answerOf (s .long) (part input p end) .number → next ≡ counted s number
+    pub line-on : (number : ℕ) (next : State) → number ≡ answerAfter (s .long) (part input p end) .number → next ≡ counted s number
         → on input (length first) (end + 1) (feedState (take (w + 19) (putMid w (length out - w) out row)) next) ≡ feed input (length first) begun
     line-on number next m c =
         let q : end + 1 ≡ p + (lineLength (drop p input) + 1) = omega (arith, e) in
         ap₂ (λ (x : ℕ) (y : FeedState). on input (length first) x y) q
         (ap₂ feedState line-put (c ∙ ap (counted s) m)
-        ∙ ap (λ (x : ℕ). feedState (take w out ++ answerRow (answerOf (s .long) (part input p x))) (counted s (answerOf (s .long) (part input p x) .number))) e)
+        ∙ ap (λ (x : ℕ). feedState (take w out ++ answerRow (answerAfter (s .long) (part input p x))) (counted s (answerAfter (s .long) (part input p x) .number))) e)
         ∙ sym (line-taken input (length first) p (take w out) s h (λ x. n (e ∙ x)) (omega (arith, length-take-le w out fits)))
         ∙ whole
 
@@ -249,16 +249,16 @@ bytes-behind n m r t first out part l k h e p =
 pub last-length : (s : State) (line : List ℕ) → length (lastOf s line) ≡ 34
 unfolding lastOf
 last-length s line =
-    let a = answerOf (s .long) line in
+    let a = answerAfter (s .long) line in
     omega (arith, length-append (answerRow a) (totals (counted s (a .number))), answer-length a, totals-length (counted s (a .number) .read) (counted s (a .number) .refused))
 
 -- the row, and the totals behind it
-pub last-put : (s all : State) (number : ℕ) (line first out part : List ℕ) → 34 ≤ length first → number ≡ answerOf (s .long) line .number → all ≡ counted s number
-    → out ≡ answerRow (answerOf (s .long) line) ++ drop 19 first → part ≡ totals all ++ drop 15 (take (length out - 19) (drop 19 out))
+pub last-put : (s all : State) (number : ℕ) (line first out part : List ℕ) → 34 ≤ length first → number ≡ answerAfter (s .long) line .number → all ≡ counted s number
+    → out ≡ answerRow (answerAfter (s .long) line) ++ drop 19 first → part ≡ totals all ++ drop 15 (take (length out - 19) (drop 19 out))
     → putMid 19 (length out - 19) out part ≡ inFront (lastOf s line) first
 unfolding lastOf
 last-put s all number line first out part h m n e p =
-    let a = answerOf (s .long) line in
+    let a = answerAfter (s .long) line in
     let behind = p ∙ ap (λ (x : State). totals x ++ drop 15 (take (length out - 19) (drop 19 out))) (n ∙ ap (counted s) m) in
     bytes-behind 19 15 (answerRow a) (totals (counted s (a .number))) first out part (answer-length a) (totals-length (counted s (a .number) .read) (counted s (a .number) .refused)) h e behind
 

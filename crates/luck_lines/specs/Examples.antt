@@ -12,14 +12,14 @@ use Rattle.luck_answer.specs.Answer.{refused}
 use Rattle.luck_linter.specs.Computed.{computed as checksComputed}
 use Rattle.luck_line.specs.Line.{lineNumbers, twoDigits, captureColumns, checkWith, headCheck, bodyAnswer, lineAnswer}
 use Rattle.luck_line.specs.Row.{newline, column, justified, fourColumns, sevenColumns, listingRow, totalsRow}
-use Rattle.luck_lines.specs.Lines.{lastLine, linesFrom, lines, answers, rows, refusals, listing}
+use Rattle.luck_lines.specs.Lines.{lastLine, linesFrom, lines, answers, rows, refusedCount, listing}
 use Rattle.luck_lines.specs.Lines.{isEmpty, endsInTotals, isWhole}
 
 -- what is computed
 unfoldable pub computed : Unit {0}
 unfolding
     checksComputed twoDigits captureColumns checkWith headCheck bodyAnswer lineAnswer column justified fourColumns
-    sevenColumns listingRow totalsRow lastLine linesFrom lines answers rows refusals listing
+    sevenColumns listingRow totalsRow lastLine linesFrom lines answers rows refusedCount listing
     isEmpty endsInTotals isWhole
 computed = tt
 

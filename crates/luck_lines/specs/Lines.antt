@@ -39,14 +39,14 @@ rows (a ∷ more) = answerRow a ++ rows more
 abbrev pub isRefused : ℕ → Bool
 isRefused number = not (eqb number 0)
 
--- how many are refused
-unfoldable pub refusals : List Answer → ℕ
-refusals [] = 0
-refusals (a ∷ more) = (if isRefused (a .number) then 1 else 0) + refusals more
+-- how many of these lines are refused
+unfoldable pub refusedCount : List Answer → ℕ
+refusedCount [] = 0
+refusedCount (a ∷ more) = (if isRefused (a .number) then 1 else 0) + refusedCount more
 
 -- what the program writes
 unfoldable pub listing : List ℕ → List ℕ
-listing input = let all = answers (lines input) in rows all ++ totalsRow (length all) (refusals all)
+listing input = let all = answers (lines input) in rows all ++ totalsRow (length all) (refusedCount all)
 
 -- ---- A listing that is cut off is told from a whole one
 
@@ -58,7 +58,7 @@ isEmpty (b ∷ text) = false
 unfoldable pub endsInTotals : ℕ → List ℕ → Bool
 endsInTotals columns [] = false
 endsInTotals columns (b ∷ text) =
-    let next = isEmpty text && eqb columns 14 || endsInTotals 0 text in
+    let next = (isEmpty text && eqb columns 14) || endsInTotals 0 text in
     let on = endsInTotals (columns + 1) text in
     if eqb b newline then next else on
 

@@ -13,7 +13,7 @@ use Rattle.luck_text.specs.Walk.{Turn, stop, goes, walkFrom}
 use Rattle.luck_answer.specs.Answer.{Answer, refused}
 use Rattle.luck_line.specs.Line.{longest, lineAnswer}
 use Rattle.luck_line.specs.Row.{newline, answerRow, mostShown, totalsRow}
-use Rattle.luck_lines.specs.Lines.{linesFrom, answers, rows, isRefused, refusals}
+use Rattle.luck_lines.specs.Lines.{linesFrom, answers, rows, isRefused, refusedCount}
 use Rattle.luck_lines.specs.declared.stream.State.{State}
 use Rattle.luck_lines.specs.declared.stream.Fed.{Fed}
 
@@ -37,9 +37,9 @@ abbrev pub tooLong : State → State
 tooLong s = record { long = true; read = s .read; refused = s .refused }
 
 -- the answer of a line; `long`: of a line of which too many bytes were taken already
-unfoldable pub answerOf : Bool → List ℕ → Answer
-answerOf true line = refused 31 0
-answerOf false line = lineAnswer line
+unfoldable pub answerAfter : Bool → List ℕ → Answer
+answerAfter true line = refused 31 0
+answerAfter false line = lineAnswer line
 
 -- after a line whose answer has this number; no total grows beyond what is shown
 unfoldable pub counted : State → ℕ → State
@@ -80,7 +80,7 @@ module _ (input : List ℕ) (room : ℕ) where
   -- a line of n bytes, which ends in the input: it is taken if there is room for its row
   unfoldable pub lineTurn : ℕ → FeedState → ℕ → Turn FeedState Taken
   lineTurn p s n =
-      let a = answerOf (s .state .long) (part input p (p + n)) in
+      let a = answerAfter (s .state .long) (part input p (p + n)) in
       if ltb (room - length (s .written)) rowLength then stop (taken p (s .written) (s .state))
       else goes (n + 1) (feedState (s .written ++ answerRow a) (counted (s .state) (a .number)))
 
@@ -95,7 +95,7 @@ module _ (input : List ℕ) (room : ℕ) where
 
 -- the row of a last line, and the totals
 unfoldable pub lastOf : State → List ℕ → List ℕ
-lastOf s line = let a = answerOf (s .long) line in answerRow a ++ totals (counted s (a .number))
+lastOf s line = let a = answerAfter (s .long) line in answerRow a ++ totals (counted s (a .number))
 
 -- the end of the input: what is left, with no newline in it, is a last line that lacks its newline, if there is
 -- anything; nothing is written if there is no room for a row and the totals
@@ -120,7 +120,7 @@ passed true = replicate (longest + 1) 0
 unfoldable pub listingAfter : State → List ℕ → List ℕ
 listingAfter s input =
     let all = answers (linesFrom (passed (s .long)) input) in
-    rows all ++ totalsRow (s .read + length all) (s .refused + refusals all)
+    rows all ++ totalsRow (s .read + length all) (s .refused + refusedCount all)
 
 -- a run of a program. `Run whole s held input written`: with `held` read and not taken, and `input` still to come, the
 -- rest of the run writes `written`. Not whole: it stops where a read or a write fails.

@@ -7,7 +7,7 @@ ghost use lib.ListN.{length, drop};
 ghost use Rattle.luck_text.specs.Bytes.{inFront};
 ghost use Rattle.luck_answer.specs.Answer.{checkAnswer};
 ghost use Rattle.luck_line.specs.Row.{answerRow, mostShown};
-ghost use Rattle.luck_lines.specs.Stream.{rowLength, totalsLength, lineLength, start, answerOf, counted, totals, lastOf, tooLong, feed, finish, fedOf};
+ghost use Rattle.luck_lines.specs.Stream.{rowLength, totalsLength, lineLength, start, answerAfter, counted, totals, lastOf, tooLong, feed, finish, fedOf};
 ghost use Rattle.luck_lines.specs.Inner.{unendedAt};
 use luck_answer::answer;
 use luck_answer::answer::Answer;
@@ -60,8 +60,8 @@ fn line_end(input: &[u8], at: usize) -> usize
     end
 }
 
-fn answer_of(line: &[u8], long: bool) -> Answer
-    ensures { λ r. ⌜ checkAnswer r ≡ answerOf long (now (line .entry)) ⌝ }
+fn answer_after(line: &[u8], long: bool) -> Answer
+    ensures { λ r. ⌜ checkAnswer r ≡ answerAfter long (now (line .entry)) ⌝ }
 {
     if long {
         return answer::refused(31, 0);
@@ -100,10 +100,10 @@ fn counted(state: State, number: u32) -> State
 // Writes the row of a line to the front of the output, and answers its number.
 fn put_row(line: &[u8], output: &mut [u8], long: bool) -> u32
     requires { ⌜ rowLength ≤ length (now output) ⌝ }
-    ensures number { λ r. ⌜ r ≡ answerOf long (now (line .entry)) .number ⌝ }
-    ensures output { λ r. ⌜ now (output .exit) ≡ answerRow (answerOf long (now (line .entry))) ++ drop rowLength (now (output .entry)) ⌝ }
+    ensures number { λ r. ⌜ r ≡ answerAfter long (now (line .entry)) .number ⌝ }
+    ensures output { λ r. ⌜ now (output .exit) ≡ answerRow (answerAfter long (now (line .entry))) ++ drop rowLength (now (output .entry)) ⌝ }
 {
-    let answer = answer_of(line, long);
+    let answer = answer_after(line, long);
     let bytes = row::of_answer(answer);
     bytes::copy(&bytes, output);
     answer.number
@@ -139,7 +139,7 @@ pub fn feed(input: &[u8], output: &mut [u8], state: State) -> Fed
 }
 
 // All of the input was taken, and the line that goes on after it is too long.
-fn passed(length: usize, wrote: usize, state: State) -> Fed
+fn passed_over(length: usize, wrote: usize, state: State) -> Fed
     ensures { λ r. ⌜ r ≡ record { used = length; wrote = wrote; state = tooLong state } ⌝ }
 {
     Fed {
@@ -159,10 +159,10 @@ fn unended(length: usize, used: usize, wrote: usize, state: State) -> Fed
     ensures { λ r. ⌜ r ≡ unendedAt length used wrote state ⌝ }
 {
     if state.long {
-        return passed(length, wrote, state);
+        return passed_over(length, wrote, state);
     }
     if LONGEST < length - used {
-        return passed(length, wrote, state);
+        return passed_over(length, wrote, state);
     }
     Fed { used, wrote, state }
 }

@@ -2,7 +2,7 @@
 use mathlib.Core.Path.{ap, _∙_}
 use Rattle.luck_answer.specs.Answer.{Answer}
 use Rattle.luck_line.specs.Row.{answerRow}
-use Rattle.luck_lines.specs.Stream.{answerOf}
+use Rattle.luck_lines.specs.Stream.{answerAfter}
 use Rattle.luck_lines.proofs.Streams as streams
 use borrow.Author.Needs.{needs}
 use Rattle.luck_lines.proofs.stream.put_row.Statement.{statement}
@@ -11,11 +11,10 @@ use Rattle.luck_lines.proofs.stream.put_row.Tie as tie
 returns : tie.Need-returns
 returns c =
     let a = c .before .before .before .before .before .before .before .before .before .args in
-    let told = c .before .before .before .before .before .before .answer-of .ensures in
-    let made = c .before .before .before .before .before .of-answer in
-    (
+    let told = c .before .before .before .before .before .before .answer-after .ensures in
+    let made = c .before .before .before .before .before .of-answer in (
       ap (λ (x : Answer). x .number) told,
-      streams.bytes-put 19 (made .result) _ (a .output .now) _ (made .ensures ∙ ap answerRow told) (streams.answer-length (answerOf (a .long) (a .line .now))) (c .before .before .copy .ensures .1),
+      streams.bytes-put 19 (made .result) _ (a .output .now) _ (made .ensures ∙ ap answerRow told) (streams.answer-length (answerAfter (a .long) (a .line .now))) (c .before .before .copy .ensures .1),
     )
 
 pub put-row-spec : {M : Type 1} → statement M

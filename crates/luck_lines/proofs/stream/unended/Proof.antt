@@ -9,13 +9,13 @@ use Rattle.luck_lines.proofs.stream.unended.Tie as tie
 
 returns : tie.Need-returns
 unfolding if_then_else_
-returns c = c .passed .ensures ∙ rw (c .before .if1 .taken)
+returns c = c .passed-over .ensures ∙ rw (c .before .if1 .taken)
 
 returns-2 : tie.Need-returns-2
 unfolding if_then_else_
 returns-2 c =
     let a = c .before .before .before .args in
-    c .passed2 .ensures ∙ rw (c .before .before .if1 .left, lt-ltb 4005 (a .length - a .used) (c .before .if2 .taken))
+    c .passed-over2 .ensures ∙ rw (c .before .before .if1 .left, lt-ltb 4005 (a .length - a .used) (c .before .if2 .taken))
 
 returns-3 : tie.Need-returns-3
 unfolding if_then_else_
