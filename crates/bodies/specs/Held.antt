@@ -1,4 +1,4 @@
--- Where the bytes that are held lie, and when more may be read after them.
+-- Where the bytes that are held lie, and when more may be read after them (the program `bodies` of document 01).
 -- Assumes nothing.
 use Prim.Native.Nat.{ℕ, _≤_, _<_}
 use mathlib.Core.Path.{_≡_}
@@ -21,7 +21,7 @@ Unended bytes room = (lineLength bytes ≡ length bytes) × (length bytes < room
 abbrev pub heldIn : Held → List ℕ → List ℕ
 heldIn held buffer = part buffer (held .at) (held .end)
 
--- where there is more to do: these bytes are held, and perhaps others after them, and the next call is handed this
+-- where there is more to do: these bytes are held, and perhaps others after them, and the next call is handed s
 abbrev pub HeldGoesOn : List ℕ → State → Held → List ℕ → Type 0
 HeldGoesOn bytes s held buffer =
     held .more ≡ true → (held .state ≡ s) × (take (length bytes) (heldIn held buffer) ≡ bytes)

@@ -1,5 +1,5 @@
 // Reads lines from standard input and writes a row for each, what the checks answer for its body, and then the totals. The work is luck_lines';
-// this is the reading and the writing, with two buffers and two counts and nothing else kept, so that the input may be of any length.
+// this is the reading and the writing, with two buffers and a `State` and nothing else kept, so that the input may be of any length.
 ghost use mathlib.Core.Path.{_≡_};
 ghost use mathlib.Core.Bool.{false};
 ghost use Prim.Native.Nat.{_+_, _≤_, _<_};
@@ -22,7 +22,7 @@ struct Held {
     more: bool,
 }
 
-// An error was said, or the input has ended: nothing more is written. So a listing without its totals is not whole.
+// An error was said, or the input has ended. After an error no totals are written, by which a loader tells that the listing is not whole.
 fn stop() -> Held
     ensures { λ r. ⌜ HeldWithin r 0 ⌝ }
     ensures { λ r. ⌜ r .more ≡ false ⌝ }
@@ -35,7 +35,7 @@ fn stop() -> Held
     }
 }
 
-fn write_rows(rows: &[u8]) -> bool {
+fn write_out(rows: &[u8]) -> bool {
     let is_written = io::write_all(STDOUT_FILENO, rows);
     if !is_written {
         os::fail(b"bodies: standard output");
@@ -49,7 +49,7 @@ fn finish(left: &[u8], output: &mut [u8], state: State)
     requires { ⌜ rowLength + totalsLength ≤ length (now output) ⌝ }
 {
     let wrote = stream::finish(left, output, state);
-    write_rows(&output[0..wrote]);
+    write_out(&output[0..wrote]);
 }
 
 // No whole line is left: what there is moves to the front, and more is read after it.
@@ -96,7 +96,7 @@ fn list_some(input: &mut [u8], output: &mut [u8], held: Held) -> Held
     let left = at + fed.used;
     let state = fed.state;
     if 0 < wrote {
-        let is_written = write_rows(&output[0..wrote]);
+        let is_written = write_out(&output[0..wrote]);
         return Held {
             at: left,
             end,

@@ -1,5 +1,5 @@
 -- A row of the listing (document 01): number, offset and count in 4, 7 and 7 columns, right-justified, with no bytes
--- between, and a newline. The line of totals behind the last row (document 02, F-9): lines read and lines refused in 7
+-- between, and a newline. The line of totals after the last row (document 02, F-9): lines read and lines refused in 7
 -- columns each.
 -- Assumes nothing.
 use Prim.Native.Nat.{ℕ, _+_, _/_, _%_, min}
@@ -17,11 +17,14 @@ newline = code "\n"
 unfoldable pub column : ℕ → ℕ → ℕ
 column power n = if ltb n power then code " " else code "0" + n / power % 10
 
+abbrev pub lastColumn : ℕ → ℕ
+lastColumn n = code "0" + n % 10
+
 -- n right-justified in one column more than there are powers; a number with more digits would lose its first ones. In a
 -- row none has: its offset and its count are at most 4,000 (`row-fits` of proofs/Answers.antt). No total has: at most
 -- 9,999,999 is shown
 unfoldable pub justified : List ℕ → ℕ → List ℕ
-justified [] n = (code "0" + n % 10) ∷ []
+justified [] n = lastColumn n ∷ []
 justified (power ∷ powers) n = column power n ∷ justified powers n
 
 unfoldable pub fourColumns : ℕ → List ℕ

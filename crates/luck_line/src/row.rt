@@ -1,8 +1,8 @@
 // A row of the listing, and its line of totals.
 ghost use mathlib.Core.Path.{_≡_};
-ghost use Prim.Native.Nat.{_+_, _%_, _<_, min};
+ghost use Prim.Native.Nat.{_<_, min};
 ghost use Rattle.luck_answer.specs.Answer.{checkAnswer};
-ghost use Rattle.luck_line.specs.Row.{column, listingRow, answerRow, mostShown, totalsRow};
+ghost use Rattle.luck_line.specs.Row.{column, lastColumn, listingRow, answerRow, mostShown, totalsRow};
 use luck_answer::answer::Answer;
 
 // The bytes of a row and of the line of totals, their newlines included.
@@ -25,7 +25,7 @@ fn column(power: u64, n: u64) -> u8
 }
 
 fn last_column(n: u64) -> u8
-    ensures { λ r. ⌜ r ≡ 48 + n % 10 ⌝ }
+    ensures { λ r. ⌜ r ≡ lastColumn n ⌝ }
 {
     b'0' + (n % 10) as u8
 }

@@ -14,7 +14,7 @@ use Rattle.luck_answer.specs.Answer.{Answer}
 use Rattle.luck_line.specs.Row.{column, justified, fourColumns, sevenColumns, listingRow, answerRow, totalsRow}
 use Rattle.luck_line.proofs.Rows.{totals-length}
 use Rattle.luck_lines.proofs.Streams.{answer-length}
-use Rattle.luck_lines.specs.Lines.{answers, lines, rows, refusedCount, listing, isEmpty, endsInTotals, isWhole}
+use Rattle.luck_lines.specs.Lines.{answers, lines, rows, refusedCount, listing, isEmpty, endsIn14Columns, isWhole}
 
 -- ---- Rows have no newline but the last byte
 
@@ -44,27 +44,27 @@ something-left : (rest more : List ℕ) (b : ℕ) → rest ≡ b ∷ more → fa
 unfolding isEmpty
 something-left rest more b e = ap isEmpty (sym e)
 
-at-newline : (k b : ℕ) (out : List ℕ) → b ≡ 10 → endsInTotals k (b ∷ out) ≡ ((isEmpty out && eqb k 14) || endsInTotals 0 out)
-unfolding endsInTotals if_then_else_
+at-newline : (k b : ℕ) (out : List ℕ) → b ≡ 10 → endsIn14Columns k (b ∷ out) ≡ ((isEmpty out && eqb k 14) || endsIn14Columns 0 out)
+unfolding endsIn14Columns if_then_else_
 at-newline k b out e = rw (eq-eqb b 10 e)
 
-in-line : (k b : ℕ) (out : List ℕ) → eqb b 10 ≡ false → endsInTotals k (b ∷ out) ≡ endsInTotals (k + 1) out
-unfolding endsInTotals if_then_else_
+in-line : (k b : ℕ) (out : List ℕ) → eqb b 10 ≡ false → endsIn14Columns k (b ∷ out) ≡ endsIn14Columns (k + 1) out
+unfolding endsIn14Columns if_then_else_
 in-line k b out e = rw e
 
 -- What holds from a line's newline on holds from its beginning, with k columns before it.
 module _ (width : ℕ) (more : List ℕ)
-    (after : (out rest : List ℕ) → out ++ rest ≡ more → ((isEmpty out && eqb width 14) || endsInTotals 0 out) ≡ isEmpty rest) where
+    (after : (out rest : List ℕ) → out ++ rest ≡ more → ((isEmpty out && eqb width 14) || endsIn14Columns 0 out) ≡ isEmpty rest) where
   through : (line : List ℕ) (k : ℕ) → NoNewline line → k + length line ≡ width → (out rest : List ℕ) → out ++ rest ≡ line ++ 10 ∷ more
-      → endsInTotals k out ≡ isEmpty rest
-  unfolding endsInTotals
+      → endsIn14Columns k out ≡ isEmpty rest
+  unfolding endsIn14Columns
   through [] k n w [] rest e = something-left rest more 10 e
   through (x ∷ line) k n w [] rest e = something-left rest (line ++ 10 ∷ more) x e
   through [] k n w (b ∷ out) rest e =
       let same : b ≡ 10 = cc in
       let left : out ++ rest ≡ more = cc in
       let columns : k ≡ width = omega arith in
-      at-newline k b out same ∙ ap (λ (x : ℕ). (isEmpty out && eqb x 14) || endsInTotals 0 out) columns ∙ after out rest left
+      at-newline k b out same ∙ ap (λ (x : ℕ). (isEmpty out && eqb x 14) || endsIn14Columns 0 out) columns ∙ after out rest left
   through (x ∷ line) k n w (b ∷ out) rest e =
       let same : b ≡ x = cc in
       let left : out ++ rest ≡ line ++ 10 ∷ more = cc in
@@ -77,11 +77,11 @@ and-false true = refl
 and-false false = refl
 
 -- behind a row
-row-on : (out : List ℕ) (t : Bool) → endsInTotals 0 out ≡ t → ((isEmpty out && false) || endsInTotals 0 out) ≡ t
-row-on out t e = ap (λ (x : Bool). x || endsInTotals 0 out) (and-false (isEmpty out)) ∙ e
+row-on : (out : List ℕ) (t : Bool) → endsIn14Columns 0 out ≡ t → ((isEmpty out && false) || endsIn14Columns 0 out) ≡ t
+row-on out t e = ap (λ (x : Bool). x || endsIn14Columns 0 out) (and-false (isEmpty out)) ∙ e
 
 -- behind the totals nothing is left
-nothing : (out rest : List ℕ) → out ++ rest ≡ [] → ((isEmpty out && true) || endsInTotals 0 out) ≡ isEmpty rest
+nothing : (out rest : List ℕ) → out ++ rest ≡ [] → ((isEmpty out && true) || endsIn14Columns 0 out) ≡ isEmpty rest
 unfolding isEmpty
 nothing [] [] e = refl
 nothing [] (b ∷ rest) e = let z : _≡_ {A = ℕ} 0 1 = cc in absurd (omega arith)
@@ -106,7 +106,7 @@ columns-18 n m k = refl
 regrouped : (a b c more rest : List ℕ) → ((a ++ (b ++ (c ++ (10 ∷ [])))) ++ more) ++ rest ≡ (a ++ (b ++ c)) ++ 10 ∷ (more ++ rest)
 regrouped a b c more rest = simp append-assoc
 
-told : (all : List Answer) (read refused : ℕ) (out rest : List ℕ) → out ++ rest ≡ rows all ++ totalsRow read refused → endsInTotals 0 out ≡ isEmpty rest
+told : (all : List Answer) (read refused : ℕ) (out rest : List ℕ) → out ++ rest ≡ rows all ++ totalsRow read refused → endsIn14Columns 0 out ≡ isEmpty rest
 unfolding rows totalsRow listingRow
 told [] read refused out rest e =
     let r = sevenColumns (min read 9999999) in

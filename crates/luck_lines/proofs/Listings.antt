@@ -14,7 +14,7 @@ use Rattle.luck_answer.specs.Answer.{Answer, refused}
 use Rattle.luck_line.specs.Line.{lineAnswer}
 use Rattle.luck_line.specs.Row.{justified, sevenColumns, answerRow, totalsRow}
 use Rattle.luck_lines.specs.Lines.{lastLine, linesFrom, lines, answers, rows, isRefused, refusedCount, listing, isEmpty}
-use Rattle.luck_lines.specs.Stream.{lineLength, start, answerAfter, tooLong, counted, totals, lastOf, passed, listingAfter}
+use Rattle.luck_lines.specs.Stream.{lineLength, start, answerAfter, tooLong, counted, totalsOf, lastRowAndTotals, passed, listingAfter}
 use Rattle.luck_lines.specs.declared.stream.State.{State}
 use Rattle.luck_line.proofs.Heads.{too-long}
 
@@ -177,15 +177,15 @@ from-start input = let all = answers (linesFrom [] input) in ap₂ (λ (x y : �
 -- ---- The end of the input
 
 module _ (s : State) (xs : List ℕ) where
-  pub last-row : lineLength xs ≡ length xs → (s .long ≡ false → length xs ≡ 0 → ⊥) → lastOf s xs ≡ listingAfter s xs
-  unfolding listingAfter lastOf
+  pub last-row : lineLength xs ≡ length xs → (s .long ≡ false → length xs ≡ 0 → ⊥) → lastRowAndTotals s xs ≡ listingAfter s xs
+  unfolding listingAfter lastRowAndTotals
   last-row e h =
       let a = answerAfter (s .long) xs in
       sym
       (ap (listed (s .read) (s .refused)) (last-answer (s .long) xs e h) ∙ listed-more s a []
       ∙ ap (λ (x : List ℕ). answerRow a ++ x) (listed-none (counted s (a .number) .read) (counted s (a .number) .refused)))
 
-  pub last-none : s .long ≡ false → length xs ≡ 0 → totals s ≡ listingAfter s xs
+  pub last-none : s .long ≡ false → length xs ≡ 0 → totalsOf s ≡ listingAfter s xs
   unfolding listingAfter
   last-none l e = sym (ap (listed (s .read) (s .refused)) (no-answer (s .long) xs l e) ∙ listed-none (s .read) (s .refused))
 

@@ -1,6 +1,6 @@
--- What is promised of the line machine: however an input is cut into pieces, and whenever its lines are taken, what is written is the listing of the
--- whole input, its totals included; a listing that is cut off is told from a whole one; and of every line: its number is 0 or a refusal of document 01, and its offset and its count are at most the
--- body's length.
+-- What is promised of the stream of lines: however an input is cut into pieces, and whenever its lines are taken, what is written is the listing of the
+-- whole input, its totals included; a listing that is cut off is told from a whole one (document 02, F-9); and of every line: its number is 0 or a
+-- refusal of document 01, and its offset and its count are at most the body's length.
 -- Assumes nothing.
 use Prim.Native.Nat.{ℕ, _+_, _*_, _-_, _≤_}
 use mathlib.Core.Path.{_≡_, subst, _∙_}
@@ -10,7 +10,7 @@ use lib.ListN.{length, drop}
 use Rattle.luck_text.specs.Bytes.{among}
 use Rattle.luck_line.specs.Line.{longest, lineAnswer, lineNumbers}
 use Rattle.luck_lines.specs.Lines.{lines, listing, isEmpty, isWhole}
-use Rattle.luck_lines.specs.Stream.{rowLength, lineLength, start, feed, listingAfter, Run}
+use Rattle.luck_lines.specs.Stream.{rowLength, totalsLength, lineLength, start, feed, listingAfter, Run}
 use Rattle.luck_lines.specs.declared.stream.State.{State}
 use Rattle.luck_line.proofs.Answers.{line-fits}
 use Rattle.luck_lines.proofs.Listings.{from-start}
@@ -18,7 +18,7 @@ use Rattle.luck_lines.proofs.Cuts.{cut, left-short}
 use Rattle.luck_lines.proofs.Runs.{run-gives, one-run}
 use Rattle.luck_lines.proofs.Ends.{listing-bytes, whole-or-cut, cut-off}
 
--- every whole run over an input writes its listing,
+-- every run over an input that does not fail writes its listing,
 pub whole-listing : (input written : List ℕ) → Run true start [] input written → written ≡ listing input
 whole-listing input written run = run-gives true start [] input written run ∙ from-start input
 
@@ -27,18 +27,20 @@ pub some-run : (input : List ℕ) → Run true start [] input (listing input)
 some-run input = subst (Run true start [] input) (from-start input) (one-run input)
 
 -- 19 bytes for each line, and 15
-pub listing-length : (input : List ℕ) → length (listing input) ≡ 19 * length (lines input) + 15
+pub listing-length : (input : List ℕ) → length (listing input) ≡ rowLength * length (lines input) + totalsLength
 listing-length input = listing-bytes input
 
--- of all that a listing begins with, the listing alone ends in a line of 14 columns and its newline;
+-- of all beginnings of a listing only the whole one ends in a line of 14 columns and its newline
 pub whole-told : (input out rest : List ℕ) → out ++ rest ≡ listing input → isWhole out ≡ isEmpty rest
 whole-told input out rest e = whole-or-cut input out rest e
 
--- so nothing that a run wrote does which stopped where a read or a write failed, were it cut off anywhere
-pub stopped-told : (input written out rest : List ℕ) → Run false start [] input written → out ++ rest ≡ written → isWhole out ≡ false
-stopped-told input written out rest run e =
-    let (more, (f, n)) = run-gives false start [] input written run in
-    cut-off input written more out rest (f ∙ from-start input) n e
+-- what a run wrote that failed begins the listing, and is not all of it;
+pub failed-begins : (input written : List ℕ) → Run false start [] input written → (more : List ℕ) × ((written ++ more ≡ listing input) × (isEmpty more ≡ false))
+failed-begins input written run = let (more, (e, n)) = run-gives false start [] input written run in (more, (e ∙ from-start input, n))
+
+-- so it does not end so, nor does any beginning of it, where rows were written in part
+pub failed-told : (input written out rest : List ℕ) → Run false start [] input written → out ++ rest ≡ written → isWhole out ≡ false
+failed-told input written out rest run o = let (more, (e, n)) = failed-begins input written run in cut-off input written more out rest e n o
 
 -- in a run that is not at its end: the rows that a call writes, and then what is due for what it leaves and for all that follows
 pub listing-due : (input rest : List ℕ) (room : ℕ) (s : State)

@@ -8,7 +8,7 @@ use mathlib.Core.Bool.{Bool, true, false, true≢false}
 use mathlib.Core.List.{List, [], _++_, append-nil, append-assoc}
 use lib.ListN.{length, drop}
 use Rattle.luck_lines.specs.Lines.{isEmpty}
-use Rattle.luck_lines.specs.Stream.{rowLength, totalsLength, lineLength, start, feed, finish, listingAfter, Run, reads, takes, ends, stops}
+use Rattle.luck_lines.specs.Stream.{rowLength, totalsLength, lineLength, start, feed, finish, listingAfter, Run, reads, takes, ends, stops, fails}
 use Rattle.luck_lines.specs.declared.stream.State.{State}
 use Rattle.luck_text.proofs.Cases.{same}
 use Rattle.luck_lines.proofs.Cuts.{cut, all-taken}
@@ -46,6 +46,7 @@ run-gives _ _ _ _ _ (reads whole s held piece input written run) =
 run-gives _ _ _ _ _ (takes whole s held input written room run) = lines-taken whole s held input written room (run-gives _ _ _ _ _ run)
 run-gives _ _ _ _ _ (ends s held room e h) = last-written s held room e h ∙ ap (listingAfter s) (sym (append-nil held))
 run-gives _ _ _ _ _ (stops s held input) = (listingAfter s (held ++ input), (refl, some-due s (held ++ input)))
+run-gives _ _ _ _ _ (fails s held room written rest e h f n) = (rest, (f ∙ last-written s held room e h ∙ ap (listingAfter s) (sym (append-nil held)), n))
 
 -- all of the input at once
 pub one-run : (input : List ℕ) → Run true start [] input (listingAfter start input)

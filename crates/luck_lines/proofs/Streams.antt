@@ -19,7 +19,7 @@ use Rattle.luck_text.proofs.Cases.{by-test}
 use Rattle.luck_answer.specs.Answer.{Answer, refused}
 use Rattle.luck_line.specs.Line.{longest, lineAnswer}
 use Rattle.luck_line.specs.Row.{answerRow}
-use Rattle.luck_lines.specs.Stream.{lineLength, answerAfter, counted, totals, lastOf, Taken, taken, FeedState, feedState, unended, lineTurn, feedTurn, feed, finish, fedOf}
+use Rattle.luck_lines.specs.Stream.{lineLength, answerAfter, counted, totalsOf, lastRowAndTotals, Taken, taken, FeedState, feedState, unended, lineTurn, feedTurn, feed, finish, fedOf}
 use Rattle.luck_lines.specs.Inner.{unendedAt}
 use Rattle.luck_lines.specs.declared.stream.State.{State}
 use Rattle.luck_lines.specs.declared.stream.Fed.{Fed}
@@ -246,21 +246,21 @@ bytes-behind n m r t first out part l k h e p =
 
 -- ---- The end of the input
 
-pub last-length : (s : State) (line : List ℕ) → length (lastOf s line) ≡ 34
-unfolding lastOf
+pub last-length : (s : State) (line : List ℕ) → length (lastRowAndTotals s line) ≡ 34
+unfolding lastRowAndTotals
 last-length s line =
     let a = answerAfter (s .long) line in
-    omega (arith, length-append (answerRow a) (totals (counted s (a .number))), answer-length a, totals-length (counted s (a .number) .read) (counted s (a .number) .refused))
+    omega (arith, length-append (answerRow a) (totalsOf (counted s (a .number))), answer-length a, totals-length (counted s (a .number) .read) (counted s (a .number) .refused))
 
 -- the row, and the totals behind it
 pub last-put : (s all : State) (number : ℕ) (line first out part : List ℕ) → 34 ≤ length first → number ≡ answerAfter (s .long) line .number → all ≡ counted s number
-    → out ≡ answerRow (answerAfter (s .long) line) ++ drop 19 first → part ≡ totals all ++ drop 15 (take (length out - 19) (drop 19 out))
-    → putMid 19 (length out - 19) out part ≡ inFront (lastOf s line) first
-unfolding lastOf
+    → out ≡ answerRow (answerAfter (s .long) line) ++ drop 19 first → part ≡ totalsOf all ++ drop 15 (take (length out - 19) (drop 19 out))
+    → putMid 19 (length out - 19) out part ≡ inFront (lastRowAndTotals s line) first
+unfolding lastRowAndTotals
 last-put s all number line first out part h m n e p =
     let a = answerAfter (s .long) line in
-    let behind = p ∙ ap (λ (x : State). totals x ++ drop 15 (take (length out - 19) (drop 19 out))) (n ∙ ap (counted s) m) in
-    bytes-behind 19 15 (answerRow a) (totals (counted s (a .number))) first out part (answer-length a) (totals-length (counted s (a .number) .read) (counted s (a .number) .refused)) h e behind
+    let behind = p ∙ ap (λ (x : State). totalsOf x ++ drop 15 (take (length out - 19) (drop 19 out))) (n ∙ ap (counted s) m) in
+    bytes-behind 19 15 (answerRow a) (totalsOf (counted s (a .number))) first out part (answer-length a) (totals-length (counted s (a .number) .read) (counted s (a .number) .refused)) h e behind
 
 module _ (s : State) (left : List ℕ) (room : ℕ) where
   pub finish-full : room < 34 → finish s left room ≡ []
@@ -268,20 +268,20 @@ module _ (s : State) (left : List ℕ) (room : ℕ) where
   finish-full h = rw (lt-ltb room 34 h)
 
   module _ (h : 34 ≤ room) where
-    pub finish-long : s .long ≡ true → finish s left room ≡ lastOf s left
+    pub finish-long : s .long ≡ true → finish s left room ≡ lastRowAndTotals s left
     unfolding finish if_then_else_
     finish-long e = rw (le-ltb room 34 h, e)
 
-    pub finish-empty : s .long ≡ false → length left ≡ 0 → finish s left room ≡ totals s
+    pub finish-empty : s .long ≡ false → length left ≡ 0 → finish s left room ≡ totalsOf s
     unfolding finish if_then_else_
     finish-empty e l = rw (le-ltb room 34 h, e, eq-eqb (length left) 0 l)
 
-    pub finish-row : s .long ≡ false → (length left ≡ 0 → ⊥) → finish s left room ≡ lastOf s left
+    pub finish-row : s .long ≡ false → (length left ≡ 0 → ⊥) → finish s left room ≡ lastRowAndTotals s left
     unfolding finish if_then_else_
     finish-row e l = rw (le-ltb room 34 h, e, ne-eqb (length left) 0 l)
 
     -- with the row of a last line
-    pub last-finished : (first out : List ℕ) (r : ℕ) → length first ≡ room → finish s left room ≡ lastOf s left → r ≡ 34 → out ≡ inFront (lastOf s left) first
+    pub last-finished : (first out : List ℕ) (r : ℕ) → length first ≡ room → finish s left room ≡ lastRowAndTotals s left → r ≡ 34 → out ≡ inFront (lastRowAndTotals s left) first
         → (r ≡ length (finish s left room)) × ((out ≡ inFront (finish s left room) first) × (r ≤ length first))
     last-finished first out r l e n o =
         (n ∙ sym (ap length e ∙ last-length s left), (o ∙ ap (λ (f : List ℕ). inFront f first) (sym e), omega (arith, n, l)))

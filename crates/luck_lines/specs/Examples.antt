@@ -13,14 +13,14 @@ use Rattle.luck_linter.specs.Computed.{computed as checksComputed}
 use Rattle.luck_line.specs.Line.{lineNumbers, twoDigits, captureColumns, checkWith, headCheck, bodyAnswer, lineAnswer}
 use Rattle.luck_line.specs.Row.{newline, column, justified, fourColumns, sevenColumns, listingRow, totalsRow}
 use Rattle.luck_lines.specs.Lines.{lastLine, linesFrom, lines, answers, rows, refusedCount, listing}
-use Rattle.luck_lines.specs.Lines.{isEmpty, endsInTotals, isWhole}
+use Rattle.luck_lines.specs.Lines.{isEmpty, endsIn14Columns, isWhole}
 
 -- what is computed
 unfoldable pub computed : Unit {0}
 unfolding
     checksComputed twoDigits captureColumns checkWith headCheck bodyAnswer lineAnswer column justified fourColumns
     sevenColumns listingRow totalsRow lastLine linesFrom lines answers rows refusedCount listing
-    isEmpty endsInTotals isWhole
+    isEmpty endsIn14Columns isWhole
 computed = tt
 
 abbrev line : List ℕ → List ℕ → List ℕ
@@ -45,7 +45,7 @@ pub with-and-without : (listing (line (ascii "F1   %d") [])
 unfolding computed
 with-and-without = (refl, refl)
 
--- 25, 30 and 31 are refusals
+-- 25, 30 and 31 are counted as refused (document 03)
 pub bad-lines : listing (line (ascii "F7   x") (line (ascii "F") (line (replicate 4006 0) (line (ascii "F1   x") []))))
     ≡ line (ascii "  25      0      0") (line (ascii "  30      0      0") (line (ascii "  31      0      0")
     (line (ascii "   0      0      0") (line (ascii "      4      3") []))))

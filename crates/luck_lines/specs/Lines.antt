@@ -1,4 +1,4 @@
--- The listing of an input: a row for each line (document 01, the program `bodies`), and behind the last one the totals
+-- The listing of an input: a row for each line (document 01, the program `bodies`), and after the last one the totals
 -- (document 02, F-9).
 -- Assumes nothing.
 use Prim.Native.Nat.{ℕ, _+_}
@@ -48,19 +48,22 @@ refusedCount (a ∷ more) = (if isRefused (a .number) then 1 else 0) + refusedCo
 unfoldable pub listing : List ℕ → List ℕ
 listing input = let all = answers (lines input) in rows all ++ totalsRow (length all) (refusedCount all)
 
--- ---- A listing that is cut off is told from a whole one
+-- ---- A listing that is cut off is told from a whole one by its last line (document 02, F-9)
+
+abbrev pub totalsColumns : ℕ
+totalsColumns = 14
 
 unfoldable pub isEmpty : List ℕ → Bool
 isEmpty [] = true
 isEmpty (b ∷ text) = false
 
 -- a text ends in a line of 14 columns, with its newline; `columns` are there of its first line already
-unfoldable pub endsInTotals : ℕ → List ℕ → Bool
-endsInTotals columns [] = false
-endsInTotals columns (b ∷ text) =
-    let next = (isEmpty text && eqb columns 14) || endsInTotals 0 text in
-    let on = endsInTotals (columns + 1) text in
+unfoldable pub endsIn14Columns : ℕ → List ℕ → Bool
+endsIn14Columns columns [] = false
+endsIn14Columns columns (b ∷ text) =
+    let next = (isEmpty text && eqb columns totalsColumns) || endsIn14Columns 0 text in
+    let on = endsIn14Columns (columns + 1) text in
     if eqb b newline then next else on
 
 unfoldable pub isWhole : List ℕ → Bool
-isWhole text = endsInTotals 0 text
+isWhole text = endsIn14Columns 0 text

@@ -13,7 +13,7 @@ use Rattle.luck_text.specs.Walk.{Turn, stop, goes, walkFrom}
 use Rattle.luck_answer.specs.Answer.{Answer, refused}
 use Rattle.luck_line.specs.Line.{longest, lineAnswer}
 use Rattle.luck_line.specs.Row.{newline, answerRow, mostShown, totalsRow}
-use Rattle.luck_lines.specs.Lines.{linesFrom, answers, rows, isRefused, refusedCount}
+use Rattle.luck_lines.specs.Lines.{totalsColumns, linesFrom, answers, rows, isRefused, refusedCount, isEmpty}
 use Rattle.luck_lines.specs.declared.stream.State.{State}
 use Rattle.luck_lines.specs.declared.stream.Fed.{Fed}
 
@@ -22,17 +22,19 @@ abbrev pub rowLength : ℕ
 rowLength = 19
 
 abbrev pub totalsLength : ℕ
-totalsLength = 15
+totalsLength = totalsColumns + 1
 
 -- how many bytes stand before the first newline
 unfoldable pub lineLength : List ℕ → ℕ
 lineLength text = run (λ b. not (eqb b newline)) text
 
--- ---- What a call hands on to the next one: whether the line that goes on is too long already, and the lines so far
+-- ---- What a call hands on to the next one: whether the line that goes on is too long already, and how many lines were
+-- read and refused so far
 
 abbrev pub start : State
 start = record { long = false; read = 0; refused = 0 }
 
+-- the line that goes on is too long
 abbrev pub tooLong : State → State
 tooLong s = record { long = true; read = s .read; refused = s .refused }
 
@@ -49,8 +51,8 @@ counted s number = record {
   refused = if isRefused number then min (s .refused + 1) mostShown else s .refused;
 }
 
-abbrev pub totals : State → List ℕ
-totals s = totalsRow (s .read) (s .refused)
+abbrev pub totalsOf : State → List ℕ
+totalsOf s = totalsRow (s .read) (s .refused)
 
 -- ---- A call
 
@@ -63,6 +65,7 @@ pub record Taken : Type 0 where
 abbrev pub taken : ℕ → List ℕ → State → Taken
 taken used written s = record { used = used; written = written; state = s }
 
+-- the rows written so far in a call, and what it would hand on
 pub record FeedState : Type 0 where
   pub written : List ℕ
   pub state : State
@@ -94,15 +97,15 @@ module _ (input : List ℕ) (room : ℕ) where
   feed s = walkFrom feedTurn (unended input) (length input) 0 (feedState [] s)
 
 -- the row of a last line, and the totals
-unfoldable pub lastOf : State → List ℕ → List ℕ
-lastOf s line = let a = answerAfter (s .long) line in answerRow a ++ totals (counted s (a .number))
+unfoldable pub lastRowAndTotals : State → List ℕ → List ℕ
+lastRowAndTotals s line = let a = answerAfter (s .long) line in answerRow a ++ totalsOf (counted s (a .number))
 
 -- the end of the input: what is left, with no newline in it, is a last line that lacks its newline, if there is
 -- anything; nothing is written if there is no room for a row and the totals
 unfoldable pub finish : State → List ℕ → ℕ → List ℕ
 finish s left room =
     if ltb room (rowLength + totalsLength) then []
-    else if s .long || not (eqb (length left) 0) then lastOf s left else totals s
+    else if s .long || not (eqb (length left) 0) then lastRowAndTotals s left else totalsOf s
 
 -- the code's answer
 abbrev pub fedOf : Taken → Fed
@@ -122,10 +125,10 @@ listingAfter s input =
     let all = answers (linesFrom (passed (s .long)) input) in
     rows all ++ totalsRow (s .read + length all) (s .refused + refusedCount all)
 
--- a run of a program. `Run whole s held input written`: with `held` read and not taken, and `input` still to come, the
--- rest of the run writes `written`. Not whole: it stops where a read or a write fails.
--- Bytes come in pieces; whole lines are taken whenever it likes, with any room; at the end of the input, when no
--- newline is held, the last line is taken
+-- a run of a program. `Run whole s held input written`: with `held` read and not taken, `input` still to come, and s
+-- handed on, the rest of the run writes `written`. Whole: up to its end. Else a read or a write fails, and it stops.
+-- Bytes come in pieces; whole lines are taken at any time, with any room; at the end of the input, when no newline is
+-- held, the last line is taken and the totals are written, with room for both, or this write fails before its last byte
 pub data Run : Bool → State → List ℕ → List ℕ → List ℕ → Type 0 where
   reads : (whole : Bool) (s : State) (held piece input written : List ℕ)
       → Run whole s (held ++ piece) input written → Run whole s held (piece ++ input) written
@@ -135,3 +138,6 @@ pub data Run : Bool → State → List ℕ → List ℕ → List ℕ → Type 0 
   ends : (s : State) (held : List ℕ) (room : ℕ)
       → lineLength held ≡ length held → rowLength + totalsLength ≤ room → Run true s held [] (finish s held room)
   stops : (s : State) (held input : List ℕ) → Run false s held input []
+  fails : (s : State) (held : List ℕ) (room : ℕ) (written rest : List ℕ)
+      → lineLength held ≡ length held → rowLength + totalsLength ≤ room
+      → written ++ rest ≡ finish s held room → isEmpty rest ≡ false → Run false s held [] written

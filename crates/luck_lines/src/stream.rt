@@ -7,7 +7,7 @@ ghost use lib.ListN.{length, drop};
 ghost use Rattle.luck_text.specs.Bytes.{inFront};
 ghost use Rattle.luck_answer.specs.Answer.{checkAnswer};
 ghost use Rattle.luck_line.specs.Row.{answerRow, mostShown};
-ghost use Rattle.luck_lines.specs.Stream.{rowLength, totalsLength, lineLength, start, answerAfter, counted, totals, lastOf, tooLong, feed, finish, fedOf};
+ghost use Rattle.luck_lines.specs.Stream.{rowLength, totalsLength, lineLength, start, answerAfter, counted, totalsOf, lastRowAndTotals, tooLong, feed, finish, fedOf};
 ghost use Rattle.luck_lines.specs.Inner.{unendedAt};
 use luck_answer::answer;
 use luck_answer::answer::Answer;
@@ -97,7 +97,7 @@ fn counted(state: State, number: u32) -> State
     }
 }
 
-// Writes the row of a line to the front of the output, and answers its number.
+// Writes the row of a line to the front of the output, and answers the number in it.
 fn put_row(line: &[u8], output: &mut [u8], long: bool) -> u32
     requires { ⌜ rowLength ≤ length (now output) ⌝ }
     ensures number { λ r. ⌜ r ≡ answerAfter long (now (line .entry)) .number ⌝ }
@@ -169,7 +169,7 @@ fn unended(length: usize, used: usize, wrote: usize, state: State) -> Fed
 
 fn put_totals(output: &mut [u8], state: State)
     requires { ⌜ totalsLength ≤ length (now output) ⌝ }
-    ensures { λ r. ⌜ now (output .exit) ≡ totals state ++ drop totalsLength (now (output .entry)) ⌝ }
+    ensures { λ r. ⌜ now (output .exit) ≡ totalsOf state ++ drop totalsLength (now (output .entry)) ⌝ }
 {
     let bytes = row::of_totals(state.read, state.refused);
     bytes::copy(&bytes, output);
@@ -179,15 +179,15 @@ fn put_totals(output: &mut [u8], state: State)
 fn put_last(left: &[u8], output: &mut [u8], state: State) -> usize
     requires { ⌜ rowLength + totalsLength ≤ length (now output) ⌝ }
     ensures wrote { λ r. ⌜ r ≡ rowLength + totalsLength ⌝ }
-    ensures output { λ r. ⌜ now (output .exit) ≡ inFront (lastOf state (now (left .entry))) (now (output .entry)) ⌝ }
+    ensures output { λ r. ⌜ now (output .exit) ≡ inFront (lastRowAndTotals state (now (left .entry))) (now (output .entry)) ⌝ }
 {
     let number = put_row(left, output, state.long);
     put_totals(&mut output[ROW..], counted(state, number));
     ROW + TOTALS
 }
 
-// The end of the input, with what is left of it, in which no newline is (such is what is left by a `feed` that had room for a row and wrote none): the row of a last line
-// that lacks its newline, and the totals. Answers how many bytes it wrote: none where the output has no room for both.
+// The end of the input, with what is left of it: there must be no newline in it, as after a `feed` with room for a row that wrote none. Writes the
+// row of a last line that lacks its newline, and the totals. Answers how many bytes it wrote: none where the output has no room for both.
 pub fn finish(left: &[u8], output: &mut [u8], state: State) -> usize
     ensures wrote { λ r. ⌜ r ≡ length (finish state (now (left .entry)) (length (now (output .entry)))) ⌝ }
     ensures output { λ r. ⌜ now (output .exit) ≡ inFront (finish state (now (left .entry)) (length (now (output .entry)))) (now (output .entry)) ⌝ }

@@ -14,6 +14,7 @@ pub enum Class {
     Byte(u8),
 }
 
+// Whether a byte is from `low` to `high`, both included.
 pub fn is_between(byte: u8, low: u8, high: u8) -> bool
     ensures { λ r. ⌜ r ≡ between low high byte ⌝ }
 {

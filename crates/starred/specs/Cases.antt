@@ -71,11 +71,11 @@ skipped =
     })
 
 -- decoding: these bytes, and what is left of the output behind them; or a refusal and the output
-abbrev pub value : List ℕ → List ℕ → Told
-value bytes left = decoded (record { number = 0; offset = 0; written = length bytes }) (bytes ++ left)
+abbrev pub decodedValue : List ℕ → List ℕ → Told
+decodedValue bytes left = decoded (record { number = 0; offset = 0; written = length bytes }) (bytes ++ left)
 
-abbrev pub refused : ℕ → ℕ → List ℕ → Told
-refused number offset output = decoded (record { number = number; offset = offset; written = 0 }) output
+abbrev pub notDecoded : ℕ → ℕ → List ℕ → Told
+notDecoded number offset output = decoded (record { number = number; offset = offset; written = 0 }) output
 
 -- ---- Cases
 
@@ -83,8 +83,11 @@ refused number offset output = decoded (record { number = number; offset = offse
 abbrev pub only : ℕ → List ℕ
 only version = version ∷ []
 
+abbrev pub after51 : List ℕ
+after51 = 2 ∷ 3 ∷ 4 ∷ 5 ∷ 6 ∷ []
+
 abbrev pub every : List ℕ
-every = 1 ∷ 2 ∷ 3 ∷ 4 ∷ 5 ∷ 6 ∷ []
+every = 1 ∷ after51
 
 -- under each of these versions, this is asked and this wanted
 pub data Case : Type 0 where

@@ -13,8 +13,8 @@ use Rattle.luck_text.specs.Bytes.{ascii}
 use Rattle.luck_linter.specs.Computed.{computed as checksComputed}
 use Rattle.lstr_gsub.specs.Computed.{computed as trialComputed}
 use Rattle.starred.specs.Cases.{format, pattern, pack, packsize, date, replacement, literal, decode, trial}
-use Rattle.starred.specs.Cases.{checked, spanned, unspanned, skipped, value, refused, tried}
-use Rattle.starred.specs.Cases.{Case, case, only, every, told, wanted}
+use Rattle.starred.specs.Cases.{checked, spanned, unspanned, skipped, decodedValue, notDecoded, tried}
+use Rattle.starred.specs.Cases.{Case, case, only, after51, every, told, wanted}
 
 abbrev times : ℕ → List ℕ → List ℕ
 times zero text = []
@@ -81,7 +81,8 @@ literals =
     ∷ case (only 4) (literal (code "P") none 10 (ascii "\"(a\""))
     (spanned (record { number = 11; offset = 2; first = 0; second = 0; count = 0 }) 13 14)
     ∷ case (only 4) (literal (code "F") none 0xFFFF_FFFE (ascii "\"a%#d\""))
-    (spanned (record { number = 6; offset = 2; first = code "#"; second = code "d"; count = 0 }) 0xFFFF_FFFF 0xFFFF_FFFF)
+    (spanned (record { number = 6; offset = 2; first = code "#"; second = code "d"; count = 0 })
+    0xFFFF_FFFF 0xFFFF_FFFF)
     ∷ case (only 4) (literal (code "P") none 10 (ascii "\"(a)\""))
     (unspanned (record { number = 0; offset = 0; first = 0; second = 0; count = 1 }))
     ∷ case (only 4) (literal (code "P") none 10 (ascii "\"(\\097\""))
@@ -102,32 +103,29 @@ literals-hold = refl
 
 -- ---- Decoding
 
-abbrev five : List ℕ
-five = ascii "....."
+abbrev fiveBytes : List ℕ
+fiveBytes = ascii "....."
 
 abbrev pub decodings : List Case
 decodings =
-    case (only 4) (decode (ascii "\"\\u{E9}\\z  \\065\"") five) (value (0xC3 ∷ 0xA9 ∷ ascii "A") (ascii ".."))
-    ∷ case (only 4) (decode (ascii "[=[" ++ (code "\r" ∷ code "\n" ∷ []) ++ ascii "a]]]=]") five)
-    (value (ascii "a]]") (ascii ".."))
-    ∷ case (only 2) (decode (ascii "\"\\q\"") five) (refused 24 0 five)
-    ∷ case (only 1) (decode (ascii "\"\\q\"") five) (value (ascii "q") (ascii "...."))
-    ∷ case (only 3) (decode (ascii "\"\\u{D800}\"") five) (refused 24 0 five)
-    ∷ case (only 4) (decode (ascii "'ab'") (ascii ".")) (refused 26 0 (ascii "."))
-    ∷ case (only 4) (decode (ascii "'a" ++ (0xFF ∷ []) ++ ascii "'") five) (refused 23 2 five)
-    ∷ case (only 7) (decode (0xFF ∷ []) five) (refused 25 0 five)
+    case (only 4) (decode (ascii "\"\\u{E9}\\z  \\065\"") fiveBytes)
+    (decodedValue (0xC3 ∷ 0xA9 ∷ ascii "A") (ascii ".."))
+    ∷ case (only 4) (decode (ascii "[=[" ++ (code "\r" ∷ code "\n" ∷ []) ++ ascii "a]]]=]") fiveBytes)
+    (decodedValue (ascii "a]]") (ascii ".."))
+    ∷ case (only 2) (decode (ascii "\"\\q\"") fiveBytes) (notDecoded 24 0 fiveBytes)
+    ∷ case (only 1) (decode (ascii "\"\\q\"") fiveBytes) (decodedValue (ascii "q") (ascii "...."))
+    ∷ case (only 3) (decode (ascii "\"\\u{D800}\"") fiveBytes) (notDecoded 24 0 fiveBytes)
+    ∷ case (only 4) (decode (ascii "'ab'") (ascii ".")) (notDecoded 26 0 (ascii "."))
+    ∷ case (only 4) (decode (ascii "'a" ++ (0xFF ∷ []) ++ ascii "'") fiveBytes) (notDecoded 23 2 fiveBytes)
+    ∷ case (only 7) (decode (0xFF ∷ []) fiveBytes) (notDecoded 25 0 fiveBytes)
     ∷ []
 
 pub decodings-hold : told decodings ≡ wanted decodings
 unfolding checksComputed
 decodings-hold = refl
 
--- Each other kind of escape, and of line break, in every version.
 abbrev lua : List ℕ
 lua = 1 ∷ 2 ∷ 3 ∷ 4 ∷ 5 ∷ []
-
-abbrev from52 : List ℕ
-from52 = 2 ∷ 3 ∷ 4 ∷ 5 ∷ 6 ∷ []
 
 abbrev lf : List ℕ
 lf = code "\n" ∷ []
@@ -141,22 +139,25 @@ escapedBreaks = ascii "'\\" ++ lf ++ cr ++ ascii "\\" ++ cr ++ lf ++ ascii "'"
 abbrev longBreaks : List ℕ
 longBreaks = ascii "[[" ++ lf ++ ascii "a" ++ cr ++ lf ++ lf ++ cr ++ cr ++ ascii "]]"
 
+-- each other kind of escape, and of line break, in every version
 abbrev pub escapes : List Case
 escapes =
     case every (decode (ascii "\"\\a\\b\\f\\n\\r\\t\\v\\\\\\\"\\'\"") (ascii "..........."))
-    (value (0x07 ∷ 0x08 ∷ 0x0C ∷ (lf ++ cr ++ (code "\t" ∷ 0x0B ∷ ascii "\\\"'"))) (ascii "."))
-    ∷ case every (decode (ascii "'\\0651\\9\\255'") five) (value (ascii "A1" ++ (code "\t" ∷ 0xFF ∷ [])) (ascii "."))
-    ∷ case every (decode (ascii "'\\256'") five) (refused 24 0 five)
-    ∷ case (only 1) (decode (ascii "'\\x4a\\z a'") (ascii "......")) (value (ascii "x4az a") [])
-    ∷ case from52 (decode (ascii "'\\x4a\\x4A\\z a'") five) (value (ascii "JJa") (ascii ".."))
-    ∷ case from52 (decode (ascii "'\\x4'") five) (refused 24 0 five)
-    ∷ case (3 ∷ 4 ∷ 5 ∷ 6 ∷ []) (decode (ascii "'\\u{e9}'") five) (value (0xC3 ∷ 0xA9 ∷ []) (ascii "..."))
-    ∷ case (1 ∷ 6 ∷ []) (decode (ascii "'\\q'") five) (value (ascii "q") (ascii "...."))
-    ∷ case (2 ∷ 3 ∷ 4 ∷ 5 ∷ []) (decode (ascii "'\\q'") five) (refused 24 0 five)
-    ∷ case lua (decode escapedBreaks five) (value (lf ++ lf) (ascii "..."))
-    ∷ case (only 6) (decode escapedBreaks five) (value (lf ++ cr ++ lf) (ascii ".."))
-    ∷ case lua (decode longBreaks five) (value (ascii "a" ++ lf ++ lf ++ lf) (ascii "."))
-    ∷ case (only 6) (decode longBreaks five) (value (ascii "a" ++ lf ++ lf ++ cr ++ cr) [])
+    (decodedValue (0x07 ∷ 0x08 ∷ 0x0C ∷ (lf ++ cr ++ (code "\t" ∷ 0x0B ∷ ascii "\\\"'"))) (ascii "."))
+    ∷ case every (decode (ascii "'\\0651\\9\\255'") fiveBytes)
+    (decodedValue (ascii "A1" ++ (code "\t" ∷ 0xFF ∷ [])) (ascii "."))
+    ∷ case every (decode (ascii "'\\256'") fiveBytes) (notDecoded 24 0 fiveBytes)
+    ∷ case (only 1) (decode (ascii "'\\x4a\\z a'") (ascii "......")) (decodedValue (ascii "x4az a") [])
+    ∷ case after51 (decode (ascii "'\\x4a\\x4A\\z a'") (ascii "......")) (decodedValue (ascii "JJa") (ascii "..."))
+    ∷ case after51 (decode (ascii "'\\x4'") fiveBytes) (notDecoded 24 0 fiveBytes)
+    ∷ case (3 ∷ 4 ∷ 5 ∷ 6 ∷ []) (decode (ascii "'\\u{e9}'") fiveBytes) (decodedValue (0xC3 ∷ 0xA9 ∷ []) (ascii "..."))
+    ∷ case (1 ∷ 6 ∷ []) (decode (ascii "'\\q'") fiveBytes) (decodedValue (ascii "q") (ascii "...."))
+    ∷ case (2 ∷ 3 ∷ 4 ∷ 5 ∷ []) (decode (ascii "'\\q'") fiveBytes) (notDecoded 24 0 fiveBytes)
+    ∷ case lua (decode escapedBreaks fiveBytes) (decodedValue (lf ++ lf) (ascii "..."))
+    ∷ case (only 6) (decode escapedBreaks fiveBytes) (decodedValue (lf ++ cr ++ lf) (ascii ".."))
+    ∷ case lua (decode longBreaks (ascii ".......")) (decodedValue (ascii "a" ++ lf ++ lf ++ lf) (ascii "..."))
+    ∷ case (only 6) (decode longBreaks (ascii "......."))
+    (decodedValue (ascii "a" ++ lf ++ lf ++ cr ++ cr) (ascii ".."))
     ∷ []
 
 pub escapes-hold : told escapes ≡ wanted escapes

@@ -10,11 +10,8 @@ use lib.ListN.{length, drop}
 use Rattle.luck_text.specs.Bytes.{ascii}
 use Rattle.luck_linter.specs.Computed.{computed}
 use Rattle.starred.specs.Cases.{format, pattern, pack, packsize, date, replacement, literal, decode}
-use Rattle.starred.specs.Cases.{checked, spanned, unspanned, skipped, value, refused}
-use Rattle.starred.specs.Cases.{Asked, Case, case, only, every, each, told, wanted}
-
-abbrev laterVersions : List ℕ
-laterVersions = 2 ∷ 3 ∷ 4 ∷ 5 ∷ 6 ∷ []
+use Rattle.starred.specs.Cases.{checked, spanned, unspanned, skipped, decodedValue, notDecoded}
+use Rattle.starred.specs.Cases.{Asked, Case, case, only, after51, every, each, told, wanted}
 
 -- ---- F-4: code points up to 7FFFFFFF in 5.4 and 5.5
 
@@ -31,8 +28,8 @@ lent = ascii "........"
 abbrev codePoint : List ℕ → List ℕ
 codePoint digits = ascii "\"\\u{" ++ digits ++ ascii "}\""
 
--- Digits and the bytes of what they spell: the first and the last of each number of bytes, surrogates, the last that has
--- a character, five and six bytes that all differ, and many digits.
+-- Digits and the bytes of what they spell: the first and the last of each number of bytes, surrogates, the last that
+-- has a character, five and six bytes that all differ, and many digits.
 abbrev pub codePoints : List (List ℕ × List ℕ)
 codePoints =
     (ascii "0", 0x00 ∷ []) ∷
@@ -56,42 +53,43 @@ codePoints =
     (ascii "000000000000000000041", 0x41 ∷ []) ∷ []
 
 abbrev decodedTo : List ℕ × List ℕ → Case
-decodedTo row = case lua54and55 (decode (codePoint (row .0)) lent) (value (row .1) (drop (length (row .1)) lent))
+decodedTo row = case lua54and55 (decode (codePoint (row .0)) lent) (decodedValue (row .1) (drop (length (row .1)) lent))
 
 pub code-points-hold : told (each decodedTo codePoints) ≡ wanted (each decodedTo codePoints)
 unfolding computed
 code-points-hold = refl
 
--- More than 7FFFFFFF, a number whose lowest 64 bits are 41, no digit, and five bytes for a code point of six. In the
+-- More than 7FFFFFFF, a number whose lowest 64 bits are 41, no digit, and an output of five bytes for six. In the
 -- other versions: 5.3 and Luau decode characters, Luau in at most 16 digits; 5.2 refuses `\u`, 5.1 reads a letter.
-abbrev pub others : List Case
-others =
-    case lua54and55 (decode (codePoint (ascii "80000000")) lent) (refused 24 0 lent)
-    ∷ case lua54and55 (decode (codePoint (ascii "10000000000000041")) lent) (refused 24 0 lent)
-    ∷ case lua54and55 (decode (codePoint []) lent) (refused 24 0 lent)
-    ∷ case lua54and55 (decode (codePoint (ascii "7FFFFFFF")) (ascii ".....")) (refused 26 0 (ascii "....."))
-    ∷ case lua53andLuau (decode (codePoint (ascii "D800")) lent) (refused 24 0 lent)
-    ∷ case lua53andLuau (decode (codePoint (ascii "DFFF")) lent) (refused 24 0 lent)
-    ∷ case lua53andLuau (decode (codePoint (ascii "110000")) lent) (refused 24 0 lent)
+abbrev pub otherCodePoints : List Case
+otherCodePoints =
+    case lua54and55 (decode (codePoint (ascii "80000000")) lent) (notDecoded 24 0 lent)
+    ∷ case lua54and55 (decode (codePoint (ascii "10000000000000041")) lent) (notDecoded 24 0 lent)
+    ∷ case lua54and55 (decode (codePoint []) lent) (notDecoded 24 0 lent)
+    ∷ case lua54and55 (decode (codePoint (ascii "7FFFFFFF")) (ascii ".....")) (notDecoded 26 0 (ascii "....."))
+    ∷ case lua53andLuau (decode (codePoint (ascii "D800")) lent) (notDecoded 24 0 lent)
+    ∷ case lua53andLuau (decode (codePoint (ascii "DFFF")) lent) (notDecoded 24 0 lent)
+    ∷ case lua53andLuau (decode (codePoint (ascii "110000")) lent) (notDecoded 24 0 lent)
     ∷ case lua53andLuau (decode (codePoint (ascii "10FFFF")) lent)
-    (value (0xF4 ∷ 0x8F ∷ 0xBF ∷ 0xBF ∷ []) (ascii "...."))
-    ∷ case (only 3) (decode (codePoint (ascii "000000000000000000041")) lent) (value (ascii "A") (ascii "......."))
-    ∷ case (only 6) (decode (codePoint (ascii "0000000000000041")) lent) (value (ascii "A") (ascii "......."))
-    ∷ case (only 6) (decode (codePoint (ascii "00000000000000041")) lent) (refused 24 0 lent)
-    ∷ case (only 2) (decode (codePoint (ascii "41")) lent) (refused 24 0 lent)
-    ∷ case (only 1) (decode (codePoint (ascii "41")) lent) (value (ascii "u{41}") (ascii "..."))
+    (decodedValue (0xF4 ∷ 0x8F ∷ 0xBF ∷ 0xBF ∷ []) (ascii "...."))
+    ∷ case (only 3) (decode (codePoint (ascii "000000000000000000041")) lent)
+    (decodedValue (ascii "A") (ascii "......."))
+    ∷ case (only 6) (decode (codePoint (ascii "0000000000000041")) lent) (decodedValue (ascii "A") (ascii "......."))
+    ∷ case (only 6) (decode (codePoint (ascii "00000000000000041")) lent) (notDecoded 24 0 lent)
+    ∷ case (only 2) (decode (codePoint (ascii "41")) lent) (notDecoded 24 0 lent)
+    ∷ case (only 1) (decode (codePoint (ascii "41")) lent) (decodedValue (ascii "u{41}") (ascii "..."))
     ∷ []
 
-pub others-hold : told others ≡ wanted others
+pub other-code-points-hold : told otherCodePoints ≡ wanted otherCodePoints
 unfolding computed
-others-hold = refl
+other-code-points-hold = refl
 
 -- A value that is not UTF-8 is 23 to every check: ED A0 80 is `\u{D800}` of 5.4, and FF is `\255`.
-abbrev surrogate : List ℕ
-surrogate = ascii "a" ++ (0xED ∷ 0xA0 ∷ 0x80 ∷ [])
+abbrev withSurrogate : List ℕ
+withSurrogate = ascii "a" ++ (0xED ∷ 0xA0 ∷ 0x80 ∷ [])
 
-abbrev byteFF : List ℕ
-byteFF = ascii "a" ++ (0xFF ∷ [])
+abbrev withFF : List ℕ
+withFF = ascii "a" ++ (0xFF ∷ [])
 
 abbrev checks : List ℕ → List Asked
 checks text = format text ∷ pattern text ∷ pack text ∷ packsize text ∷ date text ∷ replacement none text ∷ []
@@ -101,8 +99,8 @@ notUtf8 asked = case every asked (checked (record { number = 23; offset = 1; fir
 
 abbrev pub valuesChecked : List Case
 valuesChecked =
-    case every (decode (ascii "'a\\255'") lent) (value byteFF (ascii "......"))
-    ∷ each notUtf8 (checks surrogate ++ checks byteFF)
+    case every (decode (ascii "'a\\255'") lent) (value withFF (ascii "......"))
+    ∷ each notUtf8 (checks withSurrogate ++ checks withFF)
 
 pub values-checked-hold : told valuesChecked ≡ wanted valuesChecked
 unfolding computed
@@ -118,7 +116,7 @@ onceUtf8 =
     (checked (record { number = 0; offset = 0; first = 0; second = 0; count = 0 }))
     ∷ case (only 1) (replacement (some 8) (ascii "%9%x%"))
     (checked (record { number = 21; offset = 1; first = 0; second = 0; count = 0 }))
-    ∷ case laterVersions (replacement none (ascii "%9%x%"))
+    ∷ case after51 (replacement none (ascii "%9%x%"))
     (checked (record { number = 20; offset = 3; first = 0; second = 0; count = 0 }))
     ∷ case (only 1) (replacement none (ascii "%9" ++ (0xFF ∷ [])))
     (checked (record { number = 23; offset = 2; first = 0; second = 0; count = 0 }))

@@ -1,13 +1,13 @@
-//! Reads and writes that fail: the program says so on standard error, and the totals are left out.
+//! Reads and writes that fail: the program says so on standard error, and no whole line of totals is written.
 
 use std::fmt;
-use std::fs::File;
-use std::io::{self, PipeReader, PipeWriter, Read, Write};
+use std::fs::{self, File};
+use std::io::{self, PipeReader, PipeWriter, Read, Seek, Write};
 use std::os::fd::{AsRawFd, OwnedFd};
 use std::os::unix::net::{UnixDatagram, UnixStream};
-use std::os::unix::process::ExitStatusExt;
+use std::os::unix::process::{CommandExt, ExitStatusExt};
 use std::path::Path;
-use std::process::{Child, Command, ExitStatus};
+use std::process::{self, Child, Command, ExitStatus};
 use std::sync::atomic::{AtomicBool, Ordering};
 use std::thread;
 use std::time::{Duration, Instant};
@@ -19,6 +19,8 @@ use crate::lines;
 const LIMIT: Duration = Duration::from_secs(10);
 /// The bytes of a row, with its newline.
 const ROW: usize = 19;
+/// The bytes of the totals, without theirs.
+const TOTALS: usize = 14;
 
 /// What fails.
 #[derive(Debug, Clone, Copy, PartialEq, Eq)]
@@ -29,6 +31,8 @@ enum Cause {
     LeftPipe,
     /// A socket that refuses much at once and takes little: what a program writes after a failed write comes through.
     ShortMessages,
+    /// A file that may have so many bytes.
+    LimitedFile(usize),
     Folder,
     /// A socket that gives the input, then fails once, and then is at its end.
     BrokenConnection,
@@ -59,7 +63,16 @@ pub fn all() -> impl Iterator<Item = Failure> {
         (Cause::Folder, vec![vec![]]),
         (Cause::BrokenConnection, before_the_break()),
     ];
-    inputs.into_iter().flat_map(|(cause, inputs)| inputs.into_iter().map(move |input| Failure { cause, input }))
+    let failures = inputs.into_iter().flat_map(|(cause, inputs)| inputs.into_iter().map(move |input| Failure { cause, input }));
+    failures.chain(cut_listings())
+}
+
+/// Listings that are cut off at each byte, the last row and the totals too.
+fn cut_listings() -> impl Iterator<Item = Failure> {
+    let inputs: [&[u8]; 3] = [b"", b"F1   %d\nG4 1 %2\n\nP1   [^]\n", b"F1   %d\nG4 1 %2\n\nP1   [^]"];
+    inputs.into_iter().flat_map(|input| {
+        (0..lines::output(input).len()).map(|limit| Failure { cause: Cause::LimitedFile(limit), input: input.to_vec() })
+    })
 }
 
 /// Of the first only the totals can fail to be written.
@@ -89,13 +102,14 @@ impl Failure {
         const SIGPIPE: i32 = 13;
         let Run { status, output, said } = self.run(program)?;
         let Some(status) = status else { return Ok(Some(format!("it has not ended after {} s", LIMIT.as_secs()))) };
-        Ok(match status.signal() {
-            Some(SIGPIPE) => self.wrong_row(&output),
-            Some(_) => Some(format!("ended with {status}")),
-            None if !said.is_empty() => self.wrong_row(&output),
+        Ok(match (status.signal(), self.cause) {
+            (Some(SIGPIPE), _) => self.wrong_row(&output),
+            (Some(_), _) => Some(format!("ended with {status}")),
+            (None, Cause::LimitedFile(limit)) if !said.is_empty() => self.wrong_beginning(limit, &output),
+            (None, _) if !said.is_empty() => self.wrong_row(&output),
             // Nothing fails where the program writes less at once.
-            None if self.cause == Cause::ShortMessages && output == lines::output(&self.input) => None,
-            None => Some(format!("nothing is said on standard error, and written is {}", Shown(&output))),
+            (None, Cause::ShortMessages) if output == lines::output(&self.input) => None,
+            (None, _) => Some(format!("nothing is said on standard error, and written is {}", Shown(&output))),
         })
     }
 
@@ -109,6 +123,15 @@ impl Failure {
         }
         let same = rows.chunks(ROW).zip(output.chunks(ROW)).take_while(|(wanted, found)| wanted == found).count();
         Some(format!("after {same} rows that are right it wrote {}", Shown(&output[same * ROW..])))
+    }
+
+    /// The listing's first bytes are there, and do not look like a whole one.
+    fn wrong_beginning(&self, limit: usize, output: &[u8]) -> Option<String> {
+        if is_whole(output) {
+            return Some(format!("what is there ends like a whole listing: {}", Shown(output)));
+        }
+        let wanted = &lines::output(&self.input)[..limit];
+        (output != wanted).then(|| format!("wanted {}, found {}", Shown(wanted), Shown(output)))
     }
 
     fn run(&self, program: &Path) -> io::Result<Run> {
@@ -137,6 +160,15 @@ impl Failure {
                 command.stdout(OwnedFd::from(theirs));
                 run(command, || feed(stdin, input), |has_ended| messages(&ours, has_ended))
             }
+            Cause::LimitedFile(limit) => {
+                let stdin = piped_input(&mut command)?;
+                let mut file = unnamed_file()?;
+                command.stdout(file.try_clone()?);
+                limit_files(&mut command, limit as u64);
+                let run = run(command, || feed(stdin, input), |_| vec![])?;
+                file.rewind()?;
+                Ok(Run { output: bytes_of(file), ..run })
+            }
             Cause::Folder => {
                 command.stdin(File::open(".")?);
                 let stdout = piped_output(&mut command)?;
@@ -157,6 +189,7 @@ impl Failure {
 impl fmt::Display for Failure {
     fn fmt(&self, f: &mut fmt::Formatter<'_>) -> fmt::Result {
         let cause = match self.cause {
+            Cause::LimitedFile(limit) => return write!(f, "{} to a file of at most {limit} bytes", Shown(&self.input)),
             Cause::FullDevice => "to a full device",
             Cause::ClosedPipe => "to a closed pipe",
             Cause::LeftPipe => "to a pipe that is closed after the first row",
@@ -166,6 +199,21 @@ impl fmt::Display for Failure {
         };
         write!(f, "{} {cause}", Shown(&self.input))
     }
+}
+
+/// What README.md says of a listing: its last line has 14 columns and its newline.
+fn is_whole(output: &[u8]) -> bool {
+    output
+        .strip_suffix(b"\n")
+        .is_some_and(|lines| lines.rsplit(|&byte| byte == b'\n').next().is_some_and(|last| last.len() == TOTALS))
+}
+
+/// A file that is gone when it is closed.
+fn unnamed_file() -> io::Result<File> {
+    let path = std::env::temp_dir().join(format!("compare-lines-{}", process::id()));
+    let file = File::options().read(true).write(true).create_new(true).open(&path)?;
+    fs::remove_file(path)?;
+    Ok(file)
 }
 
 fn piped_input(command: &mut Command) -> io::Result<PipeWriter> {
@@ -245,6 +293,24 @@ fn messages(socket: &UnixDatagram, has_ended: &AtomicBool) -> Vec<u8> {
 
 unsafe extern "C" {
     fn setsockopt(socket: i32, level: i32, name: i32, value: *const i32, size: u32) -> i32;
+    fn setrlimit(resource: i32, limits: *const [u64; 2]) -> i32;
+    fn signal(number: i32, handler: usize) -> usize;
+}
+
+/// Lets a program write files of so many bytes: a write beyond them fails, and no signal ends the program.
+fn limit_files(command: &mut Command, bytes: u64) {
+    /// Of Linux.
+    const RLIMIT_FSIZE: i32 = 1;
+    const SIGXFSZ: i32 = 25;
+    const SIG_IGN: usize = 1;
+    let limit = move || {
+        // SAFETY: the call reads two numbers by the pointer, the limit and the largest one allowed; the other only sets a flag.
+        let failed = unsafe { setrlimit(RLIMIT_FSIZE, &[bytes; 2]) };
+        unsafe { signal(SIGXFSZ, SIG_IGN) };
+        if failed == 0 { Ok(()) } else { Err(io::Error::last_os_error()) }
+    };
+    // SAFETY: between fork and exec only these two system calls are made.
+    unsafe { command.pre_exec(limit) };
 }
 
 /// Gives a socket as little room for what is sent as the system allows, some 4 KiB: a longer message is refused.
