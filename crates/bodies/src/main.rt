@@ -6,7 +6,7 @@ ghost use Prim.Native.Nat.{_+_, _≤_, _<_};
 ghost use lib.ListN.{length, drop};
 ghost use Rattle.luck_text.specs.Bytes.{part};
 ghost use Rattle.luck_line.specs.Line.{longest};
-ghost use Rattle.luck_lines.specs.Stream.{rowLength, totalsLength, lineLength, feed};
+ghost use Rattle.luck_lines.specs.Stream.{rowLength, totalsLength, lineLength, start, feed};
 ghost use Rattle.bodies.specs.Held.{HeldWithin, Unended, heldIn, HeldGoesOn};
 use libc::STDIN_FILENO;
 use libc::STDOUT_FILENO;
@@ -20,6 +20,19 @@ struct Held {
     end: usize,
     state: State,
     more: bool,
+}
+
+// Before the first read.
+fn first() -> Held
+    ensures { λ r. ⌜ HeldWithin r 0 ⌝ }
+    ensures { λ r. ⌜ r .state ≡ start ⌝ }
+{
+    Held {
+        at: 0,
+        end: 0,
+        state: stream::start(),
+        more: true,
+    }
 }
 
 // An error was said, or the input has ended. After an error no totals are written, by which a loader tells that the listing is not whole.
@@ -112,12 +125,7 @@ fn list(input: &mut [u8], output: &mut [u8])
     requires { ⌜ longest < length (now input) ⌝ }
     requires { ⌜ rowLength + totalsLength ≤ length (now output) ⌝ }
 {
-    let mut held = Held {
-        at: 0,
-        end: 0,
-        state: stream::start(),
-        more: true,
-    };
+    let mut held = first();
     let mut turns = u64::MAX;
     while 0 < turns {
         held = list_some(input, output, held);

@@ -10,7 +10,7 @@ use lib.ListN.{length, drop}
 use Rattle.luck_text.specs.Bytes.{among}
 use Rattle.luck_line.specs.Line.{longest, lineAnswer, lineNumbers}
 use Rattle.luck_lines.specs.Lines.{lines, listing, isEmpty, isWhole}
-use Rattle.luck_lines.specs.Stream.{rowLength, totalsLength, lineLength, start, feed, listingAfter, Run}
+use Rattle.luck_lines.specs.Stream.{rowLength, totalsLength, lineLength, start, feed, finish, listingAfter, Run, stops, fails}
 use Rattle.luck_lines.specs.declared.stream.State.{State}
 use Rattle.luck_line.proofs.Answers.{line-fits}
 use Rattle.luck_lines.proofs.Listings.{from-start}
@@ -33,6 +33,14 @@ listing-length input = listing-bytes input
 -- of all beginnings of a listing only the whole one ends in a line of 14 columns and its newline
 pub whole-told : (input out rest : List ℕ) → out ++ rest ≡ listing input → isWhole out ≡ isEmpty rest
 whole-told input out rest e = whole-or-cut input out rest e
+
+-- a run may fail at any time before its last write, and at each byte of it;
+pub some-stop : (s : State) (held input : List ℕ) → Run false s held input []
+some-stop s held input = stops s held input
+
+pub some-failure : (s : State) (held : List ℕ) (room : ℕ) (written rest : List ℕ) → lineLength held ≡ length held → rowLength + totalsLength ≤ room
+    → written ++ rest ≡ finish s held room → isEmpty rest ≡ false → Run false s held [] written
+some-failure s held room written rest e h f n = fails s held room written rest e h f n
 
 -- what a run wrote that failed begins the listing, and is not all of it;
 pub failed-begins : (input written : List ℕ) → Run false start [] input written → (more : List ℕ) × ((written ++ more ≡ listing input) × (isEmpty more ≡ false))

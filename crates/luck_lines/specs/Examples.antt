@@ -6,7 +6,7 @@ use Prim.Native.Char.{code}
 use mathlib.Core.Path.{_≡_, refl}
 use mathlib.Core.Bool.{Bool, true, false, _&&_}
 use mathlib.Core.List.{List, [], _∷_, _++_}
-use lib.ListN.{replicate}
+use lib.ListN.{length, replicate}
 use Rattle.luck_text.specs.Bytes.{ascii, if_then_else_, among}
 use Rattle.luck_answer.specs.Answer.{refused}
 use Rattle.luck_linter.specs.Computed.{computed as checksComputed}
@@ -127,6 +127,11 @@ numbersOf (text ∷ more) = lineAnswer text .number ∷ numbersOf more
 abbrev allAmong : List ℕ → List ℕ → Bool
 allAmong [] numbers = true
 allAmong (n ∷ more) numbers = among n numbers && allAmong more numbers
+
+-- all of them but the first are counted as refused
+pub all-refused : (length answered ≡ 27) × (refusedCount (answers answered) ≡ 26)
+unfolding computed
+all-refused = (refl, refl)
 
 -- the list of a line's numbers has no other
 pub line-numbers : allAmong lineNumbers (numbersOf answered) ≡ true

@@ -120,6 +120,10 @@ impl<'program> LineComparison<'program> {
             input.extend(line_of(LONGEST + 1, b"\n\n\n"));
             input.extend(b"P1   (a");
             let pieces: Vec<&[u8]> = input.chunks(1).collect();
+            comparison.compare(&input, &pieces)?;
+            // As many reads as a count of 16 bits does not hold.
+            let input = vec![b'\n'; 70_000];
+            let pieces: Vec<&[u8]> = input.chunks(1).collect();
             comparison.compare(&input, &pieces)
         })
     }

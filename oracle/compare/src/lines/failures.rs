@@ -31,9 +31,17 @@ enum Cause {
     LeftPipe,
     /// A socket that refuses much at once and takes little: what a program writes after a failed write comes through.
     ShortMessages,
+    /// A connection on which a write fails and later ones would not. The first write is cut short before that, unless there is no
+    /// room at all for it.
+    SlowReader {
+        is_full: bool,
+    },
     /// A file that may have so many bytes.
     LimitedFile(usize),
     Folder,
+    ClosedInput,
+    /// A socket that gives the input, and then has nothing at the moment.
+    NothingYet,
     /// A socket that gives the input, then fails once, and then is at its end.
     BrokenConnection,
 }
@@ -60,7 +68,11 @@ pub fn all() -> impl Iterator<Item = Failure> {
         (Cause::LeftPipe, vec![vec![b'\n'; 300_000]]),
         // However many rows the program writes at once, few are left for the last time after one of these numbers of lines.
         (Cause::ShortMessages, (4000..8000).step_by(200).map(|lines| vec![b'\n'; lines]).collect()),
+        (Cause::SlowReader { is_full: false }, vec![vec![b'\n'; 300_000]]),
+        (Cause::SlowReader { is_full: true }, vec![b"F".to_vec()]),
         (Cause::Folder, vec![vec![]]),
+        (Cause::ClosedInput, vec![vec![]]),
+        (Cause::NothingYet, vec![vec![], b"F1   %d\nF".to_vec()]),
         (Cause::BrokenConnection, before_the_break()),
     ];
     let failures = inputs.into_iter().flat_map(|(cause, inputs)| inputs.into_iter().map(move |input| Failure { cause, input }));
@@ -108,7 +120,7 @@ impl Failure {
             (None, Cause::LimitedFile(limit)) if !said.is_empty() => self.wrong_beginning(limit, &output),
             (None, _) if !said.is_empty() => self.wrong_row(&output),
             // Nothing fails where the program writes less at once.
-            (None, Cause::ShortMessages) if output == lines::output(&self.input) => None,
+            (None, Cause::ShortMessages | Cause::SlowReader { .. }) if output == lines::output(&self.input) => None,
             (None, _) => Some(format!("nothing is said on standard error, and written is {}", Shown(&output))),
         })
     }
@@ -169,6 +181,32 @@ impl Failure {
                 file.rewind()?;
                 Ok(Run { output: bytes_of(file), ..run })
             }
+            Cause::SlowReader { is_full } => {
+                let stdin = piped_input(&mut command)?;
+                let (ours, theirs) = UnixStream::pair()?;
+                least_room(&theirs);
+                let filled = if is_full { fill(&theirs)? } else { 0 };
+                theirs.set_write_timeout(Some(PAUSE))?;
+                command.stdout(OwnedFd::from(theirs));
+                // The write that fails is the first one, or the second.
+                let wait = if is_full { PAUSE * 3 / 2 } else { PAUSE * 5 / 2 };
+                let run = run(command, || feed(stdin, input), |_| late_bytes(&ours, wait))?;
+                Ok(Run { output: run.output[filled..].to_vec(), ..run })
+            }
+            Cause::ClosedInput => {
+                let stdout = piped_output(&mut command)?;
+                // SAFETY: between fork and exec only this system call is made.
+                unsafe { command.pre_exec(|| if close(0) == 0 { Ok(()) } else { Err(io::Error::last_os_error()) }) };
+                run(command, || (), |_| bytes_of(&stdout))
+            }
+            Cause::NothingYet => {
+                let (mut ours, theirs) = UnixStream::pair()?;
+                ours.write_all(input)?;
+                theirs.set_nonblocking(true)?;
+                command.stdin(OwnedFd::from(theirs));
+                let stdout = piped_output(&mut command)?;
+                run(command, || (), |_| bytes_of(&stdout))
+            }
             Cause::Folder => {
                 command.stdin(File::open(".")?);
                 let stdout = piped_output(&mut command)?;
@@ -194,7 +232,11 @@ impl fmt::Display for Failure {
             Cause::ClosedPipe => "to a closed pipe",
             Cause::LeftPipe => "to a pipe that is closed after the first row",
             Cause::ShortMessages => "to a socket for short messages",
+            Cause::SlowReader { is_full: false } => "to a connection with little room, whose reader pauses",
+            Cause::SlowReader { is_full: true } => "to a connection without room, whose reader pauses",
             Cause::Folder => "from a folder",
+            Cause::ClosedInput => "from a closed descriptor",
+            Cause::NothingYet => "from a connection that has nothing after it yet",
             Cause::BrokenConnection => "from a connection that breaks after it",
         };
         write!(f, "{} {cause}", Shown(&self.input))
@@ -275,6 +317,26 @@ fn bytes_of(written: impl Read) -> Vec<u8> {
     bytes
 }
 
+/// How long a write waits for room before it fails.
+const PAUSE: Duration = Duration::from_millis(200);
+
+/// All that is written, taken only after a while.
+fn late_bytes(stdout: &UnixStream, wait: Duration) -> Vec<u8> {
+    thread::sleep(wait);
+    bytes_of(stdout)
+}
+
+/// Writes until there is no more room, and answers how many bytes were written.
+fn fill(socket: &UnixStream) -> io::Result<usize> {
+    let mut filled = 0;
+    socket.set_nonblocking(true)?;
+    while let Ok(length) = (&*socket).write(b".") {
+        filled += length;
+    }
+    socket.set_nonblocking(false)?;
+    Ok(filled)
+}
+
 /// All messages, end to end. Such a socket does not say that the other end is closed.
 fn messages(socket: &UnixDatagram, has_ended: &AtomicBool) -> Vec<u8> {
     const TURN: Duration = Duration::from_millis(1);
@@ -295,6 +357,7 @@ unsafe extern "C" {
     fn setsockopt(socket: i32, level: i32, name: i32, value: *const i32, size: u32) -> i32;
     fn setrlimit(resource: i32, limits: *const [u64; 2]) -> i32;
     fn signal(number: i32, handler: usize) -> usize;
+    fn close(file: i32) -> i32;
 }
 
 /// Lets a program write files of so many bytes: a write beyond them fails, and no signal ends the program.
@@ -314,7 +377,7 @@ fn limit_files(command: &mut Command, bytes: u64) {
 }
 
 /// Gives a socket as little room for what is sent as the system allows, some 4 KiB: a longer message is refused.
-fn least_room(socket: &UnixDatagram) {
+fn least_room(socket: &impl AsRawFd) {
     /// Of Linux.
     const SOL_SOCKET: i32 = 1;
     const SO_SNDBUF: i32 = 7;
