@@ -99,7 +99,7 @@ notUtf8 asked = case every asked (checked (record { number = 23; offset = 1; fir
 
 abbrev pub valuesChecked : List Case
 valuesChecked =
-    case every (decode (ascii "'a\\255'") lent) (value withFF (ascii "......"))
+    case every (decode (ascii "'a\\255'") lent) (decodedValue withFF (ascii "......"))
     ∷ each notUtf8 (checks withSurrogate ++ checks withFF)
 
 pub values-checked-hold : told valuesChecked ≡ wanted valuesChecked
