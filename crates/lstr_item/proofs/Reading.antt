@@ -101,7 +101,7 @@ module _ (pat : List ℕ) (p : ℕ) where
     closes-nowhere h = ap closingOf (sym (walk-end (memberTurn pat) membersEnd (length pat) at (eqb at m) h) ∙ whole)
 
     pub closes-here : at < length pat → byteAt pat at ≡ 93 → m < at → some at ≡ closingOf (setEnd pat p)
-    closes-here h b f = let k : at ≡ at + 1 - 1 = omega arith in ap some k ∙ closed-read (past (at + 1)) (patterns.set-closes pat p m at whole h false b f (patterns.untested pat p at))
+    closes-here h b f = let k : at ≡ at + 1 - 1 = omega arith in ap some k ∙ closed-read (past (at + 1)) (patterns.set-closes pat p m at whole h false b f (patterns.untested false refl pat p at))
 
     pub closes-cut : at < length pat → byteAt pat at ≡ 37 → length pat - at ≡ 1 → none ≡ closingOf (setEnd pat p)
     closes-cut h b f = closed-read _ (patterns.set-cut pat p m at whole h false b f)

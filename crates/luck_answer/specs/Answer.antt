@@ -1,4 +1,4 @@
--- What a check answers, in document 01's numbers.
+-- What a check answers, in the numbers of documents 01 and 02.
 -- Assumes nothing.
 use Prim.Native.Nat.{ℕ}
 use mathlib.Core.List.{List}
@@ -73,6 +73,7 @@ refusal (error.LonePercent o) = refused 19 o
 refusal (error.BadReplacementEscape o) = refused 20 o
 refusal (error.CaptureIndexOutOfRange o) = refused 21 o
 refusal (error.BadDateSpecifier o) = refused 22 o
+refusal (error.ReversedRange o) = refused 39 o
 
 abbrev pub walkedOf : Walked → Answer
 walkedOf (walked.Accepted n) = accepted n

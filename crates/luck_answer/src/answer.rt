@@ -106,5 +106,6 @@ pub fn of_fault(fault: PatternError) -> Answer
         PatternError::BadReplacementEscape { offset } => refused(20, offset),
         PatternError::CaptureIndexOutOfRange { offset } => refused(21, offset),
         PatternError::BadDateSpecifier { offset } => refused(22, offset),
+        PatternError::ReversedRange { offset } => refused(39, offset),
     }
 }

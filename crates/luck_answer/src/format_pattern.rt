@@ -98,6 +98,10 @@ pub enum PatternError {
     BadDateSpecifier {
         offset: usize,
     },
+    // A range whose left byte is greater than its right, which luck accepts.
+    ReversedRange {
+        offset: usize,
+    },
 }
 
 // What the walk over a text finds.

@@ -25,7 +25,8 @@ Fits len a = (a .offset ≤ len) × (among (a .number) lineNumbers ≡ true) × 
 -- the numbers of each check are among those of a line
 all : (check : Check) → Every (λ n. among n lineNumbers ≡ true) (numbers check)
 unfolding among if_then_else_ allowsDigit
-all pattern = (refl, (refl, (refl, (refl, (refl, (refl, (refl, (refl, (refl, (refl, tt))))))))))
+all (pattern false) = (refl, (refl, (refl, (refl, (refl, (refl, (refl, (refl, (refl, (refl, tt))))))))))
+all (pattern true) = (refl, (refl, (refl, (refl, (refl, (refl, (refl, (refl, (refl, (refl, (refl, tt)))))))))))
 all format = (refl, (refl, (refl, (refl, (refl, (refl, (refl, (refl, (refl, (refl, tt))))))))))
 all date = (refl, (refl, (refl, (refl, (refl, tt)))))
 all (replacement captures) = (refl, (refl, (refl, (refl, (refl, by-test (Every (λ n. among n lineNumbers ≡ true)) (allowsDigit captures 9) [] (21 ∷ []) (λ _. tt) (λ _. (refl, tt)))))))

@@ -66,4 +66,5 @@ lineAnswer line =
 abbrev pub lineNumbers : List ℕ
 lineNumbers =
     31 ∷ 30
-    ∷ (numbers format ++ numbers pattern ++ numbers (pack true) ++ numbers (replacement (some 0)) ++ numbers date)
+    ∷ (numbers format ++ numbers (pattern true) ++ numbers (pack true) ++ numbers (replacement (some 0))
+    ++ numbers date)

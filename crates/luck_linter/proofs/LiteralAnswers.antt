@@ -13,9 +13,9 @@ use Rattle.luck_token.specs.declared.version.Rules.{Rules}
 use Rattle.luck_text.proofs.Cases.{by-test}
 use Rattle.luck_answer.specs.Answer.{Answer, accepted, checkText}
 use Rattle.luck_linter.specs.Checks.{Check, checkOf, walkOf, numbers, namedNumbers}
-use Rattle.luck_linter.specs.StringLiteral.{LiteralAnswer, withSpan, bodyOf, checkBody, checkShort, checkNamedLiteral, checkLiteral}
+use Rattle.luck_linter.specs.StringLiteral.{LiteralAnswer, literalCheck, withSpan, bodyOf, checkBody, checkShort, checkNamedLiteral, checkLiteral}
 use Rattle.luck_linter.proofs.Counts.{Walked, walked-bounded, Bounded, check-bounded}
-use Rattle.luck_linter.proofs.Checked.{walk-bounded, has-each}
+use Rattle.luck_linter.proofs.Checked.{literal-walk-bounded, has-each}
 
 module _ (start : ℕ) (text : List ℕ) where
   -- an answer with a span is about the body
@@ -44,7 +44,7 @@ module _ (start : ℕ) (text : List ℕ) where
     unfolding checkBody
     body-bounded rules =
         by-test CheckedIn _ _ _ (λ _. (zero-bounded, λ _. omega arith))
-        (λ _. span-bounded (walkOf check rules (bodyOf text)) (walk-bounded check rules (bodyOf text)))
+        (λ _. span-bounded (walkOf (literalCheck check (bodyOf text)) rules (bodyOf text)) (literal-walk-bounded check rules (bodyOf text)))
 
     short-bounded : (rules : Rules) → CheckedIn (checkShort check rules start text)
     unfolding checkShort

@@ -2,7 +2,8 @@
 -- Assumes nothing.
 use Prim.Native.Nat.{ℕ, suc, _+_, _≤_, _<_}
 use native.Mathlib.Omega.{arith}
-use mathlib.Core.Path.{_≡_, refl, ap}
+use mathlib.Core.Path.{_≡_, refl, sym, ap, subst}
+use mathlib.Core.Logic.{⊎-elim}
 use mathlib.Core.Bool.{Bool, true, false, _&&_}
 use mathlib.Core.List.{List, [], _∷_}
 use mathlib.Core.Option.{Option, none, some}
@@ -11,17 +12,19 @@ use lib.ListN.{length, length-append, length-set}
 use borrow.Author.Tests.{eqb-true}
 use Rattle.luck_text.specs.Bytes.{if_then_else_, byteAt, among}
 use Rattle.luck_text.specs.Walk.{Turn}
-use Rattle.luck_text.proofs.Cases.{by-test, present}
+use Rattle.luck_text.proofs.Cases.{by-test, and-left, and-right, both-true, present}
+use Rattle.luck_text.proofs.Among.{Every, every-among}
 use Rattle.luck_answer.specs.Answer.{Answer, refused}
 use Rattle.luck_linter.specs.Checks.{pattern, numbers}
 use Rattle.luck_answer.proofs.Answers.{Stops, walk-every}
 use Rattle.luck_linter.proofs.Counts.{Counts, walk-counts, isWalked, Walked}
+use Rattle.luck_pattern.proofs.Ranges.{walk-or-39}
 use Rattle.luck_pattern.specs.Captures.{latestOpen, closeAt, closeLatest, isClosed, allClosed}
 use Rattle.luck_pattern.specs.Reading.{Head, at-open, at-close, at-percent, at-set, at-other, headOf, Escape, esc-digit, esc-balance, esc-frontier, esc-other, esc-end, escapeAt, Member, closing-bracket, escaped-member, cut-escape, byte-member, memberAt, SetEnd, closes-at, cut-at, unclosed, memberBy, memberTurn, membersEnd, firstMember, setEnd}
 use Rattle.luck_pattern.specs.Pattern.{isEmptySet, Scanned, past, fault, closedAs, reversedOf, setAs, setRead, escapeAs, escapeRead, onward, afterClose, headTurn, patternTurn, patternEnd, patternWalk}
 
 abbrev AnswerIn : ℕ → Answer → Type 0
-AnswerIn len answer = Walked len (numbers pattern) answer
+AnswerIn len answer = Walked len (numbers (pattern false)) answer
 
 abbrev ReadIn : ℕ → Scanned → Type 0
 ReadIn len (past q) = Unit {0}
@@ -71,7 +74,7 @@ module _ (text : List ℕ) where
   set-as-in p (cut-at e) h i = (omega arith, refl, omega arith)
   set-as-in p unclosed h i = (
     omega arith,
-    by-test (λ (n : ℕ). (isWalked (refused n p) && among n (numbers pattern)) ≡ true) (isEmptySet text p) 9 8 (λ _. refl) (λ _. refl),
+    by-test (λ (n : ℕ). (isWalked (refused n p) && among n (numbers (pattern false))) ≡ true) (isEmptySet text p) 9 8 (λ _. refl) (λ _. refl),
     omega arith,
   )
 
@@ -123,6 +126,28 @@ module _ (text : List ℕ) where
   unfolding patternEnd among
   last-in p captures h = by-test (AnswerIn (length text)) (allClosed captures) _ _ (λ _. (omega arith, refl, h)) (λ _. (omega arith, refl, omega arith))
 
-  pub pattern-bounded : Walked (length text) (numbers pattern) (patternWalk false text)
+  untested-bounded : Walked (length text) (numbers (pattern false)) (patternWalk false text)
   unfolding patternWalk
-  pattern-bounded = walk-counts (patternTurn false text) (patternEnd text) (length text) length (AnswerIn (length text)) (λ p captures h. turn-in p captures h) last-in [] refl
+  untested-bounded = walk-counts (patternTurn false text) (patternEnd text) (length text) length (AnswerIn (length text)) (λ p captures h. turn-in p captures h) last-in [] refl
+
+  -- with the test there is one number more
+  all-of-them : Every (λ n. among n (numbers (pattern true)) ≡ true) (numbers (pattern false))
+  unfolding among
+  all-of-them = (refl, (refl, (refl, (refl, (refl, (refl, (refl, (refl, (refl, (refl, tt))))))))))
+
+  pub tested-too : (answer : Answer) → Walked (length text) (numbers (pattern false)) answer → Walked (length text) (numbers (pattern true)) answer
+  tested-too answer w =
+      let own = isWalked answer in
+      let among-them = among (answer .number) (numbers (pattern false)) in (
+        w .0,
+        both-true own (among (answer .number) (numbers (pattern true))) (and-left own among-them (w .1)) (every-among (λ n. among n (numbers (pattern true)) ≡ true) (numbers (pattern false)) all-of-them (answer .number) (and-right own among-them (w .1))),
+        w .2,
+      )
+
+  pub pattern-bounded : (ranges : Bool) → Walked (length text) (numbers (pattern ranges)) (patternWalk ranges text)
+  unfolding among
+  pattern-bounded false = untested-bounded
+  pattern-bounded true =
+      ⊎-elim (λ same. subst (Walked (length text) (numbers (pattern true))) (sym same) (tested-too (patternWalk false text) untested-bounded))
+      (λ r. subst (Walked (length text) (numbers (pattern true))) (sym (r .2)) (omega (arith, r .1 .inside), refl, omega arith))
+      (walk-or-39 text)

@@ -24,7 +24,7 @@ use Rattle.luck_answer.proofs.Texts.{text-fine, text-ill-formed}
 use Rattle.luck_replacement.proofs.Promises.{UnknownOrFromNine, walk-accepts}
 use Rattle.luck_linter.specs.Computed.{computed}
 use Rattle.luck_linter.specs.Checks.{Check, replacement, checkOf, walkOf, answer}
-use Rattle.luck_linter.specs.StringLiteral.{LiteralAnswer, hasNumericEscape, skippedAnswer, unspanned, withSpan, bodyOf, checkBody, checkShort, checkNamedLiteral, checkLiteral}
+use Rattle.luck_linter.specs.StringLiteral.{LiteralAnswer, hasNumericEscape, literalCheck, skippedAnswer, unspanned, withSpan, bodyOf, checkBody, checkShort, checkNamedLiteral, checkLiteral}
 use Rattle.luck_linter.proofs.Checked.{whole-check}
 use Rattle.luck_linter.proofs.StringLiterals as literals
 
@@ -32,9 +32,9 @@ use Rattle.luck_linter.proofs.StringLiterals as literals
 abbrev pub SkippedExactly : LiteralAnswer → List ℕ → Type 0
 SkippedExactly a text = a .skipped ≡ (not (isShort text) || hasNumericEscape (bodyOf text))
 
--- the answer of a literal that is not skipped is that of the check on its body
+-- the answer of a literal that is not skipped is that of the check on its body, without the test of ranges if a backslash stands there
 abbrev pub AnswersBody : Check → ℕ → LiteralAnswer → List ℕ → Type 0
-AnswersBody check version a text = a .skipped ≡ false → a .answer ≡ answer check version (bodyOf text)
+AnswersBody check version a text = a .skipped ≡ false → a .answer ≡ answer (literalCheck check (bodyOf text)) version (bodyOf text)
 
 -- accepted if it is not skipped; `literal-accepted` promises it of a replacement of 5.1 with captures unknown, or known to be 9 or more (F-6)
 abbrev pub SkippedOrAccepted : LiteralAnswer → Type 0
@@ -83,8 +83,11 @@ module _ (kind version : ℕ) (captures : Option ℕ) (start : ℕ) (text : List
   abbrev literal : LiteralAnswer
   literal = checkLiteral kind version captures start text
 
+  abbrev body-check : Check
+  body-check = literalCheck check (bodyOf text)
+
   abbrev walked : LiteralAnswer
-  walked = withSpan start (bodyOf text) (walkOf check (rulesOf version) (bodyOf text))
+  walked = withSpan start (bodyOf text) (walkOf body-check (rulesOf version) (bodyOf text))
 
   checked : literal ≡ skipping (isShort text) (hasNumericEscape (bodyOf text)) walked
   unfolding checkLiteral checkShort checkBody
@@ -105,14 +108,15 @@ module _ (kind version : ℕ) (captures : Option ℕ) (start : ℕ) (text : List
       let p = kept h in
       let q = quotes-low text (p .0) in
       let plain = between-ascii text (q .0) (q .1) (q .2) (sym utf8) in
-      ap (λ l. l .answer) (p .1) ∙ span-keeps start (bodyOf text) (walkOf check (rulesOf version) (bodyOf text)) .1
-      ∙ text-fine version (bodyOf text) (walkOf check (rulesOf version) (bodyOf text)) known plain ∙ sym (whole-check check version (bodyOf text))
+      ap (λ l. l .answer) (p .1) ∙ span-keeps start (bodyOf text) (walkOf body-check (rulesOf version) (bodyOf text)) .1
+      ∙ text-fine version (bodyOf text) (walkOf body-check (rulesOf version) (bodyOf text)) known plain ∙ sym (whole-check body-check version (bodyOf text))
 
 pub literal-accepted : (captures : Option ℕ) (start : ℕ) (text : List ℕ) → UnknownOrFromNine captures → illFormed text ≡ none
     → SkippedOrAccepted (checkLiteral (code "G") 1 captures start text)
 unfolding computed
 literal-accepted captures start text h utf8 e =
     kept (code "G") 1 captures start text (replacement captures) refl refl utf8 e .1
+    ∙ ap (λ c. withSpan start (bodyOf text) (walkOf c (rulesOf 1) (bodyOf text))) (literals.same-check (replacement captures) (bodyOf text) refl)
     ∙ ap (withSpan start (bodyOf text)) (walk-accepts captures (bodyOf text) h)
 
 -- ---- A text that is not UTF-8, as the value of `"\255"` is, or of `"\u{D800}"` in 5.4

@@ -17,9 +17,9 @@ use Rattle.luck_token.specs.declared.span.Span.{Span}
 use Rattle.luck_answer.specs.Answer.{Answer, accepted, refused, checkText}
 use Rattle.luck_answer.proofs.Texts.{in-any-case}
 use Rattle.luck_linter.specs.Checks.{Check, checkOf, walkOf, numbers}
-use Rattle.luck_linter.specs.StringLiteral.{LiteralAnswer, skippedAnswer, unspanned, spannedAnswer, spanAt, withSpan, bodyOf, checkBody, checkShort, checkNamedLiteral, checkLiteral}
+use Rattle.luck_linter.specs.StringLiteral.{LiteralAnswer, literalCheck, skippedAnswer, unspanned, spannedAnswer, spanAt, withSpan, bodyOf, checkBody, checkShort, checkNamedLiteral, checkLiteral}
 use Rattle.luck_linter.proofs.Counts.{walked-own}
-use Rattle.luck_linter.proofs.Checked.{walk-bounded}
+use Rattle.luck_linter.proofs.Checked.{literal-walk-bounded}
 
 -- the numbers that have no span: accepted, and what comes before the body is read
 abbrev pub spanless : List ℕ
@@ -58,12 +58,12 @@ module _ (check : Check) (start : ℕ) where
   body-marked : (rules : Rules) (body : List ℕ) → Marked (checkBody check rules start body)
   unfolding checkBody withSpan
   body-marked rules body =
-      let walked = walkOf check rules body in
+      let walked = walkOf (literalCheck check body) rules body in
       by-test Marked _ _ _ (λ _. skipped-marked)
       (λ _. by-test Marked (eqb (walked .number) 0) _ _ (λ e. unspanned-marked walked (accepted-spanless (walked .number) e))
       (λ e.
       spanned-marked walked (spanAt start body (walked .offset))
-      (walked-own (length body) (numbers check) walked (walk-bounded check rules body) (eqb-false (walked .number) 0 e))))
+      (walked-own (length body) (numbers check) walked (literal-walk-bounded check rules body) (eqb-false (walked .number) 0 e))))
 
   short-marked : (rules : Rules) (text : List ℕ) → Marked (checkShort check rules start text)
   unfolding checkShort

@@ -1,4 +1,4 @@
--- Laws of the literal check: numeric escapes, spans, and the outcomes.
+-- Laws of the literal check: numeric escapes, backslashes, spans, and the outcomes.
 -- Assumes nothing.
 use Prim.Native.Nat.{ℕ, suc, _+_, _-_, _≤_, _<_, min}
 use native.Mathlib.Numerals.{add-one}
@@ -9,21 +9,23 @@ use mathlib.Core.List.{List, [], _∷_}
 use mathlib.Core.Option.{Option, none, some}
 use lib.ListN.{length, drop, drop-of-length-le}
 use lib.Seq.{drop-cons}
+use lib.Dec.{eqb}
 use borrow.Author.Tests.{eq-eqb, ne-eqb}
-use Rattle.luck_text.specs.Bytes.{if_then_else_, byteAt, part}
+use Rattle.luck_text.specs.Bytes.{if_then_else_, byteAt, part, among}
 use Rattle.luck_token.specs.Version.{rulesOf}
 use Rattle.luck_token.specs.Literal.{isShort, shortStringBody}
 use Rattle.luck_token.specs.Span.{u32-max, spanOf, shiftedBy}
 use Rattle.luck_token.specs.declared.version.Rules.{Rules}
 use Rattle.luck_token.specs.declared.span.Span.{Span}
-use Rattle.luck_text.proofs.Cases.{if-true, if-false}
+use Rattle.luck_text.proofs.Cases.{by-test, if-true, if-false}
 use Rattle.luck_text.proofs.Others.{passes-others}
 use Rattle.luck_token.proofs.Literals.{both-quotes}
 use Rattle.luck_answer.specs.Answer.{Answer, accepted, checkText}
-use Rattle.luck_linter.specs.Checks.{Check, checkOf, walkOf}
+use Rattle.luck_linter.specs.Checks.{Check, checkOf, withoutRanges, walkOf}
 use Rattle.luck_linter.specs.StringLiteral.{
   isNumericEscape,
   hasNumericEscape,
+  literalCheck,
   skippedAnswer,
   unspanned,
   spannedAnswer,
@@ -83,6 +85,48 @@ module _ (body : List ℕ) where
       pub passes-escape : isNumericEscape (byteAt body (p + 1)) ≡ false → on (p + 2) ≡ on p
       passes-escape n = sym (both ∙ ap (λ t. t || on (p + 2)) n)
 
+-- ---- Backslashes
+
+module _ (body : List ℕ) where
+  -- whether one stands from a place on
+  abbrev pub left : ℕ → Bool
+  left p = among 92 (drop p body)
+
+  pub none-left : (p : ℕ) → length body ≤ p → left p ≡ false
+  unfolding among
+  none-left p h = rw (drop-of-length-le body {i = p} h)
+
+  module _ (p : ℕ) (h : p < length body) where
+    from-here : left p ≡ (eqb 92 (byteAt body p) || left (p + 1))
+    unfolding among
+    from-here = rw (drop-cons body p 0 h, add-one p)
+
+    pub one-here : byteAt body p ≡ 92 → left p ≡ true
+    one-here e = from-here ∙ ap (λ t. t || left (p + 1)) (eq-eqb 92 (byteAt body p) (sym e))
+
+    pub not-here : (byteAt body p ≡ 92 → ⊥) → left (p + 1) ≡ left p
+    not-here n = sym (from-here ∙ ap (λ t. t || left (p + 1)) (ne-eqb 92 (byteAt body p) (λ e. n (sym e))))
+
+  pub none-between : (p q : ℕ) → p ≤ q → q ≤ length body → ((k : ℕ) → p ≤ k → k < q → byteAt body k ≡ 92 → ⊥) → left q ≡ left p
+  none-between p q = passes-others 92 body left not-here p q
+
+  -- one was met, or stands from a place on, exactly where the body has one
+  abbrev pub MetOrLeft : Bool → ℕ → Type 0
+  MetOrLeft met p = (met || left p) ≡ among 92 body
+
+  pub passed-over : (met : Bool) (p q : ℕ) → left q ≡ left p → MetOrLeft met p → MetOrLeft met q
+  passed-over met p q e m = ap (λ t. met || t) e ∙ m
+
+  pub met-here : (met : Bool) (p : ℕ) → p < length body → byteAt body p ≡ 92 → MetOrLeft met p → true ≡ among 92 body
+  met-here true p h e m = m
+  met-here false p h e m = sym (one-here p h e) ∙ m
+
+  pub one-met : (met : Bool) (p : ℕ) → met ≡ true → MetOrLeft met p → true ≡ among 92 body
+  one-met met p e m = sym (ap (λ t. t || left p) e) ∙ m
+
+  pub none-met : (met : Bool) (p : ℕ) → met ≡ false → length body ≤ p → MetOrLeft met p → false ≡ among 92 body
+  none-met met p e h m = sym (ap (λ t. t || left p) e ∙ none-left p h) ∙ m
+
 -- ---- Spans
 
 -- an end that stays at the largest `usize` gives the same span
@@ -106,23 +150,39 @@ moved-span start from width =
 
 -- ---- The body
 
+module _ (start : ℕ) (body : List ℕ) (a : Answer) where
+  pub span-accepted : a .number ≡ 0 → unspanned a ≡ withSpan start body a
+  unfolding withSpan
+  span-accepted z = sym (if-true _ _ _ (eq-eqb (a .number) 0 z))
+
+  pub span-refused : (a .number ≡ 0 → ⊥) → (span : Span) → span ≡ spanAt start body (a .offset) → spannedAnswer a span ≡ withSpan start body a
+  unfolding withSpan
+  span-refused n span s = ap (spannedAnswer a) s ∙ sym (if-false _ _ _ (ne-eqb (a .number) 0 n))
+
+-- a check that tests no ranges is the same with a backslash in the body
+pub same-check : (check : Check) (body : List ℕ) → withoutRanges check ≡ check → literalCheck check body ≡ check
+unfolding literalCheck
+same-check check body e = by-test (λ (c : Check). c ≡ check) _ _ _ (λ _. e) (λ _. refl)
+
 module _ (check : Check) (rules : Rules) (start : ℕ) (body : List ℕ) where
   pub body-skipped : hasNumericEscape body ≡ true → skippedAnswer ≡ checkBody check rules start body
   unfolding checkBody
   body-skipped e = sym (if-true _ _ _ e)
 
-  module _ (e : hasNumericEscape body ≡ false) (a : Answer) (w : a ≡ walkOf check rules body) where
-    walked : withSpan start body a ≡ checkBody check rules start body
-    unfolding checkBody
-    walked = ap (withSpan start body) w ∙ sym (if-false _ _ _ e)
+  module _ (e : hasNumericEscape body ≡ false) where
+    walked : (backslash : Bool) → among 92 body ≡ backslash
+        → withSpan start body (walkOf (if backslash then withoutRanges check else check) rules body) ≡ checkBody check rules start body
+    unfolding checkBody literalCheck
+    walked backslash b =
+        ap (λ t. withSpan start body (walkOf (if t then withoutRanges check else check) rules body)) (sym b) ∙ sym (if-false _ _ _ e)
 
-    pub body-accepted : a .number ≡ 0 → unspanned a ≡ checkBody check rules start body
-    unfolding withSpan
-    body-accepted z = sym (if-true _ _ _ (eq-eqb (a .number) 0 z)) ∙ walked
+    pub body-bare : among 92 body ≡ false → withSpan start body (walkOf check rules body) ≡ checkBody check rules start body
+    unfolding if_then_else_
+    body-bare b = walked false b
 
-    pub body-refused : (a .number ≡ 0 → ⊥) → (span : Span) → span ≡ spanAt start body (a .offset) → spannedAnswer a span ≡ checkBody check rules start body
-    unfolding withSpan
-    body-refused n span s = ap (spannedAnswer a) s ∙ sym (if-false _ _ _ (ne-eqb (a .number) 0 n)) ∙ walked
+    pub body-escaped : among 92 body ≡ true → withSpan start body (walkOf (withoutRanges check) rules body) ≡ checkBody check rules start body
+    unfolding if_then_else_
+    body-escaped b = walked true b
 
 -- ---- The literal
 

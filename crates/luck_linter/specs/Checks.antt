@@ -10,7 +10,7 @@ use lib.Dec.{eqb}
 use Rattle.luck_text.specs.Bytes.{if_then_else_}
 use Rattle.luck_token.specs.declared.version.Rules.{Rules}
 use Rattle.luck_answer.specs.Answer.{Answer}
-use Rattle.luck_pattern.specs.Pattern.{patternWalk, checkPattern}
+use Rattle.luck_pattern.specs.Pattern.{patternWalk, checkPatternAs}
 use Rattle.luck_replacement.specs.Replacement.{countOf, isStrict, pieces, allowsDigit, piecesWalk, checkReplacement}
 use Rattle.luck_format.specs.Format.{formatWalk, checkFormat}
 use Rattle.luck_format.specs.Date.{checksDates, hasDateOptions, dateWalk, checkDate}
@@ -22,7 +22,8 @@ use Rattle.luck_linter.specs.declared.checks.Named.the-variants as named
 
 -- a check, with what it takes besides the version and the text
 pub data Check : Type 0 where
-  format pattern date : Check
+  format date : Check
+  pattern : Bool → Check  -- whether its ranges are tested
   replacement : Option ℕ → Check  -- the count of captures
   pack : Bool → Check  -- whether it is for packsize
 
@@ -30,16 +31,24 @@ pub data Check : Type 0 where
 unfoldable pub checkOf : ℕ → Option ℕ → Option Check
 checkOf kind captures =
     if eqb kind (code "F") then some format
-    else if eqb kind (code "P") then some pattern
+    else if eqb kind (code "P") then some (pattern true)
     else if eqb kind (code "K") then some (pack false)
     else if eqb kind (code "S") then some (pack true)
     else if eqb kind (code "G") then some (replacement captures)
     else if eqb kind (code "D") then some date else none
 
--- what is checked of a body that is UTF-8; of a pattern without a test of ranges, as checkPattern does it
+-- a pattern's check without its test of ranges; every other check as it is
+unfoldable pub withoutRanges : Check → Check
+withoutRanges format = format
+withoutRanges date = date
+withoutRanges (pattern ranges) = pattern false
+withoutRanges (replacement captures) = replacement captures
+withoutRanges (pack packsize) = pack packsize
+
+-- what is checked of a body that is UTF-8
 unfoldable pub walkOf : Check → Rules → List ℕ → Answer
 walkOf format rules body = formatWalk rules body
-walkOf pattern rules body = patternWalk false body
+walkOf (pattern ranges) rules body = patternWalk ranges body
 walkOf date rules body = dateWalk (checksDates rules) (hasDateOptions rules) body
 walkOf (replacement captures) rules body = piecesWalk (isStrict rules) captures (pieces body) 0
 walkOf (pack packsize) rules body = packWalk packsize body
@@ -47,15 +56,16 @@ walkOf (pack packsize) rules body = packWalk packsize body
 -- the whole check: 25, 23, then that walk (`whole-check` of proofs/Checked.antt)
 abbrev pub answer : Check → ℕ → List ℕ → Answer
 answer format version text = checkFormat version text
-answer pattern version text = checkPattern version text
+answer (pattern ranges) version text = checkPatternAs ranges version text
 answer date version text = checkDate version text
 answer (replacement captures) version text = checkReplacement version captures text
 answer (pack packsize) version text = checkPack version packsize text
 
--- 0 where the text is accepted, else a refusal of document 01; 21 where a digit can be too large: the largest is 9
+-- 0 where the text is accepted, else a refusal of document 01 or 02; 21 where a digit can be too large: the largest is 9
 abbrev pub numbers : Check → List ℕ
 numbers format = 0 ∷ 1 ∷ 2 ∷ 3 ∷ 4 ∷ 5 ∷ 6 ∷ 7 ∷ 23 ∷ 25 ∷ []
-numbers pattern = 0 ∷ 1 ∷ 8 ∷ 9 ∷ 10 ∷ 11 ∷ 12 ∷ 13 ∷ 23 ∷ 25 ∷ []
+numbers (pattern false) = 0 ∷ 1 ∷ 8 ∷ 9 ∷ 10 ∷ 11 ∷ 12 ∷ 13 ∷ 23 ∷ 25 ∷ []
+numbers (pattern true) = 0 ∷ 1 ∷ 8 ∷ 9 ∷ 10 ∷ 11 ∷ 12 ∷ 13 ∷ 23 ∷ 25 ∷ 39 ∷ []
 numbers date = 0 ∷ 19 ∷ 22 ∷ 23 ∷ 25 ∷ []
 numbers (replacement captures) =
     0 ∷ 19 ∷ 20 ∷ 23 ∷ 25 ∷ (if allowsDigit captures 9 then [] else 21 ∷ [])
@@ -70,7 +80,7 @@ namedNumbers (some check) = numbers check
 -- the code's checks
 abbrev pub checkMeant : CheckEnum → Check
 checkMeant variant.Format = format
-checkMeant variant.Pattern = pattern
+checkMeant (variant.Pattern ranges) = pattern ranges
 checkMeant variant.Date = date
 checkMeant (variant.Replacement captures) = replacement (countOf captures)
 checkMeant variant.Pack = pack false

@@ -9,7 +9,8 @@ unfolding
     Rattle.luck_replacement.specs.Computed.computed
     Rattle.luck_format.specs.Computed.computed
     Rattle.luck_pack.specs.Computed.computed
-    Checks.checkOf Checks.walkOf
-    StringLiteral.isNumericEscape StringLiteral.hasNumericEscape StringLiteral.spanAt StringLiteral.withSpan
-    StringLiteral.checkBody StringLiteral.checkShort StringLiteral.checkNamedLiteral StringLiteral.checkLiteral
+    Checks.checkOf Checks.withoutRanges Checks.walkOf
+    StringLiteral.isNumericEscape StringLiteral.hasNumericEscape StringLiteral.literalCheck StringLiteral.spanAt
+    StringLiteral.withSpan StringLiteral.checkBody StringLiteral.checkShort StringLiteral.checkNamedLiteral
+    StringLiteral.checkLiteral
 computed = tt

@@ -34,8 +34,9 @@ pub data Example : Type 0 where
 abbrev unread : List Example
 unread = gives 1 (0xFF ∷ []) 23 ∷ gives 7 [] 25 ∷ []
 
-abbrev patterns : List Example
-patterns =
+-- the pattern's with the test of ranges and without; `untested` has an example for each number of both
+abbrev untested : List Example
+untested =
     gives 1 (ascii "()%1") 0
     ∷ gives 1 (ascii "[%") 1
     ∷ gives 1 (ascii "[]a") 8
@@ -45,6 +46,9 @@ patterns =
     ∷ gives 1 (ascii "(((((((((((((((((((((((((((((((((") 12
     ∷ gives 1 (ascii "(a%1)") 13
     ∷ unread
+
+abbrev patterns : List Example
+patterns = untested ++ (gives 1 (ascii "[z-a]") 39 ∷ [])
 
 abbrev formats : List Example
 formats =
@@ -83,7 +87,8 @@ quoted (gives version text number ∷ more) = gives version (code "\"" ∷ (text
 
 abbrev pub examples : List (Check × List Example)
 examples =
-    (pattern, patterns)
+    (pattern true, patterns)
+    ∷ (pattern false, untested)
     ∷ (format, formats)
     ∷ (date, dates)
     ∷ (replacement none, replacements)
@@ -129,7 +134,7 @@ Each P (of ∷ more) = P (of .0) (of .1) × Each P more
 -- each text gives its number
 pub examples-hold : Each (λ check list. answers (answer check) list ≡ named list) examples
 unfolding computed
-examples-hold = (refl, (refl, (refl, (refl, (refl, (refl, (refl, (refl, tt))))))))
+examples-hold = (refl, (refl, (refl, (refl, (refl, (refl, (refl, (refl, (refl, tt)))))))))
 
 pub literals-hold : Each (λ of list. answers (literalOf (of .0) (of .1)) list ≡ named list) literals
 unfolding computed
@@ -138,7 +143,7 @@ literals-hold = (refl, (refl, (refl, (refl, (refl, (refl, (refl, (refl, tt))))))
 -- the numbers of a check's list are those of its examples: one that is added there needs a text here
 pub examples-whole : Each (λ check list. numbers check ≡ named list) examples
 unfolding computed
-examples-whole = (refl, (refl, (refl, (refl, (refl, (refl, (refl, (refl, tt))))))))
+examples-whole = (refl, (refl, (refl, (refl, (refl, (refl, (refl, (refl, (refl, tt)))))))))
 
 pub literals-whole : Each (λ of list. namedNumbers (checkOf (of .0) (of .1)) ≡ named list) literals
 unfolding computed

@@ -1,4 +1,5 @@
 pub mod Checks
 pub mod StringLiteral
+pub mod Inner
 pub mod Computed
 pub mod Examples

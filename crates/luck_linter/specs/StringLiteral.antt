@@ -1,5 +1,5 @@
 -- The check of a literal in a source (checkable_body and literal_error of luck's rule format_string), by one of the
--- kind letters of document 01, in the order of point 9 of document 03.
+-- kind letters of document 01, in the order of point 9 of document 03; of a pattern's ranges after F-10 of document 02.
 -- Assumes nothing.
 use Prim.Native.Nat.{ℕ, _+_, _-_}
 use Prim.Native.Char.{code}
@@ -8,7 +8,7 @@ use mathlib.Core.List.{List, [], _∷_}
 use mathlib.Core.Option.{Option, none, some}
 use lib.ListN.{length}
 use lib.Dec.{eqb}
-use Rattle.luck_text.specs.Bytes.{if_then_else_, part, isDigit}
+use Rattle.luck_text.specs.Bytes.{if_then_else_, part, among, isDigit}
 use Rattle.luck_token.specs.Version.{rulesOf}
 use Rattle.luck_utf8.specs.Utf8.{charAt}
 use Rattle.luck_token.specs.Literal.{isShort}
@@ -16,7 +16,7 @@ use Rattle.luck_token.specs.Span.{spanOf}
 use Rattle.luck_token.specs.declared.version.Rules.{Rules}
 use Rattle.luck_token.specs.declared.span.Span.{Span}
 use Rattle.luck_answer.specs.Answer.{Answer, accepted, refused, checkText}
-use Rattle.luck_linter.specs.Checks.{Check, checkOf, walkOf}
+use Rattle.luck_linter.specs.Checks.{Check, checkOf, withoutRanges, walkOf}
 use Rattle.luck_linter.specs.declared.rules.format_string.Literal.{Literal}
 
 -- an escape `\0` to `\9`, `\x` or `\u` could spell a byte that the check reads
@@ -30,6 +30,10 @@ hasNumericEscape (b ∷ c ∷ more) =
     let pair = isNumericEscape c || hasNumericEscape more in
     let byte = hasNumericEscape (c ∷ more) in
     if eqb b (code "\\") then pair else byte
+
+-- a backslash may spell an end of a range, so that ranges are not tested in a body that has one
+unfoldable pub literalCheck : Check → List ℕ → Check
+literalCheck check body = if among (code "\\") body then withoutRanges check else check
 
 -- skipped; or an answer, with a span where it is a refusal of the body
 pub record LiteralAnswer : Type 0 where
@@ -72,7 +76,7 @@ bodyOf text = part text 1 (length text - 1)
 
 unfoldable pub checkBody : Check → Rules → ℕ → List ℕ → LiteralAnswer
 checkBody check rules start body =
-    let walked = withSpan start body (walkOf check rules body) in
+    let walked = withSpan start body (walkOf (literalCheck check body) rules body) in
     if hasNumericEscape body then skippedAnswer else walked
 
 unfoldable pub checkShort : Check → Rules → ℕ → List ℕ → LiteralAnswer

@@ -2,7 +2,7 @@
 ghost use mathlib.Core.Path.{_≡_};
 ghost use Rattle.luck_answer.specs.Answer.{walkedOf, answerOf};
 ghost use Rattle.luck_replacement.specs.Replacement.{countOf};
-ghost use Rattle.luck_linter.specs.Checks.{checkOf, walkOf, answer, checkMeant, checkNamed};
+ghost use Rattle.luck_linter.specs.Checks.{checkOf, withoutRanges, walkOf, answer, checkMeant, checkNamed};
 use luck_answer::format_pattern;
 use luck_answer::format_pattern::Checked;
 use luck_answer::format_pattern::Text;
@@ -18,7 +18,8 @@ use luck_token::version::Rules;
 
 pub enum Check {
     Format,
-    Pattern,
+    // whether its ranges are tested
+    Pattern(bool),
     Date,
     Replacement(Captures),
     Pack,
@@ -37,12 +38,26 @@ pub fn check_of(kind: u8, captures: Captures) -> Named
 {
     match kind {
         b'F' => Named::Check(Check::Format),
-        b'P' => Named::Check(Check::Pattern),
+        b'P' => Named::Check(Check::Pattern(true)),
         b'K' => Named::Check(Check::Pack),
         b'S' => Named::Check(Check::Packsize),
         b'G' => Named::Check(Check::Replacement(captures)),
         b'D' => Named::Check(Check::Date),
         _ => Named::Nothing,
+    }
+}
+
+// The check of a pattern without its test of ranges; every other check as it is.
+pub fn without_ranges(check: Check) -> Check
+    ensures { λ r. ⌜ checkMeant r ≡ withoutRanges (checkMeant check) ⌝ }
+{
+    match check {
+        Check::Format => Check::Format,
+        Check::Pattern(_) => Check::Pattern(false),
+        Check::Date => Check::Date,
+        Check::Replacement(captures) => Check::Replacement(captures),
+        Check::Pack => Check::Pack,
+        Check::Packsize => Check::Packsize,
     }
 }
 
@@ -52,7 +67,7 @@ pub fn walk(check: Check, rules: Rules, body: &[u8]) -> Walked
 {
     match check {
         Check::Format => format::scan_format_string(body, rules),
-        Check::Pattern => pattern::scan_pattern(body),
+        Check::Pattern(ranges) => pattern::scan_pattern(body, ranges),
         Check::Date => date::scan_date(
             body,
             rules.strict_gsub_replacement,

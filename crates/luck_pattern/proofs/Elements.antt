@@ -165,3 +165,27 @@ module _ (pat : List ℕ) (e : ℕ) where
   pub some-reversed : (q k : ℕ) → firstReversed pat e q ≡ some k → ReversedAt pat e q k
   unfolding firstReversed placedElements
   some-reversed q k f = some-from (e - q) q k f
+
+  -- a range has three bytes
+  pub no-range-left : (q : ℕ) → e ≤ q + 2 → firstReversed pat e q ≡ none
+  no-range-left q h = go (firstReversed pat e q) refl
+    where
+      go : (o : Option ℕ) → firstReversed pat e q ≡ o → firstReversed pat e q ≡ none
+      go none f = f
+      go (some k) f = let r = some-reversed q k f in absurd (omega (arith, r .behind, r .inside))
+
+-- ---- Members without a hyphen
+
+-- the members from `first` up to a place are the elements there, if no hyphen stands there that the byte before it would make a range with
+abbrev pub ElementsTo : List ℕ → ℕ → ℕ → Type 0
+ElementsTo pat first q = (byteAt pat q ≡ code "-" → ⊥) → (e : ℕ) → q ≤ e → firstReversed pat e first ≡ firstReversed pat e q
+
+module _ (pat : List ℕ) (first q : ℕ) (before : ElementsTo pat first q) where
+  pub element-plain : (byteAt pat q ≡ code "%" → ⊥) → (byteAt pat q ≡ code "-" → ⊥) → ElementsTo pat first (q + 1)
+  element-plain b h n e l = before h e (omega arith) ∙ plain-here pat e q (omega arith) b (inl n)
+
+  pub element-escaped : byteAt pat q ≡ code "%" → ElementsTo pat first (q + 2)
+  element-escaped b n e l = before (λ h. omega arith) e (omega arith) ∙ reversed-escape pat e q (omega arith) b
+
+  pub elements-end : byteAt pat q ≡ code "]" → firstReversed pat q first ≡ none
+  elements-end b = before (λ h. omega arith) q (omega arith) ∙ reversed-end pat q q (omega arith)

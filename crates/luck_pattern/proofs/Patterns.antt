@@ -84,14 +84,19 @@ module _ (text : List ℕ) (start m : ℕ) (is : m ≡ firstMember text start) w
       let none-left = walk-end (memberTurn text) membersEnd (length text) (m + 1) false (omega arith) in
       set-open ranges text start true empty (sym none-left ∙ sym one ∙ set-begins)
 
--- without the test none is looked for
-pub untested : (text : List ℕ) (start at : ℕ) → reversedOf false text start at ≡ none
-unfolding reversedOf if_then_else_
-untested text start at = refl
+-- without the test none is looked for; with it, from the first member on
+pub untested : (ranges : Bool) → ranges ≡ false → (text : List ℕ) (start at : ℕ) → reversedOf ranges text start at ≡ none
+unfolding reversedOf
+untested ranges r text start at = if-false _ _ _ r
 
-pub tests : (text : List ℕ) (start at : ℕ) → reversedOf true text start at ≡ firstReversed text at (firstMember text start)
-unfolding reversedOf if_then_else_
-tests text start at = refl
+pub tested : (ranges : Bool) → ranges ≡ true → (text : List ℕ) (start at m : ℕ) → m ≡ firstMember text start → reversedOf ranges text start at ≡ firstReversed text at m
+unfolding reversedOf
+tested ranges r text start at m is = if-true _ _ _ r ∙ ap (firstReversed text at) (sym is)
+
+-- where there is none, it does not matter whether it is looked for
+pub none-there : (ranges : Bool) (text : List ℕ) (start at m : ℕ) → m ≡ firstMember text start → firstReversed text at m ≡ none → reversedOf ranges text start at ≡ none
+none-there true text start at m is e = tested true refl text start at m is ∙ e
+none-there false text start at m is e = untested false refl text start at
 
 -- a turn of the loop over the members, the first at m
 module _ (text : List ℕ) (start m at : ℕ) (whole : members text at (eqb at m) ≡ setEnd text start) where
@@ -109,18 +114,14 @@ module _ (text : List ℕ) (start m at : ℕ) (whole : members text at (eqb at m
   set-unclosed ranges e h = set-open ranges text start false e (sym (walk-end (memberTurn text) membersEnd (length text) at (eqb at m) h) ∙ whole)
 
   module _ (inside : at < length text) where
-    closes : (ranges : Bool) → byteAt text at ≡ 93 → m < at → (o : Option ℕ) → reversedOf ranges text start at ≡ o → closedAs at o ≡ setRead ranges text start
+    -- the set closes, and this is its first reversed range that is looked for
+    pub closes : (ranges : Bool) → byteAt text at ≡ 93 → m < at → (o : Option ℕ) → reversedOf ranges text start at ≡ o → closedAs at o ≡ setRead ranges text start
     unfolding setAs
     closes ranges b h o e = ap (closedAs at) (sym e) ∙ ends ranges (closes-at at) inside (closing text at (eqb at m) b (ne-eqb at m (λ q. omega arith)))
 
-    -- the set closes, and has no reversed range or is not tested; or it has one
     pub set-closes : (ranges : Bool) → byteAt text at ≡ 93 → m < at → reversedOf ranges text start at ≡ none → past (at + 1) ≡ setRead ranges text start
     unfolding closedAs
     set-closes ranges b h e = closes ranges b h none e
-
-    pub set-reversed : (ranges : Bool) → byteAt text at ≡ 93 → m < at → (left : ℕ) → reversedOf ranges text start at ≡ some left → fault (refused 39 left) ≡ setRead ranges text start
-    unfolding closedAs
-    set-reversed ranges b h left e = closes ranges b h (some left) e
 
     pub set-cut : (ranges : Bool) → byteAt text at ≡ 37 → length text - at ≡ 1 → fault (refused 1 at) ≡ setRead ranges text start
     unfolding setAs

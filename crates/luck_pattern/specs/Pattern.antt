@@ -5,7 +5,7 @@
 -- Assumes nothing.
 use Prim.Native.Nat.{ℕ, _+_, _-_}
 use Prim.Native.Char.{code}
-use mathlib.Core.Bool.{Bool, false, _&&_}
+use mathlib.Core.Bool.{Bool, true, false, _&&_}
 use mathlib.Core.List.{List, [], _∷_, _++_}
 use mathlib.Core.Option.{Option, none, some}
 use lib.ListN.{length}
@@ -110,9 +110,9 @@ module _ (ranges : Bool) (pat : List ℕ) where
 unfoldable pub checkPatternAs : Bool → ℕ → List ℕ → Answer
 checkPatternAs ranges version pat = checkText version pat (patternWalk ranges pat)
 
--- the check. It does not test ranges yet: 39 and what stands behind `ranges` are for F-10 of document 02
+-- the check, with that test (F-10 of document 02)
 unfoldable pub checkPattern : ℕ → List ℕ → Answer
-checkPattern version pat = checkPatternAs false version pat
+checkPattern version pat = checkPatternAs true version pat
 
 -- ---- The reversed range of an item, for the laws
 

@@ -7,7 +7,8 @@ ghost use lib.ListN.{length};
 ghost use Rattle.luck_answer.specs.Answer.{walkedOf, answerOf};
 ghost use Rattle.luck_pattern.specs.Captures.{isClosed, allClosed, closeLatest};
 ghost use Rattle.luck_pattern.specs.Reading.{firstMember};
-ghost use Rattle.luck_pattern.specs.Pattern.{setRead, escapeRead, patternWalk, checkPattern};
+ghost use Rattle.luck_pattern.specs.Elements.{firstReversed};
+ghost use Rattle.luck_pattern.specs.Pattern.{closedAs, setRead, escapeRead, patternWalk, checkPattern};
 ghost use Rattle.luck_pattern.specs.Inner.{readOf, ScanWithin, flagsOfWord, closedOf, Below};
 use luck_answer::format_pattern;
 use luck_answer::format_pattern::Checked;
@@ -35,10 +36,38 @@ fn first_member(text: &[u8], start: usize) -> usize
     next
 }
 
-// The set whose `[` stands at `start`. `classEnd` takes the first member before it looks for a `]`.
-fn scan_set(text: &[u8], start: usize) -> Scan
+// A set from its first member to its closing `]` at `end`: it is passed over, or its first reversed range is its fault. The elements are read as
+// `matchbracketclass` reads them, so that a range may end in a `%`, whose next byte is then an element of its own.
+fn scan_ranges(text: &[u8], first: usize, end: usize) -> Scan
+    requires { ⌜ (first ≤ end) × (end < length (now text)) ⌝ }
+    ensures { λ r. ⌜
+        (readOf r ≡ closedAs end (firstReversed (now (text .entry)) end first)) × ScanWithin r first (length (now (text .entry)))
+        ⌝ }
+{
+    let mut at = first;
+    // A range has three bytes.
+    while 2 < end - at {
+        let left = text[at];
+        if left == b'%' {
+            at += 2;
+            continue;
+        }
+        if text[at + 1] != b'-' {
+            at += 1;
+            continue;
+        }
+        if text[at + 2] < left {
+            return Scan::Fault(PatternError::ReversedRange { offset: at });
+        }
+        at += 3;
+    }
+    Scan::Past(end + 1)
+}
+
+// The set whose `[` stands at `start`, with or without the test of its ranges. `classEnd` takes the first member before it looks for a `]`.
+fn scan_set(text: &[u8], start: usize, ranges: bool) -> Scan
     requires { ⌜ start < length (now text) ⌝ }
-    ensures { λ r. ⌜ (readOf r ≡ setRead false (now (text .entry)) start) × ScanWithin r start (length (now (text .entry))) ⌝ }
+    ensures { λ r. ⌜ (readOf r ≡ setRead ranges (now (text .entry)) start) × ScanWithin r start (length (now (text .entry))) ⌝ }
 {
     let first = first_member(text, start);
     if text.len() - first == 1 {
@@ -47,6 +76,8 @@ fn scan_set(text: &[u8], start: usize) -> Scan
         }
     }
     let mut at = first;
+    // Without a hyphen there is no range.
+    let mut hyphen = false;
     let after = 'members: loop {
         if text.len() <= at {
             return Scan::Fault(PatternError::UnterminatedSet { offset: start });
@@ -65,9 +96,18 @@ fn scan_set(text: &[u8], start: usize) -> Scan
                 }
                 at += 2;
             }
+            b'-' => {
+                hyphen = true;
+                at += 1;
+            }
             _ => at += 1,
         }
     };
+    if ranges {
+        if hyphen {
+            return scan_ranges(text, first, after - 1);
+        }
+    }
     Scan::Past(after)
 }
 
@@ -119,10 +159,10 @@ fn none_open(count: u32, word: u32) -> bool
 }
 
 // The escape whose `%` stands at `start`, after `count` captures of which the bits of `word` are open.
-fn scan_escape(text: &[u8], start: usize, count: u32, word: u32) -> Scan
+fn scan_escape(text: &[u8], start: usize, count: u32, word: u32, ranges: bool) -> Scan
     requires { ⌜ (start < length (now text)) × (count ≤ 32) ⌝ }
     ensures { λ r. ⌜
-        (readOf r ≡ escapeRead false (now (text .entry)) start (flagsOfWord count word)) × ScanWithin r start (length (now (text .entry)))
+        (readOf r ≡ escapeRead ranges (now (text .entry)) start (flagsOfWord count word)) × ScanWithin r start (length (now (text .entry)))
         ⌝ }
 {
     if text.len() - start == 1 {
@@ -150,7 +190,7 @@ fn scan_escape(text: &[u8], start: usize, count: u32, word: u32) -> Scan
         b'f' => {
             if next < text.len() {
                 if text[next] == b'[' {
-                    return scan_set(text, next);
+                    return scan_set(text, next, ranges);
                 }
             }
             Scan::Fault(PatternError::BadEscape {
@@ -164,9 +204,9 @@ fn scan_escape(text: &[u8], start: usize, count: u32, word: u32) -> Scan
     }
 }
 
-// The walk over a text that is UTF-8.
-pub fn scan_pattern(text: &[u8]) -> Walked
-    ensures { λ r. ⌜ walkedOf r ≡ patternWalk false (now (text .entry)) ⌝ }
+// The walk over a text that is UTF-8, with or without the test of ranges.
+pub fn scan_pattern(text: &[u8], ranges: bool) -> Walked
+    ensures { λ r. ⌜ walkedOf r ≡ patternWalk ranges (now (text .entry)) ⌝ }
 {
     let mut count: u32 = 0;
     // A bit for each capture that is open.
@@ -176,14 +216,14 @@ pub fn scan_pattern(text: &[u8]) -> Walked
         let here = text[at];
         match here {
             b'%' => {
-                let found = scan_escape(text, at, count, word);
+                let found = scan_escape(text, at, count, word, ranges);
                 match found {
                     Scan::Past(next) => at = next,
                     Scan::Fault(fault) => return Walked::Refused(fault),
                 }
             }
             b'[' => {
-                let found = scan_set(text, at);
+                let found = scan_set(text, at, ranges);
                 match found {
                     Scan::Past(next) => at = next,
                     Scan::Fault(fault) => return Walked::Refused(fault),
@@ -224,7 +264,7 @@ pub fn validate_lua_pattern(version: u32, text: &[u8]) -> Checked
 {
     let read = format_pattern::read_text(version, text);
     match read {
-        Text::Fine => format_pattern::as_checked(scan_pattern(text)),
+        Text::Fine => format_pattern::as_checked(scan_pattern(text, true)),
         Text::NotUtf8(at) => Checked::NotUtf8(at),
         Text::UnknownVersion => Checked::UnknownVersion,
     }

@@ -82,7 +82,7 @@ pub record Tries (budget : ℕ) (output : List ℕ) (a : Report) (after : List �
 -- by the entry that is asked; the numbers that each check answers are in specs/Checks.antt of luck_linter
 abbrev pub Promised : ℕ → Asked → Type 0
 Promised version (format text) = ChecksText (numbers check.format) (length text) (checkFormat version text)
-Promised version (pattern text) = ChecksText (numbers check.pattern) (length text) (checkPattern version text)
+Promised version (pattern text) = ChecksText (numbers (check.pattern true)) (length text) (checkPattern version text)
 Promised version (pack text) = ChecksText (numbers (check.pack false)) (length text) (checkPack version false text)
 Promised version (packsize text) = ChecksText (numbers (check.pack true)) (length text) (checkPack version true text)
 Promised version (date text) = ChecksText (numbers check.date) (length text) (checkDate version text)

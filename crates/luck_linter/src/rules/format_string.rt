@@ -2,11 +2,12 @@
 ghost use mathlib.Core.Path.{_≡_};
 ghost use mathlib.Core.Bool.{true};
 ghost use Prim.Native.Nat.{_+_, min};
+ghost use Rattle.luck_text.specs.Bytes.{among};
 ghost use Rattle.luck_token.specs.Span.{u32-max};
 ghost use Rattle.luck_answer.specs.Answer.{checkAnswer};
 ghost use Rattle.luck_replacement.specs.Replacement.{countOf};
 ghost use mathlib.Core.Option.{some};
-ghost use Rattle.luck_linter.specs.Checks.{checkMeant, checkNamed};
+ghost use Rattle.luck_linter.specs.Checks.{walkOf, checkMeant, checkNamed};
 ghost use Rattle.luck_linter.specs.StringLiteral.{
   isNumericEscape,
   hasNumericEscape,
@@ -15,11 +16,13 @@ ghost use Rattle.luck_linter.specs.StringLiteral.{
   unspanned,
   spannedAnswer,
   spanAt,
+  withSpan,
   checkBody,
   checkShort,
   checkNamedLiteral,
   checkLiteral,
 };
+ghost use Rattle.luck_linter.specs.Inner.{hasBackslash, isNumeric};
 use crate::checks;
 use crate::checks::Check;
 use crate::checks::Named;
@@ -114,26 +117,38 @@ fn is_numeric_escape(byte: u8) -> bool
     byte == b'u'
 }
 
+// What the backslashes of a body begin: there are none; no escape that spells a byte by its number; such an escape.
+pub enum Escapes {
+    Nothing,
+    Plain,
+    Numeric,
+}
+
 // Escapes are rare: what stands between them is passed over by blocks.
-fn has_numeric_escape(body: &[u8]) -> bool
-    ensures { λ r. ⌜ r ≡ hasNumericEscape (now (body .entry)) ⌝ }
+fn escapes_in(body: &[u8]) -> Escapes
+    ensures { λ r. ⌜ (isNumeric r ≡ hasNumericEscape (now (body .entry))) × (hasBackslash r ≡ among 92 (now (body .entry))) ⌝ }
 {
+    let mut backslash = false;
     let mut at = blocks::blocks_end(body, 0, b'\\');
     while at < body.len() {
         if body[at] != b'\\' {
             at += 1;
             continue;
         }
+        backslash = true;
         if body.len() - at == 1 {
-            return false;
+            return Escapes::Plain;
         }
         let next = at + 1;
         if is_numeric_escape(body[next]) {
-            return true;
+            return Escapes::Numeric;
         }
         at = blocks::blocks_end(body, at + 2, b'\\');
     }
-    false
+    if backslash {
+        return Escapes::Plain;
+    }
+    Escapes::Nothing
 }
 
 // A sum that stays at the largest number.
@@ -164,18 +179,27 @@ fn span_at(start: u32, body: &[u8], offset: usize) -> Span
     Span::from_indices(offset, end).shifted(one_later(start))
 }
 
-fn check_body(check: Check, rules: Rules, start: u32, body: &[u8]) -> Literal
-    ensures { λ r. ⌜ literalAnswer r ≡ checkBody (checkMeant check) rules start (now (body .entry)) ⌝ }
+fn walk_body(check: Check, rules: Rules, start: u32, body: &[u8]) -> Literal
+    ensures { λ r. ⌜ literalAnswer r ≡ withSpan start (now (body .entry)) (walkOf (checkMeant check) rules (now (body .entry))) ⌝ }
 {
-    if has_numeric_escape(body) {
-        return skipped();
-    }
     let answer = answer::of_walked(checks::walk(check, rules, body));
     if answer.number == 0 {
         return unspanned(answer);
     }
     let offset = answer.offset;
     spanned(answer, span_at(start, body, offset))
+}
+
+// A backslash may spell an end of a range: where one stands, ranges are not tested.
+fn check_body(check: Check, rules: Rules, start: u32, body: &[u8]) -> Literal
+    ensures { λ r. ⌜ literalAnswer r ≡ checkBody (checkMeant check) rules start (now (body .entry)) ⌝ }
+{
+    let escapes = escapes_in(body);
+    match escapes {
+        Escapes::Nothing => walk_body(check, rules, start, body),
+        Escapes::Plain => walk_body(checks::without_ranges(check), rules, start, body),
+        Escapes::Numeric => skipped(),
+    }
 }
 
 fn check_short(check: Check, rules: Rules, start: u32, text: &[u8]) -> Literal

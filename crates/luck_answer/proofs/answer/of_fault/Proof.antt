@@ -32,6 +32,8 @@ of-fault-spec =
     (λ c. search needs) (λ c κs. search needs)
     (λ c. search needs) (λ c κs. search needs)
     (λ c. search needs) (λ c κs. search needs)
+    (λ c. search needs) (λ c κs. search needs)
+    (λ c. search (of-variant refusal))
     (λ c. search (of-variant refusal))
     (λ c. search (of-variant refusal))
     (λ c. search (of-variant refusal))
