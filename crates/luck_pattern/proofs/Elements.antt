@@ -7,13 +7,14 @@ use native.Mathlib.Omega.{arith}
 use mathlib.Core.Path.{_≡_, refl, sym, ap, subst, _∙_}
 use mathlib.Core.Logic.{_⊎_, inl, inr, ⊎-elim, _↔_}
 use mathlib.Core.Bool.{Bool, true, false, _&&_, true≢false}
-use mathlib.Core.List.{List, [], _∷_, List·Memᴰ, List·Memᴰ·head, List·Memᴰ·tail, List·Memᴰ·not-nil, List·Memᴰ·cases-cons}
+use mathlib.Core.List.{List, [], _∷_, List·Memᴰ·head, List·Memᴰ·tail, List·Memᴰ·not-nil, List·Memᴰ·cases-cons}
 use mathlib.Core.Option.{Option, none, some}
 use lib.Dec.{eqb, leb, ltb}
 use borrow.Author.Tests.{ltb-true, ltb-false, eqb-true, eqb-false, leb-true, le-leb, lt-leb, lt-ltb, le-ltb, eq-eqb, ne-eqb}
 use Rattle.luck_text.specs.Bytes.{if_then_else_, byteAt}
 use Rattle.luck_text.proofs.Cases.{by-test, if-true, if-false, and-left, and-right, first-false, second-false}
 use Rattle.luck_pattern.specs.Elements.{Element, escape, range, plain, elementAt, widthOf, PlacedElement, _at_, placedFrom, placedElements, elementsIn, elementsOf, isReversed, reversedIn, firstReversed}
+use Rattle.luck_pattern.specs.Ranges.{Upwards}
 
 -- ---- The bound taken away
 
@@ -93,10 +94,6 @@ module _ (pat : List ℕ) (e : ℕ) where
           no-range (inr g) = second-false (eqb (byteAt pat (q + 1)) (code "-")) (ltb (q + 2) e) (le-ltb (q + 2) e g)
 
 -- ---- None is reversed
-
--- each range of a list runs upwards
-abbrev pub Upwards : List Element → Type 0
-Upwards xs = (left right : ℕ) → List·Memᴰ (range left right) xs → left ≤ right
 
 upwards-none : (xs : List PlacedElement) → Upwards (elementsIn xs) → reversedIn xs ≡ none
 unfolding elementsIn reversedIn isReversed

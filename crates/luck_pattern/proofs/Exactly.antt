@@ -20,11 +20,14 @@ use Rattle.luck_token.specs.Version.{isVersion}
 use Rattle.luck_utf8.specs.Utf8.{illFormed}
 use Rattle.luck_token.specs.Text.{afterVersion, afterUtf8, afterText}
 use Rattle.luck_answer.specs.Answer.{Answer, accepted, refused, refusedWith, checkText}
+use Rattle.luck_answer.proofs.Texts.{in-any-case}
+use Rattle.luck_answer.proofs.Answers.{Stops, walk-every}
 use Rattle.luck_pattern.specs.Captures.{closeLatest, isClosed, allClosed}
 use Rattle.luck_pattern.specs.Reading.{Head, at-open, at-close, at-percent, at-set, at-other, headOf, Escape, esc-digit, esc-balance, esc-frontier, esc-other, esc-end, escapeAt, SetEnd, closes-at, cut-at, unclosed, firstMember, setEnd}
-use Rattle.luck_pattern.specs.Pattern.{isEmptySet, Scanned, past, fault, onward, afterClose, patternEnd, closedAs, reversedOf, setAs, setRead, escapeAs, escapeRead, headTurn, patternTurn, patternWalk, checkPatternAs, itemReversed, tested}
+use Rattle.luck_pattern.specs.Pattern.{isEmptySet, Scanned, past, fault, onward, afterClose, patternEnd, closedAs, reversedOf, setAs, setRead, escapeAs, escapeRead, headTurn, patternTurn, patternWalk, checkPatternAs}
+use Rattle.luck_pattern.specs.Ranges.{itemReversed, Passed, at-start, one-more, FirstReversed, NoneReversed}
 use Rattle.luck_pattern.proofs.Places.{ClosesFrom, first-behind, set-closes}
-use Rattle.luck_pattern.proofs.Ranges.{turn-tested, Reversed, walk-or-39}
+use Rattle.luck_pattern.proofs.Ranges.{tested, turn-tested, Reversed, walk-or-39, same-or-39}
 
 -- ---- A turn without the test: an item has a byte at least and lies in the text, and no fault is 39
 
@@ -137,13 +140,6 @@ module _ (pat : List ℕ) where
 
 -- ---- What is passed before a place
 
--- the check, with or without the test, has passed the items before place p, and the captures are then these
-pub data Passed (ranges : Bool) (pat : List ℕ) : ℕ → List Bool → Type 0 where
-  at-start : Passed ranges pat 0 []
-  one-more : {p width : ℕ} {before after : List Bool} → Passed ranges pat p before → p < length pat
-      → patternTurn ranges pat p before ≡ goes width after
-      → Passed ranges pat (p + width) after
-
 module _ (pat : List ℕ) where
   -- with the test no fewer items are looked at: what is passed with it is passed without it
   pub passed-without : {p : ℕ} {captures : List Bool} → Passed true pat p captures → Passed false pat p captures
@@ -183,30 +179,32 @@ module _ (pat : List ℕ) where
 
   -- ---- 39
 
-  -- the items before a place are passed with the test, so that none of them is at fault and none has a reversed range;
-  -- and the set of the item there closes, and its first reversed range stands at k
-  pub record FirstReversed (k : ℕ) : Type 0 where
-    pub at : ℕ
-    pub captures : List Bool
-    pub passed : Passed true pat at captures
-    pub there : at < length pat
-    pub is : itemReversed pat at ≡ some k
-
   end-number : (p : ℕ) (captures : List Bool) → patternEnd pat p captures .number < 39
   unfolding patternEnd
   end-number p captures = by-test (λ (a : Answer). a .number < 39) (allClosed captures) _ _ (λ t. omega arith) (λ t. omega arith)
 
-  pub walk-39 : (k : ℕ) → (patternWalk true pat ≡ refused 39 k) ↔ FirstReversed k
+  turn-number : (p : ℕ) (t : Turn (List Bool) Answer) → Sane pat p t → Stops (λ (a : Answer). a .number < 39) t
+  turn-number p (stop a) s = s
+  turn-number p (goes width captures) s = tt
+
+  -- without the test no answer is 39
+  walk-number : patternWalk false pat .number < 39
+  unfolding patternWalk
+  walk-number =
+      walk-every (patternTurn false pat) (patternEnd pat) (length pat) (λ (a : Answer). a .number < 39)
+      (λ p captures h. turn-number p (patternTurn false pat p captures) (sane pat p captures h)) end-number 0 []
+
+  pub walk-39 : (k : ℕ) → (patternWalk true pat ≡ refused 39 k) ↔ FirstReversed pat k
   unfolding patternWalk
   walk-39 k = (λ e. go e (ended (length pat) 0 [] (omega arith) at-start), λ y. back y)
     where
-      go : From 0 [] ≡ refused 39 k → Ended → FirstReversed k
+      go : From 0 [] ≡ refused 39 k → Ended → FirstReversed pat k
       go e y =
           ⊎-elim
           (λ x.
           let same : x .1 ≡ refused 39 k = sym (walk-stop (patternTurn true pat) (patternEnd pat) (length pat) (y .at) (y .captures) (x .1) (x .0) (x .2)) ∙ sym (passed-walk (y .passed)) ∙ e in
           record {
-            at = y .at;
+            place = y .at;
             captures = y .captures;
             passed = y .passed;
             there = x .0;
@@ -218,36 +216,32 @@ module _ (pat : List ℕ) where
           absurd (omega (arith, end-number (y .at) (y .captures))))
           (y .how)
 
-      back : FirstReversed k → From 0 [] ≡ refused 39 k
+      back : FirstReversed pat k → From 0 [] ≡ refused 39 k
       back y =
           passed-walk (y .passed)
-          ∙ walk-stop (patternTurn true pat) (patternEnd pat) (length pat) (y .at) (y .captures) (refused 39 k) (y .there) (is-39 pat (y .at) (y .captures) k (y .there) .1 (y .is))
+          ∙ walk-stop (patternTurn true pat) (patternEnd pat) (length pat) (y .place) (y .captures) (refused 39 k) (y .there) (is-39 pat (y .place) (y .captures) k (y .there) .1 (y .is))
 
   -- ---- Accepted with the test
 
-  -- no item that the check passes, or is at fault with, without the test has a reversed range
-  abbrev pub NoneReversed : Type 0
-  NoneReversed = (p : ℕ) (captures : List Bool) → Passed false pat p captures → p < length pat → itemReversed pat p ≡ none
-
   -- the walk with the test is not 39
-  not-39 : ((k : ℕ) → FirstReversed k → ⊥) → {p : ℕ} {captures : List Bool} → Passed false pat p captures
+  not-39 : ((k : ℕ) → FirstReversed pat k → ⊥) → {p : ℕ} {captures : List Bool} → Passed false pat p captures
       → Passed true pat p captures
   not-39 n at-start = at-start
   not-39 n (one-more {p} {width} {before} {after} q h e) = step (not-39 n q) (itemReversed pat p) refl
     where
       step : Passed true pat p before → (o : Option ℕ) → itemReversed pat p ≡ o → Passed true pat (p + width) after
       step q none f = one-more q h (goes-on pat p before width after .1 (f, e))
-      step q (some k) f = absurd (n k (record { at = p; captures = before; passed = q; there = h; is = f }))
+      step q (some k) f = absurd (n k (record { place = p; captures = before; passed = q; there = h; is = f }))
 
-  none-first : ((k : ℕ) → FirstReversed k → ⊥) → NoneReversed
+  pub none-first : ((k : ℕ) → FirstReversed pat k → ⊥) → NoneReversed pat
   none-first n p captures q h = go (itemReversed pat p) refl
     where
       go : (o : Option ℕ) → itemReversed pat p ≡ o → itemReversed pat p ≡ none
       go none f = f
-      go (some k) f = absurd (n k (record { at = p; captures = captures; passed = not-39 n q; there = h; is = f }))
+      go (some k) f = absurd (n k (record { place = p; captures = captures; passed = not-39 n q; there = h; is = f }))
 
   pub walk-accepted : (n : ℕ)
-      → (patternWalk true pat ≡ accepted n) ↔ ((patternWalk false pat ≡ accepted n) × NoneReversed)
+      → (patternWalk true pat ≡ accepted n) ↔ ((patternWalk false pat ≡ accepted n) × NoneReversed pat)
   walk-accepted n = (
     λ e.
         (⊎-elim (λ same. sym same ∙ e) (λ y. never n (y .0) e (y .2)) (walk-or-39 pat), none-first (λ k y. never n k e (walk-39 k .1 y))),
@@ -255,7 +249,7 @@ module _ (pat : List ℕ) where
         ⊎-elim (λ same. same ∙ y .0)
         (λ r.
         let f = walk-39 (r .0) .0 (r .2) in
-        let g : none ≡ some (r .0) = sym (y .1 (f .at) (f .captures) (passed-without (f .passed)) (f .there)) ∙ f .is in
+        let g : none ≡ some (r .0) = sym (y .1 (f .place) (f .captures) (passed-without (f .passed)) (f .there)) ∙ f .is in
         let z : _≡_ {A = ℕ} 0 1 = cc in absurd (omega arith))
         (walk-or-39 pat),
   )
@@ -301,3 +295,23 @@ module _ (version : ℕ) (pat : List ℕ) where
         λ e. let y = gives .0 e in let w = walk-accepted pat n .0 (y .2) in (without .1 (y .0, y .1, w .0), w .1),
         λ y. let x = without .0 (y .0) in gives .1 (x .0, x .1, walk-accepted pat n .1 (x .2, y .1)),
       )
+
+  -- without the test the answer is never 39
+  untested-number : checkPatternAs false version pat .number < 39
+  unfolding checkPatternAs
+  untested-number =
+      in-any-case version pat (patternWalk false pat) (λ (a : Answer). a .number < 39) (omega arith) (λ place h. omega arith) (walk-number pat)
+
+  -- it is not 39 exactly where the version or the text is refused, or no item has a reversed range
+  pub check-not-39 : (checkPatternAs true version pat .number ≡ 39 → ⊥) ↔ (isVersion version ≡ true → illFormed pat ≡ none → NoneReversed pat)
+  check-not-39 = (
+    λ n v u. none-first pat (λ k f. n (ap (λ (a : Answer). a .number) (check-39 k .1 (v, u, f)))),
+    λ fine e.
+        ⊎-elim (λ same. absurd (omega (arith, untested-number, ap (λ (a : Answer). a .number) same)))
+        (λ r.
+        let y = check-39 (r .0) .0 (r .2) in
+        let f = y .2 in
+        let g : none ≡ some (r .0) = sym (fine (y .0) (y .1) (f .place) (f .captures) (passed-without pat (f .passed)) (f .there)) ∙ f .is in
+        let z : _≡_ {A = ℕ} 0 1 = cc in absurd (omega arith))
+        (same-or-39 version pat),
+  )

@@ -4,3 +4,5 @@ pub mod Elements
 pub mod Ranges
 pub mod Exactly
 pub mod Patterns
+pub mod ItemRanges
+pub mod Promises

@@ -19,18 +19,18 @@ use Rattle.luck_utf8.specs.Utf8.{illFormed}
 use Rattle.luck_token.specs.Text.{afterVersion, afterUtf8, afterText}
 use Rattle.luck_answer.specs.Answer.{Answer, accepted, refused, checkText}
 use Rattle.luck_pattern.specs.Reading.{Head, at-open, at-close, at-percent, at-set, at-other, headOf, Escape, esc-digit, esc-balance, esc-frontier, esc-other, esc-end, escapeAt, SetEnd, closes-at, cut-at, unclosed, firstMember, setEnd, escapeSet, headSet, itemSet}
-use Rattle.luck_pattern.specs.Pattern.{Scanned, past, fault, onward, patternEnd, closedAs, reversedOf, setAs, setRead, escapeAs, escapeRead, headTurn, patternTurn, patternWalk, checkPatternAs, reversedBefore, reversedSet, itemReversed, tested}
+use Rattle.luck_pattern.specs.Pattern.{Scanned, past, fault, onward, patternEnd, closedAs, reversedOf, setAs, setRead, escapeAs, escapeRead, headTurn, patternTurn, patternWalk, checkPatternAs}
+use Rattle.luck_pattern.specs.Ranges.{reversedBefore, reversedSet, itemReversed, RangeAt}
 use Rattle.luck_pattern.proofs.Places.{ClosesFrom, set-closes}
 use Rattle.luck_pattern.specs.Elements.{firstReversed}
 use Rattle.luck_pattern.proofs.Elements.{ReversedAt, some-reversed}
 
 -- ---- A turn
 
--- a reversed range, whole inside the text, whose left byte stands at place k
-pub record RangeAt (pat : List ℕ) (k : ℕ) : Type 0 where
-  pub inside : k + 2 < length pat
-  pub hyphen : byteAt pat (k + 1) ≡ code "-"
-  pub reversed : byteAt pat (k + 2) < byteAt pat k
+-- a turn of the check without the test, after the test
+unfoldable pub tested : Option ℕ → Turn (List Bool) Answer → Turn (List Bool) Answer
+tested none turn = turn
+tested (some left) turn = stop (refused 39 left)
 
 module _ (pat : List ℕ) where
   -- the set's `[` stands at p, and the item that has it at start

@@ -4,6 +4,7 @@ use Rattle.luck_pattern.specs.Captures
 use Rattle.luck_pattern.specs.Reading
 use Rattle.luck_pattern.specs.Elements
 use Rattle.luck_pattern.specs.Pattern
+use Rattle.luck_pattern.specs.Ranges
 use Rattle.luck_pattern.specs.Items
 
 unfoldable pub computed : Unit {0}
@@ -17,8 +18,7 @@ unfolding
     Pattern.isEmptySet Pattern.onward Pattern.afterClose
     Pattern.patternEnd Pattern.closedAs Pattern.reversedOf Pattern.setAs Pattern.setRead Pattern.escapeAs
     Pattern.escapeRead Pattern.headTurn Pattern.patternTurn Pattern.patternWalk Pattern.checkPatternAs
-    Pattern.checkPattern Pattern.reversedBefore Pattern.reversedSet
-    Pattern.itemReversed Pattern.tested
+    Pattern.checkPattern Ranges.reversedBefore Ranges.reversedSet Ranges.itemReversed
     Items.setOf Items.repeatOf Items.repeatWidth Items.repeated Items.readSingle Items.readSet Items.readFrontier
     Items.readEscape Items.readByte Items.readHead Items.readItem Items.thenItems Items.itemsFrom Items.items
 computed = tt

@@ -34,7 +34,6 @@ use Rattle.luck_pattern.specs.Reading.{
   unclosed,
   firstMember,
   setEnd,
-  itemSet,
 }
 use Rattle.luck_pattern.specs.Elements.{firstReversed}
 use Rattle.luck_pattern.specs.Captures.{maxCaptures, closeLatest, isClosed, allClosed}
@@ -113,23 +112,3 @@ checkPatternAs ranges version pat = checkText version pat (patternWalk ranges pa
 -- the check, with that test (F-10 of document 02)
 unfoldable pub checkPattern : ℕ → List ℕ → Answer
 checkPattern version pat = checkPatternAs true version pat
-
--- ---- The reversed range of an item, for the laws
-
-unfoldable pub reversedBefore : List ℕ → ℕ → SetEnd → Option ℕ
-reversedBefore pat p (closes-at e) = firstReversed pat e (firstMember pat p)
-reversedBefore pat p (cut-at e) = none
-reversedBefore pat p unclosed = none
-
-unfoldable pub reversedSet : List ℕ → Option ℕ → Option ℕ
-reversedSet pat none = none
-reversedSet pat (some p) = reversedBefore pat p (setEnd pat p)
-
--- the first reversed range of the item at place p, if its set closes
-unfoldable pub itemReversed : List ℕ → ℕ → Option ℕ
-itemReversed pat p = reversedSet pat (itemSet pat p)
-
--- a turn of the check without the test, after the test
-unfoldable pub tested : Option ℕ → Turn (List Bool) Answer → Turn (List Bool) Answer
-tested none turn = turn
-tested (some left) turn = stop (refused 39 left)

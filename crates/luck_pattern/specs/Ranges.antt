@@ -1,0 +1,106 @@
+-- The words of what is promised of the test of ranges (F-10 of document 02): the first reversed range of an item, as the
+-- check finds it and as the matching reads it; the items that the check passes; and the first reversed range of a
+-- pattern.
+-- Assumes nothing.
+use Prim.Native.Nat.{ℕ, _+_, _≤_, _<_}
+use Prim.Native.Char.{code}
+use mathlib.Core.Path.{_≡_}
+use mathlib.Core.Bool.{Bool, true, false}
+use mathlib.Core.List.{List, [], List·Memᴰ}
+use mathlib.Core.Option.{Option, none, some}
+use lib.ListN.{length}
+use Rattle.luck_text.specs.Bytes.{byteAt}
+use Rattle.luck_text.specs.Walk.{goes}
+use Rattle.luck_pattern.specs.Reading.{SetEnd, closes-at, cut-at, unclosed, firstMember, setEnd, itemSet}
+use Rattle.luck_pattern.specs.Elements.{Element, range, firstReversed}
+use Rattle.luck_pattern.specs.Pattern.{patternTurn}
+use Rattle.luck_pattern.specs.Items.{
+  Single,
+  any,
+  class,
+  among-set,
+  byte,
+  Item,
+  start-capture,
+  position-capture,
+  end-capture,
+  end-anchor,
+  balance,
+  frontier,
+  back-reference,
+  single,
+  raises,
+  Read,
+  last,
+  item,
+}
+
+-- ---- The reversed range of an item
+
+unfoldable pub reversedBefore : List ℕ → ℕ → SetEnd → Option ℕ
+reversedBefore pat p (closes-at e) = firstReversed pat e (firstMember pat p)
+reversedBefore pat p (cut-at e) = none
+reversedBefore pat p unclosed = none
+
+unfoldable pub reversedSet : List ℕ → Option ℕ → Option ℕ
+reversedSet pat none = none
+reversedSet pat (some p) = reversedBefore pat p (setEnd pat p)
+
+-- the first reversed range of the item at place p, if it is a set or a frontier whose set closes
+unfoldable pub itemReversed : List ℕ → ℕ → Option ℕ
+itemReversed pat p = reversedSet pat (itemSet pat p)
+
+-- each range of a list of elements runs upwards
+abbrev pub Upwards : List Element → Type 0
+Upwards elements = (left right : ℕ) → List·Memᴰ (range left right) elements → left ≤ right
+
+-- so does each range in the set of a single, or of an item as the matching reads it
+abbrev pub UpwardsSingle : Single → Type 0
+UpwardsSingle any = Unit {0}
+UpwardsSingle (class b) = Unit {0}
+UpwardsSingle (among-set set) = Upwards (set .elements)
+UpwardsSingle (byte b) = Unit {0}
+
+abbrev pub UpwardsItem : Item → Type 0
+UpwardsItem start-capture = Unit {0}
+UpwardsItem position-capture = Unit {0}
+UpwardsItem end-capture = Unit {0}
+UpwardsItem end-anchor = Unit {0}
+UpwardsItem (balance x y) = Unit {0}
+UpwardsItem (frontier set) = Upwards (set .elements)
+UpwardsItem (back-reference d) = Unit {0}
+UpwardsItem (single x r) = UpwardsSingle x
+UpwardsItem (raises kind) = Unit {0}
+
+abbrev pub itemOf : Read → Item
+itemOf (last i) = i
+itemOf (item i q) = i
+
+-- a reversed range, whole inside the text, whose left byte stands at place k
+pub record RangeAt (pat : List ℕ) (k : ℕ) : Type 0 where
+  pub inside : k + 2 < length pat
+  pub hyphen : byteAt pat (k + 1) ≡ code "-"
+  pub reversed : byteAt pat (k + 2) < byteAt pat k
+
+-- ---- Of a pattern
+
+-- the check, with or without the test, has found no fault in the items before place p, and the captures are then these
+pub data Passed (ranges : Bool) (pat : List ℕ) : ℕ → List Bool → Type 0 where
+  at-start : Passed ranges pat 0 []
+  one-more : {p width : ℕ} {before after : List Bool} → Passed ranges pat p before → p < length pat
+      → patternTurn ranges pat p before ≡ goes width after
+      → Passed ranges pat (p + width) after
+
+-- the items before a place are passed with the test, so that none of them is at fault and none has a reversed range;
+-- and the set of the item there closes, and its first reversed range stands at k
+pub record FirstReversed (pat : List ℕ) (k : ℕ) : Type 0 where
+  pub place : ℕ
+  pub captures : List Bool
+  pub passed : Passed true pat place captures
+  pub there : place < length pat
+  pub is : itemReversed pat place ≡ some k
+
+-- no item that the check comes to without the test has a reversed range
+abbrev pub NoneReversed : List ℕ → Type 0
+NoneReversed pat =
+    (p : ℕ) (captures : List Bool) → Passed false pat p captures → p < length pat → itemReversed pat p ≡ none
