@@ -9,8 +9,9 @@ use mathlib.Core.Option.{none, some}
 use lib.ListN.{length, drop}
 use Rattle.luck_text.specs.Bytes.{ascii}
 use Rattle.luck_linter.specs.Computed.{computed}
-use Rattle.starred.specs.Cases.{format, pattern, pack, packsize, date, replacement, literal, decode}
-use Rattle.starred.specs.Cases.{checked, spanned, unspanned, skipped, decodedValue, notDecoded}
+use Rattle.lstr_gsub.specs.Computed.{computed as trialComputed}
+use Rattle.starred.specs.Cases.{format, pattern, pack, packsize, date, replacement, literal, decode, trial}
+use Rattle.starred.specs.Cases.{Told, checked, spanned, unspanned, skipped, decodedValue, notDecoded, tried}
 use Rattle.starred.specs.Cases.{Asked, Case, case, only, after51, every, each, told, wanted}
 
 -- ---- F-4: code points up to 7FFFFFFF in 5.4 and 5.5
@@ -131,3 +132,84 @@ onceUtf8 =
 pub once-utf8-holds : told onceUtf8 ≡ wanted onceUtf8
 unfolding computed
 once-utf8-holds = refl
+
+-- ---- F-10: reversed ranges
+
+-- A pattern, its number and its offset, in every version.
+abbrev é : List ℕ
+é = 0xC3 ∷ 0xA9 ∷ []
+
+abbrev pub ranges : List (List ℕ × (ℕ × ℕ))
+ranges =
+    (ascii "[z-a]", (39, 1)) ∷
+    (ascii "[a-z]", (0, 0)) ∷
+    (ascii "[a-a]", (0, 0)) ∷
+    (ascii "[^z-a]", (39, 2)) ∷
+    (ascii "%f[z-a]", (39, 3)) ∷
+    -- the first of a set, and the first set
+    (ascii "[a-cz-bb-a]", (39, 4)) ∷
+    (ascii "[a-z][z-a][b-a]", (39, 6)) ∷
+    -- as the matching reads them: `%` is an end on the right, not on the left; `]` is one in the first place
+    (ascii "[z-%a]", (39, 1)) ∷
+    (ascii "[%z-a]", (0, 0)) ∷
+    (ascii "[!-%%g]", (0, 0)) ∷
+    (ascii "[a-%%z-b]", (39, 1)) ∷
+    (ascii "[!-%%z-b]", (0, 0)) ∷
+    (ascii "[^]-!]", (39, 2)) ∷
+    (ascii "[--!]", (39, 1)) ∷
+    -- no range
+    (ascii "[z-]", (0, 0)) ∷
+    (ascii "[z%-a]", (0, 0)) ∷
+    (ascii "[a-z-!]", (0, 0)) ∷
+    (ascii "z-a", (0, 0)) ∷
+    (ascii "%[z-a]", (0, 0)) ∷
+    (ascii "%bz-", (0, 0)) ∷
+    -- a fault before the set, in it, and after it
+    (ascii ")[z-a]", (11, 0)) ∷
+    (ascii "[z-a", (8, 0)) ∷
+    (ascii "[z-a%", (1, 4)) ∷
+    (ascii "[z-a])", (39, 1)) ∷
+    (ascii "([z-a]", (39, 2)) ∷
+    (ascii "[z-a]%", (39, 1)) ∷
+    -- bytes of characters
+    (ascii "[" ++ é ++ ascii "-a]", (39, 2)) ∷
+    (ascii "[a-" ++ é ++ ascii "]", (0, 0)) ∷
+    (ascii "[" ++ é ++ ascii "-" ++ é ++ ascii "]", (0, 0)) ∷
+    (ascii "[z-a]" ++ (0xFF ∷ []), (23, 5)) ∷ []
+
+abbrev rangeCase : List ℕ × (ℕ × ℕ) → Case
+rangeCase row =
+    case every (pattern (row .0))
+    (checked (record { number = row .1 .0; offset = row .1 .1; first = 0; second = 0; count = 0 }))
+
+pub ranges-hold : told (each rangeCase ranges) ≡ wanted (each rangeCase ranges)
+unfolding computed
+ranges-hold = refl
+
+-- In a literal: the span is one byte wide, inside a character too; a body with a backslash is not tested; one with a
+-- numeric escape is skipped. A trial runs what is refused with 39: `[z-a]` fits no byte, `[^z-a]` every byte.
+abbrev reversedAt : ℕ → ℕ → ℕ → Told
+reversedAt offset start end =
+    spanned (record { number = 39; offset = offset; first = 0; second = 0; count = 0 }) start end
+
+abbrev pub rangesElsewhere : List Case
+rangesElsewhere =
+    case every (literal (code "P") none 10 (ascii "'[z-a]'")) (reversedAt 1 12 13)
+    ∷ case every (literal (code "P") none 10 (ascii "'[" ++ é ++ ascii "-a]'")) (reversedAt 2 13 14)
+    ∷ case every (literal (code "P") none 0xFFFF_FFFE (ascii "'[z-a]'")) (reversedAt 1 0xFFFF_FFFF 0xFFFF_FFFF)
+    ∷ case every (literal (code "P") none 10 (ascii "'[z-a]\\n'"))
+    (unspanned (record { number = 0; offset = 0; first = 0; second = 0; count = 0 }))
+    ∷ case every (literal (code "P") none 10 (ascii "'\\n([z-a]'"))
+    (spanned (record { number = 11; offset = 8; first = 0; second = 0; count = 0 }) 19 20)
+    ∷ case every (literal (code "P") none 10 (ascii "'[z-a]\\65'")) skipped
+    ∷ case every (literal (code "F") none 10 (ascii "'[z-a]'"))
+    (unspanned (record { number = 0; offset = 0; first = 0; second = 0; count = 0 }))
+    ∷ case every (trial (ascii "az") (ascii "[z-a]") (ascii "x") 1000 (ascii "..."))
+    (tried (record { number = 0; kind = 0; written = 2; replacements = 0; steps = 3 }) (ascii "az."))
+    ∷ case every (trial (ascii "az") (ascii "[^z-a]") (ascii "x") 1000 (ascii "..."))
+    (tried (record { number = 0; kind = 0; written = 2; replacements = 2; steps = 5 }) (ascii "xx."))
+    ∷ []
+
+pub ranges-elsewhere-hold : told rangesElsewhere ≡ wanted rangesElsewhere
+unfolding computed trialComputed
+ranges-elsewhere-hold = refl
