@@ -9,4 +9,5 @@ pub mod Checked
 pub mod LiteralAnswers
 pub mod Spans
 pub mod Refusals
+pub mod Reversed
 pub mod Promises

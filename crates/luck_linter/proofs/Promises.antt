@@ -2,7 +2,7 @@
 -- six and the text is UTF-8; in every other case the answer is 30, 25 or 23, by the definition. At the end every check
 -- of a body that is not UTF-8, as the value of a literal can be (F-4 of document 02).
 -- Assumes nothing.
-use Prim.Native.Nat.{ℕ, _-_, _<_, _≤_}
+use Prim.Native.Nat.{ℕ, _+_, _-_, _<_, _≤_}
 use Prim.Native.Char.{code}
 use native.Mathlib.Omega.{arith}
 use mathlib.Core.Path.{_≡_, refl, sym, ap, _∙_}
@@ -12,13 +12,14 @@ use mathlib.Core.Option.{Option, none, some}
 use lib.ListN.{length}
 use lib.Dec.{eqb, leb}
 use borrow.Author.Tests.{leb-true, eqb-true}
-use Rattle.luck_text.specs.Bytes.{if_then_else_, byteAt}
+use Rattle.luck_text.specs.Bytes.{if_then_else_, byteAt, among}
 use Rattle.luck_text.proofs.Cases.{by-test, and-left, and-right}
 use Rattle.luck_utf8.specs.Utf8.{illFormed, isChar, utf8Bytes}
 use Rattle.luck_utf8.proofs.Parts.{between-ascii}
 use Rattle.luck_utf8.proofs.Promises.{first-ill-formed}
 use Rattle.luck_token.specs.Version.{isVersion, rulesOf}
 use Rattle.luck_token.specs.Literal.{isShort}
+use Rattle.luck_token.specs.Span.{spanOf}
 use Rattle.luck_answer.specs.Answer.{Answer, accepted, refused, checkText}
 use Rattle.luck_answer.proofs.Texts.{text-fine, text-ill-formed}
 use Rattle.luck_replacement.proofs.Promises.{UnknownOrFromNine, walk-accepts}
@@ -26,6 +27,7 @@ use Rattle.luck_linter.specs.Computed.{computed}
 use Rattle.luck_linter.specs.Checks.{Check, replacement, checkOf, walkOf, answer}
 use Rattle.luck_linter.specs.StringLiteral.{LiteralAnswer, hasNumericEscape, literalCheck, skippedAnswer, unspanned, withSpan, bodyOf, checkBody, checkShort, checkNamedLiteral, checkLiteral}
 use Rattle.luck_linter.proofs.Checked.{whole-check}
+use Rattle.luck_linter.proofs.Reversed.{reversed-body}
 use Rattle.luck_linter.proofs.StringLiterals as literals
 
 -- a literal is skipped exactly where its text is no short string or its body has an escape `\0` to `\9`, `\x` or `\u`
@@ -39,6 +41,12 @@ AnswersBody check version a text = a .skipped ≡ false → a .answer ≡ answer
 -- accepted if it is not skipped; `literal-accepted` promises it of a replacement of 5.1 with captures unknown, or known to be 9 or more (F-6)
 abbrev pub SkippedOrAccepted : LiteralAnswer → Type 0
 SkippedOrAccepted a = a .skipped ≡ false → a ≡ unspanned (accepted 0)
+
+-- 39 of a literal comes where no backslash stands in its body, and its span is one byte wide (F-10)
+abbrev pub ReversedSpan : ℕ → LiteralAnswer → List ℕ → Type 0
+ReversedSpan start a text =
+    a .answer .number ≡ 39
+    → (among (code "\\") (bodyOf text) ≡ false) × (a .span ≡ spanOf (start + 1 + a .answer .offset) (start + 1 + a .answer .offset + 1))
 
 -- ---- Their proofs
 
@@ -110,6 +118,21 @@ module _ (kind version : ℕ) (captures : Option ℕ) (start : ℕ) (text : List
       let plain = between-ascii text (q .0) (q .1) (q .2) (sym utf8) in
       ap (λ l. l .answer) (p .1) ∙ span-keeps start (bodyOf text) (walkOf body-check (rulesOf version) (bodyOf text)) .1
       ∙ text-fine version (bodyOf text) (walkOf body-check (rulesOf version) (bodyOf text)) known plain ∙ sym (whole-check body-check version (bodyOf text))
+
+  -- a literal that is answered 39 is not skipped
+  shown : (short numeric : Bool) (a : LiteralAnswer) → skipping short numeric a .answer .number ≡ 39 → skipping short numeric a ≡ a
+  unfolding if_then_else_
+  shown true true a e = absurd (omega arith)
+  shown true false a e = refl
+  shown false numeric a e = absurd (omega arith)
+
+  pub literal-reversed : ReversedSpan start literal text
+  literal-reversed e =
+      let body = bodyOf text in
+      let is : literal ≡ walked = checked ∙ shown (isShort text) (hasNumericEscape body) walked (ap (λ l. l .answer .number) (sym checked) ∙ e) in
+      let answers : literal .answer ≡ walkOf body-check (rulesOf version) body = ap (λ l. l .answer) is ∙ span-keeps start body _ .1 in
+      let r = reversed-body check (rulesOf version) start body (ap (λ a. a .number) (sym answers) ∙ e) in
+      (r .0, ap (λ l. l .span) is ∙ r .1 ∙ ap (λ a. spanOf (start + 1 + a .offset) (start + 1 + a .offset + 1)) (sym answers))
 
 pub literal-accepted : (captures : Option ℕ) (start : ℕ) (text : List ℕ) → UnknownOrFromNine captures → illFormed text ≡ none
     → SkippedOrAccepted (checkLiteral (code "G") 1 captures start text)

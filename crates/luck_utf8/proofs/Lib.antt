@@ -1,4 +1,5 @@
 pub mod Sequences
+pub mod Width
 pub mod Parts
 pub mod CodePoints
 pub mod Reading
