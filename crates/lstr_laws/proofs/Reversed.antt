@@ -1,0 +1,39 @@
+-- A reversed range, which the check refuses (39), fits no byte where it is run: a set is what it is without it.
+-- Assumes nothing.
+use Prim.Native.Nat.{ℕ}
+use native.Mathlib.Omega.{arith}
+use mathlib.Core.Path.{_≡_, refl, sym, ap, _∙_}
+use mathlib.Core.Bool.{Bool, true, false, _&&_, _||_, true≢false}
+use mathlib.Core.List.{List, [], _∷_}
+use lib.Dec.{leb}
+use borrow.Author.Tests.{ltb-true, leb-true, lt-leb}
+use Rattle.luck_text.specs.Bytes.{if_then_else_}
+use Rattle.luck_text.proofs.Cases.{by-test, first-false, second-false}
+use Rattle.luck_pattern.specs.Elements.{Element, escape, range, plain, isReversed}
+use Rattle.lstr_item.specs.Single.{isElement, isAnyOf}
+
+-- the elements without the reversed ranges
+unfoldable pub withoutReversed : List Element → List Element
+withoutReversed [] = []
+withoutReversed (element ∷ more) =
+    let rest = withoutReversed more in
+    if isReversed element then rest else element ∷ rest
+
+module _ (inClass : ℕ → ℕ → Bool) where
+  pub fits-nothing : (element : Element) (c : ℕ) → isReversed element ≡ true → isElement inClass element c ≡ false
+  unfolding isReversed isElement
+  fits-nothing (escape b) c e = absurd (true≢false (sym e))
+  fits-nothing (plain b) c e = absurd (true≢false (sym e))
+  fits-nothing (range left right) c e = go (leb left c) refl
+    where
+      go : (b : Bool) → leb left c ≡ b → (leb left c && leb c right) ≡ false
+      go true f = second-false (leb left c) (leb c right) (lt-leb c right (omega (arith, ltb-true right left e, leb-true left c f)))
+      go false f = first-false (leb left c) (leb c right) f
+
+  pub same-without : (elements : List Element) (c : ℕ) → isAnyOf inClass (withoutReversed elements) c ≡ isAnyOf inClass elements c
+  unfolding withoutReversed isAnyOf
+  same-without [] c = refl
+  same-without (element ∷ more) c =
+      by-test (λ (xs : List Element). isAnyOf inClass xs c ≡ isAnyOf inClass (element ∷ more) c) (isReversed element) _ _
+      (λ e. same-without more c ∙ sym (ap (λ b. b || isAnyOf inClass more c) (fits-nothing element c e)))
+      (λ e. ap (λ b. isElement inClass element c || b) (same-without more c))
