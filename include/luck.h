@@ -25,9 +25,10 @@
  *   measured, but for luck_gsub_trial, whose 200 levels take up to 473 KiB: give it 512. The first call of memcpy in a
  *   program takes some 3 KiB more where the loader looks functions up when they are first called.
  *
- * The refusals, by `number`, with their names after LUCK_. 0 is none: accepted, decoded, done, or skipped. "at" is the
- * byte that `offset` counts to, from 0; of a character of several bytes it is the first. host/c/messages.h has a
- * sentence for each number, and what to write instead, to copy; host/c/example.c is a short caller.
+ * The refusals, by `number`, with their names after LUCK_. 0 is none: accepted, decoded, done, or skipped. No function
+ * here gives 31 to 38. "at" is the byte that `offset` counts to, from 0; of a character of several bytes it is the
+ * first, but for 39. host/c/messages.h has a sentence for each number, and what to write instead, to copy;
+ * host/c/example.c is a short caller.
  *
  *    format
  *    1  TRUNCATED_SPECIFIER   the text ends after a `%` or its modifiers (patterns too: after `%`, also in a set, or
@@ -47,6 +48,9 @@
  *                             text's end
  *   12  TOO_MANY_CAPTURES     the 33rd capture; at its `(`
  *   13  BAD_BACK_REFERENCE    `%0`, or `%1` to `%9` of a capture that was not seen or is still open; at the digit
+ *   39  REVERSED_RANGE        a range in a set whose left byte is greater than its right, as in `[z-a]`; at the left
+ *                             byte of the first one, which may be the last byte of a character. Such a range holds no
+ *                             byte, so nothing matches it. Lua takes it; it is refused since it is most likely a slip
  *    pack and packsize
  *   14  INVALID_PACK_OPTION   no option, or one that `X` can't align to; at that option, not at the `X`; carries it
  *   15  TRUNCATED_PACK_SIZE   a `c` without a size, or an `X` at the text's end; at the place after it
@@ -76,7 +80,8 @@
  *   30  UNKNOWN_KIND          `kind` is none of the six letters (luck_check_literal only)
  *
  * 25 is tested first (by luck_check_literal: 30, then 25), then 23, then the text from its front: the first fault is
- * the answer. Decoding tests 25, 23, 24, 26.
+ * the answer. A set is tested for 39 when it has closed without another fault: `[z-a` is 8, `[z-a])` is 39. Decoding
+ * tests 25, 23, 24, 26.
  */
 #ifndef LUCK_H
 #define LUCK_H
@@ -151,7 +156,8 @@ enum {
     LUCK_STEPS_SPENT = 27,
     LUCK_TOO_DEEP = 28,
     LUCK_RAISED = 29,
-    LUCK_UNKNOWN_KIND = 30
+    LUCK_UNKNOWN_KIND = 30,
+    LUCK_REVERSED_RANGE = 39
 };
 
 /* What a check of a body answers. */
@@ -193,9 +199,9 @@ typedef struct {
     uint32_t second; /* as in luck_answer */
     bool skipped;    /* not checked; all else is 0 and false */
     bool spanned;    /* `start` and `end` hold the span of a fault in the body; accepted, 23, 25 and 30 have none */
-    uint32_t start;  /* spanned: the source's offset of the character at fault, at most 4,294,967,295; else 0 */
+    uint32_t start;  /* spanned: the source's offset of the character or byte at fault, at most 4,294,967,295; else 0 */
     uint32_t end;    /* spanned: the offset after that character, or one after `start` where the fault is at the
-                        body's end, at most 4,294,967,295; else 0 */
+                        body's end or inside a character (39), at most 4,294,967,295; else 0 */
     size_t offset;   /* the fault's place between the quotes; for 23 in the text, its quote included */
     size_t count;    /* as in luck_answer, by the kind */
 } luck_literal;
@@ -207,8 +213,9 @@ typedef struct {
  *
  * It skips a text that is not in two equal quotes, and one with an escape `\0` to `\9`, `\x` or `\u`, which spells a
  * byte by its number: decode such a literal, and check the value. Other escapes are read as the two bytes that are
- * written, and not as what Lua reads: `"%b\""` is an accepted pattern, though its value `%b"` is refused. Neither this
- * function nor decoding is a lexer: a quote or a line break between the quotes is taken.
+ * written, and not as what Lua reads: `"%b\""` is an accepted pattern, though its value `%b"` is refused. So a pattern
+ * with a backslash between its quotes is not tested for 39. Neither this function nor decoding is a lexer: a quote or a
+ * line break between the quotes is taken.
  */
 luck_literal luck_check_literal(uint8_t kind, uint32_t version, bool known, size_t captures, uint32_t start,
                                 const uint8_t *text, size_t len);
@@ -262,6 +269,9 @@ typedef struct {
  * under a version other than 1, the six versions give the same answer and the same output, and none raises; with one
  * that it accepts for its count under version 1, the trial under version 1 does not raise. 28, which real Lua raises as
  * "pattern too complex", can still be the answer.
+ *
+ * A trial runs a pattern with reversed ranges: `[z-a]` matches nothing, `[^z-a]` any byte. One that has no other fault,
+ * though it is refused (39), is like an accepted one in all of this, with the count of the captures that it has.
  */
 luck_trial luck_gsub_trial(uint32_t version, const uint8_t *pattern, size_t pattern_len, const uint8_t *replacement,
                            size_t replacement_len, const uint8_t *subject, size_t subject_len, uint32_t budget,

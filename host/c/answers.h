@@ -32,7 +32,7 @@ static void put_accepted(const question *asked, size_t count)
 /* The place of a refusal in the text: of 24 what its shape gives, of what is no part of the text nowhere. */
 static size_t place_of(const question *asked, const luck_answer *refused)
 {
-    if (refused->number <= LUCK_NOT_UTF8)
+    if (is_of_reading(refused->number) || refused->number == LUCK_NOT_UTF8)
         return refused->offset;
     return refused->number == LUCK_UNDECODABLE && asked->shape.fault > NO_OPENING ? asked->shape.place : nowhere;
 }

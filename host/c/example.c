@@ -19,6 +19,7 @@ int main(int argc, char **argv)
     case LUCK_UNMATCHED_CAPTURE: why = "a ( or ) without the other"; break;
     case LUCK_TOO_MANY_CAPTURES: why = "more than 32 captures"; break;
     case LUCK_BAD_BACK_REFERENCE: why = "a capture that is not closed"; break;
+    case LUCK_REVERSED_RANGE: why = "a range that holds no byte"; break;
     }
     printf("refused at byte %zu: %s\n", answer.offset, why);
     return 1;

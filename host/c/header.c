@@ -103,6 +103,12 @@ static const row accepted_rows[] = {
     {"pattern []]", 'P', 1, TEXT("[]]"), {0, 0, 0, 0, 0}},
     {"pattern, 32 captures", 'P', 1, TEXT(TEN("()()()") "()()"), {0, 0, 0, 0, 32}},
     {"pattern, NUL", 'P', 1, TEXT("\0()"), {0, 0, 0, 0, 1}},
+    {"pattern [a-z]", 'P', 1, TEXT("[a-z]"), {0, 0, 0, 0, 0}},
+    {"pattern [a-a]", 'P', 1, TEXT("[a-a]"), {0, 0, 0, 0, 0}},
+    {"pattern, an escaped member", 'P', 1, TEXT("[%z-a]"), {0, 0, 0, 0, 0}},
+    {"pattern, a - at the end of a set", 'P', 1, TEXT("([z-])"), {0, 0, 0, 0, 1}},
+    {"pattern, a - outside a set", 'P', 1, TEXT("z-a"), {0, 0, 0, 0, 0}},
+    {"pattern, a range to a character", 'P', 1, TEXT("[z-\xC3\xA9]"), {0, 0, 0, 0, 0}},
     {"pack i4s", 'K', 3, TEXT("i4s"), {0, 0, 0, 0, 2}},
     {"packsize i4c10b", 'S', 3, TEXT("i4c10b"), {0, 0, 0, 0, 3}},
     {"date %Y", 'D', 2, TEXT("%Y"), {0, 0, 0, 0, 0}},
@@ -131,6 +137,21 @@ static const row refused_rows[] = {
     {"11 after a NUL", 'P', 1, TEXT("\0("), {LUCK_UNMATCHED_CAPTURE, 0, 0, 2, 0}},
     {"12", 'P', 1, TEXT(TEN("(((") "((("), {LUCK_TOO_MANY_CAPTURES, 0, 0, 32, 0}},
     {"13", 'P', 1, TEXT("%1"), {LUCK_BAD_BACK_REFERENCE, 0, 0, 1, 0}},
+    {"39", 'P', 1, TEXT("[z-a]"), {LUCK_REVERSED_RANGE, 0, 0, 1, 0}},
+    {"39 before what follows the set", 'P', 1, TEXT("[z-a])"), {LUCK_REVERSED_RANGE, 0, 0, 1, 0}},
+    {"39 before a later set", 'P', 1, TEXT("[z-a][b"), {LUCK_REVERSED_RANGE, 0, 0, 1, 0}},
+    {"39 before an open capture", 'P', 1, TEXT("([z-a]"), {LUCK_REVERSED_RANGE, 0, 0, 2, 0}},
+    {"39, the first of two", 'P', 1, TEXT("[a-cz-yb-a]"), {LUCK_REVERSED_RANGE, 0, 0, 4, 0}},
+    {"39, the second set", 'P', 1, TEXT("[a-z][9-0]"), {LUCK_REVERSED_RANGE, 0, 0, 6, 0}},
+    {"39, not of the set", 'P', 1, TEXT("[^z-a]"), {LUCK_REVERSED_RANGE, 0, 0, 2, 0}},
+    {"39 after %f", 'P', 1, TEXT("%f[z-a]"), {LUCK_REVERSED_RANGE, 0, 0, 3, 0}},
+    {"39 to a %", 'P', 1, TEXT("[z-%a]"), {LUCK_REVERSED_RANGE, 0, 0, 1, 0}},
+    {"39 from a ]", 'P', 1, TEXT("[]-A]"), {LUCK_REVERSED_RANGE, 0, 0, 1, 0}},
+    {"39 to a NUL", 'P', 1, TEXT("[a-\0]"), {LUCK_REVERSED_RANGE, 0, 0, 1, 0}},
+    {"39 inside a character", 'P', 1, TEXT("[\xC3\xA9-a]"), {LUCK_REVERSED_RANGE, 0, 0, 2, 0}},
+    {"11 before 39", 'P', 1, TEXT(")[z-a]"), {LUCK_UNMATCHED_CAPTURE, 0, 0, 0, 0}},
+    {"8 before 39", 'P', 1, TEXT("[z-a"), {LUCK_UNTERMINATED_SET, 0, 0, 0, 0}},
+    {"1 before 39", 'P', 1, TEXT("[z-a%"), {LUCK_TRUNCATED_SPECIFIER, 0, 0, 4, 0}},
     {"14, y", 'K', 3, TEXT("y"), {LUCK_INVALID_PACK_OPTION, 'y', 0, 0, 0}},
     {"14, b1", 'K', 3, TEXT("b1"), {LUCK_INVALID_PACK_OPTION, '1', 0, 1, 0}},
     {"14, NUL", 'K', 3, TEXT("b\0"), {LUCK_INVALID_PACK_OPTION, 0, 0, 1, 0}},
@@ -192,6 +213,20 @@ static void check_captures(void)
     }
 }
 
+/* The ranges of a set are of bytes, and hold the same in each version. */
+static void check_ranges(void)
+{
+    const luck_answer accepted = {0, 0, 0, 0, 0};
+    const luck_answer reversed = {LUCK_REVERSED_RANGE, 0, 0, 1, 0};
+    char set[] = "[a-z]";
+    for (uint32_t version = 1; version <= 6; version++) {
+        for (char right = '_'; right <= 'z'; right++) {
+            set[3] = right;
+            same_answer("a range from a", luck_check_pattern(version, bytes(set), 5), right < 'a' ? reversed : accepted);
+        }
+    }
+}
+
 /* ---- literals ---- */
 
 static void same_literal(const char *what, luck_literal found, luck_literal wanted)
@@ -246,6 +281,8 @@ static void check_literals(void)
     const luck_literal wide = {LUCK_UNKNOWN_SPECIFIER, 0xE9, 0, false, true, 102, 104, 1, 0};
     const luck_literal last = {LUCK_UNKNOWN_SPECIFIER, 'y', 0, false, true, UINT32_MAX - 1, UINT32_MAX, 1, 0};
     const luck_literal beyond = {LUCK_UNKNOWN_SPECIFIER, 'y', 0, false, true, UINT32_MAX, UINT32_MAX, 1, 0};
+    const luck_literal reversed = {LUCK_REVERSED_RANGE, 0, 0, false, true, UINT32_MAX - 1, UINT32_MAX, 1, 0};
+    const luck_literal open_set = {LUCK_UNTERMINATED_SET, 0, 0, false, true, 101, 102, 0, 0};
     const luck_literal not_utf8 = {LUCK_NOT_UTF8, 0, 0, false, false, 0, 0, 2, 0};
     const luck_literal no_version = {LUCK_UNKNOWN_VERSION, 0, 0, false, false, 0, 0, 0, 0};
     const luck_literal no_kind = {LUCK_UNKNOWN_KIND, 0, 0, false, false, 0, 0, 0, 0};
@@ -262,6 +299,12 @@ static void check_literals(void)
     same_literal("the last place", check_text('F', 4, UINT32_MAX - 3, TEXT("'%y'")), last);
     same_literal("one place too far", check_text('F', 4, UINT32_MAX - 2, TEXT("'%y'")), beyond);
     same_literal("the start too far", check_text('F', 4, UINT32_MAX, TEXT("'%y'")), beyond);
+    same_literal("39 at the last place", check_text('P', 4, UINT32_MAX - 3, TEXT("'[z-a]'")), reversed);
+    same_literal("a range, a backslash before it", check_text('P', 4, 100, TEXT("'\\n[z-a]'")), none);
+    same_literal("a range, a backslash after it", check_text('P', 4, 100, TEXT("'[z-a]\\n'")), none);
+    same_literal("a range from a backslash", check_text('P', 4, 100, TEXT("'[\\-.]'")), none);
+    same_literal("8, a backslash after a range", check_text('P', 4, 100, TEXT("'[z-a\\n'")), open_set);
+    same_literal("a range of a format", check_text('F', 4, 100, TEXT("'[z-a]'")), none);
     same_literal("a literal, not UTF-8", check_text('F', 4, 100, TEXT("'%\xFF'")), not_utf8);
     same_literal("long brackets, not UTF-8", check_text('F', 4, 100, TEXT("[[\xFF]]")), not_utf8);
     for (size_t i = 0; i < NO_VERSIONS; i++) {
@@ -423,6 +466,9 @@ static const trial_row trial_rows[] = {
     {"nothing", 4, TEXT(""), TEXT(""), TEXT(""), ENOUGH, ROOM, {0, 0, 0, 1, 2}, ""},
     {"nothing, no room", 4, TEXT(""), TEXT(""), TEXT(""), ENOUGH, 0, {0, 0, 0, 1, 2}, ""},
     {"any bytes", 4, TEXT("\0\xFF" "a"), TEXT("[%z\xFF]"), TEXT("\xFE\0"), ENOUGH, ROOM, {0, 0, 5, 2, 6}, "\xFE\0\xFE\0a"},
+    {"a reversed range", 4, TEXT("az-"), TEXT("[z-a]"), TEXT("x"), ENOUGH, ROOM, {0, 0, 3, 0, 4}, "az-"},
+    {"all but a reversed range", 4, TEXT("az-"), TEXT("[^z-a]"), TEXT("x"), ENOUGH, ROOM, {0, 0, 3, 3, 7}, "xxx"},
+    {"a reversed range and a member", 4, TEXT("az-"), TEXT("([z-aa])"), TEXT("<%1>"), ENOUGH, ROOM, {0, 0, 5, 1, 10}, "<a>z-"},
     {"NUL in a pattern", 4, TEXT("a\0b"), TEXT("\0b"), TEXT("x"), ENOUGH, ROOM, {0, 0, 2, 1, 5}, "ax"},
     {"the exact room", 4, TEXT("a"), TEXT("a"), TEXT("xx"), ENOUGH, 2, {0, 0, 2, 1, 3}, "xx"},
     {"the exact budget", 4, TEXT("a"), TEXT("a"), TEXT("x"), 3, ROOM, {0, 0, 1, 1, 3}, "x"},
@@ -480,6 +526,7 @@ int main(void)
     check_names();
     check_bodies();
     check_captures();
+    check_ranges();
     check_rows_as_literals();
     check_literals();
     check_decoding();

@@ -65,7 +65,7 @@ static bool judge_line(unsigned long long number, const uint8_t *line, size_t le
 {
     if (len > LONGEST) {
         fprintf(stdout, "line %llu: ", number);
-        put_bad_line(line, LONGEST, LONG_LINE, messages[LONG_LINE].fault, messages[LONG_LINE].advice);
+        put_bad_line(line, LONGEST, LONG_LINE, message_by_number(LONG_LINE).fault, message_by_number(LONG_LINE).advice);
         return false;
     }
     const char *misfit = misfit_of(line, len);

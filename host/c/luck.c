@@ -5,8 +5,9 @@
  *
  * The words of the command line are read in words.h, with what was likely meant in likely.h; answers.h puts an answer into words, by
  * the sentences of messages.h and with a text as show.h shows it, and notes.h what is said beside it; literal.h finds what is wrong with a
- * literal; lines.h has `luck lines`, own_stack.h the trial on a stack of its own. A text is read whole, since the library takes it so; of a
- * literal there is a copy or a value as long; nothing else that is allocated grows with the input.
+ * literal, range.h whether a reversed range can be turned round; lines.h has `luck lines`, own_stack.h the trial on a stack of its own. A
+ * text is read whole, since the library takes it so; of a literal there is a copy or a value as long; nothing else that is allocated grows
+ * with the input.
  */
 #define _POSIX_C_SOURCE 200112L /* threads, for own_stack.h; isatty */
 
@@ -170,6 +171,17 @@ static int run_value(int count, char **words)
 
 /* -- The trial --------------------------------------------------------------------------------------------------------- */
 
+/* The pattern as a text of its own, for the note on it. */
+static question pattern_question(uint32_t version, const gsub_call *call)
+{
+    question asked = nothing_asked(A_BODY);
+    asked.kind = LUCK_KIND_PATTERN;
+    asked.version = version;
+    asked.text = call->pattern;
+    asked.len = call->pattern_len;
+    return asked;
+}
+
 static int try_gsub(const question *asked, const char *pattern, const char *replacement)
 {
     uint8_t *output = output_of(asked->room);
@@ -194,6 +206,8 @@ static int try_gsub(const question *asked, const char *pattern, const char *repl
     }
     put_output(output, call.found.written, true);
     put_trial(asked, &call.found);
+    question checked = pattern_question(asked->version, &call);
+    put_range_note(&checked);
     free(output);
     return status_of(call.found.number);
 }

@@ -7,12 +7,14 @@
  *     $c  the character at the fault        $v  the version's name            $r  the room of the output
  *     $2  the conversion of refusal 6       $n  the pattern's captures        $b  the budget of steps
  *     $k  the kind                          $e  the escape that the shape names
+ *     $<  the left byte of refusal 39       $>  its right byte                $w  the character that holds the left one
  */
 #ifndef LUCK_MESSAGES_H
 #define LUCK_MESSAGES_H
 
 #include "literal.h"
 #include "luck.h"
+#include "range.h"
 
 /* Refusals of a line, which the library does not read: its head does not fit; it is too long. */
 enum { BAD_LINE = 30, LONG_LINE = 31 };
@@ -41,72 +43,93 @@ typedef struct {
     const char *advice;
 } message;
 
-/* By number. Where one number has several sentences, message_of has the others. */
-static const message messages[] = {
-    /* 0 */ {"accepted", ""},
+/* Each with its number, since some numbers are not there. Where one number has several sentences, message_of has the others. */
+static const struct {
+    uint32_t number;
+    message said;
+} messages[] = {
+    {0, {"accepted", ""}},
     /* formats */
-    /* 1 */ {"truncated specifier: the text ends before its conversion",
-     "write `%%` for a percent sign, or the whole specifier, as in `%5.1f`"},
-    /* 2 */ {"unknown specifier `%$c`: no conversion of $v", ""},
-    /* 3 */ {"too many flags: `$c` is the sixth of its specifier, and $v takes five",
-     "write each of the flags `-`, `+`, space, `#` and `0` at most once"},
-    /* 4 */ {"width too long: $v takes two digits",
-     "write a width up to 99"},
-    /* 5 */ {"precision too long: $v takes two digits",
-     "write a precision up to 99"},
-    /* 6 */ {"bad modifier: `%$2` of $v can't take `$c` here", ""},
-    /* 7 */ {"specifier too long: 21 or more flags, digits and dots",
-     "write each flag once, and a width and a precision up to 99"},
+    {1, {"truncated specifier: the text ends before its conversion",
+     "write `%%` for a percent sign, or the whole specifier, as in `%5.1f`"}},
+    {2, {"unknown specifier `%$c`: no conversion of $v", ""}},
+    {3, {"too many flags: `$c` is the sixth of its specifier, and $v takes five",
+     "write each of the flags `-`, `+`, space, `#` and `0` at most once"}},
+    {4, {"width too long: $v takes two digits",
+     "write a width up to 99"}},
+    {5, {"precision too long: $v takes two digits",
+     "write a precision up to 99"}},
+    {6, {"bad modifier: `%$2` of $v can't take `$c` here", ""}},
+    {7, {"specifier too long: 21 or more flags, digits and dots",
+     "write each flag once, and a width and a precision up to 99"}},
     /* patterns */
-    /* 8 */ {"unterminated set: no `]` closes it",
-     "write the `]`, as in `[a]`; write `%[` for the character `[`"},
-    /* 9 */ {"empty set: a `]` in the first place is a member, and no other closes the set",
-     "write `[]]` for a set of `]` alone, `[^]]` for all but it; write `%[` for the character `[`"},
-    /* 10 */ {"bad escape `%f`: no set follows it",
-     "write a set after it, as in `%f[%w]`"},
-    /* 11 */ {"unmatched capture: a `)` without its `(`",
-     "write its `(` before it; write `%)` for the character `)`"},
-    /* 12 */ {"too many captures: this is the 33rd",
-     "write at most 32"},
-    /* 13 */ {"back reference names no closed capture: `%$c`",
-     "write `%1` to `%9` only after the `)` of that capture"},
+    {8, {"unterminated set: no `]` closes it",
+     "write the `]`, as in `[a]`; write `%[` for the character `[`"}},
+    {9, {"empty set: a `]` in the first place is a member, and no other closes the set",
+     "write `[]]` for a set of `]` alone, `[^]]` for all but it; write `%[` for the character `[`"}},
+    {10, {"bad escape `%f`: no set follows it",
+     "write a set after it, as in `%f[%w]`"}},
+    {11, {"unmatched capture: a `)` without its `(`",
+     "write its `(` before it; write `%)` for the character `)`"}},
+    {12, {"too many captures: this is the 33rd",
+     "write at most 32"}},
+    {13, {"back reference names no closed capture: `%$c`",
+     "write `%1` to `%9` only after the `)` of that capture"}},
+    {39, {"reversed range `$<-$>`: it holds no byte, so nothing matches it",
+     "write `$>-$<`; write `%-` for the character `-`"}},
     /* pack formats */
-    /* 14 */ {"invalid pack option `$c`",
-     "write one of `b B h H i I l L j J T f d n s z c x X ! < > =` or a space"},
-    /* 15 */ {"truncated pack size: no size follows `c`",
-     "write a size, as in `c8`"},
-    /* 16 */ {"integer size out of limits: it is not 1 to 16",
-     "write a size from 1 to 16, as in `i4`"},
-    /* 17 */ {"alignment is not a power of 2",
-     "write a size of 1, 2, 4, 8 or 16 here and after `!`, or no `!`"},
-    /* 18 */ {"variable-length option `$c`: packsize can't know its size",
-     "write `c` with a size, as in `c8`"},
+    {14, {"invalid pack option `$c`",
+     "write one of `b B h H i I l L j J T f d n s z c x X ! < > =` or a space"}},
+    {15, {"truncated pack size: no size follows `c`",
+     "write a size, as in `c8`"}},
+    {16, {"integer size out of limits: it is not 1 to 16",
+     "write a size from 1 to 16, as in `i4`"}},
+    {17, {"alignment is not a power of 2",
+     "write a size of 1, 2, 4, 8 or 16 here and after `!`, or no `!`"}},
+    {18, {"variable-length option `$c`: packsize can't know its size",
+     "write `c` with a size, as in `c8`"}},
     /* replacements and dates */
-    /* 19 */ {"ends with a lone `%`",
-     "write `%%` for a percent sign"},
-    /* 20 */ {"unexpected character after `%`: `$c` is neither a digit nor `%`",
-     "write `%%` for a percent sign, or `%0` to `%9` for the match and its captures"},
-    /* 21 */ {"capture index `%$c` is higher than the pattern's capture count, $n", ""},
-    /* 22 */ {"unexpected character after `%`: `%$c` is no date specifier of $v", ""},
+    {19, {"ends with a lone `%`",
+     "write `%%` for a percent sign"}},
+    {20, {"unexpected character after `%`: `$c` is neither a digit nor `%`",
+     "write `%%` for a percent sign, or `%0` to `%9` for the match and its captures"}},
+    {21, {"capture index `%$c` is higher than the pattern's capture count, $n", ""}},
+    {22, {"unexpected character after `%`: `%$c` is no date specifier of $v", ""}},
     /* any text */
-    /* 23 */ {"not UTF-8: `$c` and the bytes after it make no character",
-     "save the text as UTF-8; one that is meant to hold other bytes can't be checked, though Lua takes any"},
-    /* 24 */ {"undecodable: no string literal, or an escape that is malformed or not of $v",
-     "write it in two equal quotes or in long brackets, and `\\\\` for a backslash"},
-    /* 25 */ {"unknown version: $v is none of 1 to 6",
-     "write 5.1 to 5.5, luau, or a number: 1 to 5 for Lua 5.1 to 5.5, 6 for Luau"},
-    /* 26 */ {"output too short: the value is longer than the room of $r",
-     "write a larger --room: the literal's own length is always enough"},
+    {23, {"not UTF-8: `$c` and the bytes after it make no character",
+     "save the text as UTF-8; one that is meant to hold other bytes can't be checked, though Lua takes any"}},
+    {24, {"undecodable: no string literal, or an escape that is malformed or not of $v",
+     "write it in two equal quotes or in long brackets, and `\\\\` for a backslash"}},
+    {25, {"unknown version: $v is none of 1 to 6",
+     "write 5.1 to 5.5, luau, or a number: 1 to 5 for Lua 5.1 to 5.5, 6 for Luau"}},
+    {26, {"output too short: the value is longer than the room of $r",
+     "write a larger --room: the literal's own length is always enough"}},
     /* trials */
-    /* 27 */ {"steps spent: one step more than the budget of $b was due",
-     "write a larger --budget, or a pattern that tries less"},
-    /* 28 */ {"too deep: the 201st level of the matching; real Lua raises \"pattern too complex\"",
-     "write fewer items in one pattern"},
-    /* 29 */ {"raised", ""}, /* by its kind: raises */
-    /* 30 */ {"unknown kind `$k`: none of F P K S G D",
-     "write format, pattern, pack, packsize, replacement or date, or its letter"},
-    /* 31 */ {"line too long: more than 4,005 bytes",
-     "write a body of at most 4,000 bytes after the head of five"}};
+    {27, {"steps spent: one step more than the budget of $b was due",
+     "write a larger --budget, or a pattern that tries less"}},
+    {28, {"too deep: the 201st level of the matching; real Lua raises \"pattern too complex\"",
+     "write fewer items in one pattern"}},
+    {29, {"raised", ""}}, /* by its kind: raises */
+    {30, {"unknown kind `$k`: none of F P K S G D",
+     "write format, pattern, pack, packsize, replacement or date, or its letter"}},
+    {31, {"line too long: more than 4,005 bytes",
+     "write a body of at most 4,000 bytes after the head of five"}}};
+
+/* The sentence of a number; for one that a later library may give there is one, too. */
+static message message_by_number(uint32_t number)
+{
+    static const message unknown = {"a number that this command does not know", ""};
+    for (size_t i = 0; i < sizeof messages / sizeof messages[0]; i++)
+        if (messages[i].number == number)
+            return messages[i].said;
+    return unknown;
+}
+
+/* Whether the answer came from reading the text: accepted, or a fault in it. 23 and the others are said before anything is read. */
+static bool is_of_reading(uint32_t number)
+{
+    return number < LUCK_NOT_UTF8 || number == LUCK_REVERSED_RANGE;
+}
 
 /* The kinds of refusal 29, from 1, in the words of lstrlib.c, without the index that it names for 7 and 10. */
 static const char *const raises[] = {"",
@@ -172,7 +195,7 @@ static message of_cut_specifier(const question *asked, const luck_answer *refuse
     static const message balance = {"truncated specifier: the pattern ends inside `%b`",
                                     "write two characters after `%b`, as in `%b()`"};
     if (asked->kind != LUCK_KIND_PATTERN)
-        return messages[LUCK_TRUNCATED_SPECIFIER];
+        return message_by_number(LUCK_TRUNCATED_SPECIFIER);
     return refused->offset + 1 == asked->len ? escape : balance;
 }
 
@@ -181,7 +204,7 @@ static message of_specifier(const question *asked, const luck_answer *refused)
 {
     static const message late_star = {"unknown specifier `%*`: $v takes `*` only right after its `%`",
                                       "write `%*` without flags, width and precision"};
-    message found = messages[LUCK_UNKNOWN_SPECIFIER];
+    message found = message_by_number(LUCK_UNKNOWN_SPECIFIER);
     if (asked->version == LUCK_LUAU && refused->first == '*')
         return late_star;
     found.advice = conversions_of(asked->version);
@@ -208,7 +231,7 @@ static message of_pack_option(uint32_t character)
     case '=':
         return next;
     default:
-        return messages[LUCK_INVALID_PACK_OPTION];
+        return message_by_number(LUCK_INVALID_PACK_OPTION);
     }
 }
 
@@ -223,7 +246,7 @@ static const char *captures_of(size_t count)
 /* Refusal 22. */
 static message of_date(const question *asked, const luck_answer *refused)
 {
-    message found = messages[LUCK_BAD_DATE_SPECIFIER];
+    message found = message_by_number(LUCK_BAD_DATE_SPECIFIER);
     uint8_t letter = asked->text[refused->offset];
     if (asked->version == LUCK_LUAU) {
         found.advice = "write one of `aAbBcdHIjmMpSUwWxXyYzZ%` after the `%`";
@@ -241,7 +264,7 @@ static message of_bytes(const question *asked)
 {
     static const message value = {"the value is not UTF-8: `$c` and the bytes after it make no character",
                                   "it can't be checked: a check reads UTF-8, though Lua takes any bytes"};
-    message found = messages[LUCK_NOT_UTF8];
+    message found = message_by_number(LUCK_NOT_UTF8);
     if (asked->of == A_VALUE)
         return value;
     if (asked->kind == 0)
@@ -308,8 +331,46 @@ static message of_shape(const question *asked)
     case TAKEN_BY_LUA:
         return taken;
     default:
-        return messages[LUCK_UNDECODABLE];
+        return message_by_number(LUCK_UNDECODABLE);
     }
+}
+
+/* Refusal 39. */
+static message of_range(const question *asked, const luck_answer *refused)
+{
+    static const message inside = {
+        "reversed range `$<-$>`, from the last byte of `$w`: it holds no byte, so nothing matches it",
+        "a set holds bytes: a character of several can't be an end of a range; write `%-` for the character `-`"};
+    message found = message_by_number(LUCK_REVERSED_RANGE);
+    switch (range_at(asked->version, asked->text, refused->offset)) {
+    case INSIDE_CHARACTER:
+        return inside;
+    case BOTH_CASES:
+        found.advice = "write small letters and capitals apart, as in `a-zA-Z`; write `%-` for the character `-`";
+        break;
+    case TO_PERCENT:
+        found.advice = "write `%-` for the character `-`: a `%` after a bare `-` is the range's right end, and no escape";
+        break;
+    case TO_HYPHEN:
+        found.advice = "write `%-` for the character `-`";
+        break;
+    case FROM_BRACKET:
+        found.advice = "write `%]` for the character `]`, which can't be a range's right end; write `%-` for the character `-`";
+        break;
+    case TO_CARET:
+        found.advice = "write `$>-$<` behind another member, since a `^` that comes first means all other bytes;\n"
+                       "  write `%-` for the character `-`";
+        break;
+    case FROM_BACKSLASH:
+        found.advice = "write `%-` for the character `-`: the escape of a pattern is `%`, and `\\` is a byte like others";
+        break;
+    case NOT_PLAIN:
+        found.advice = "write its two ends the other way round; write `%-` for the character `-`";
+        break;
+    default:
+        break;
+    }
+    return found;
 }
 
 /* The second sentences of 15, 11, 28 and 26. */
@@ -324,7 +385,7 @@ static const message output_full = {"output full: one byte more than the room of
 /* The sentence of a refusal. */
 static message message_of(const question *asked, const luck_answer *refused)
 {
-    message found = messages[refused->number];
+    message found = message_by_number(refused->number);
     switch (refused->number) {
     case LUCK_TRUNCATED_SPECIFIER:
         return of_cut_specifier(asked, refused);
@@ -344,6 +405,8 @@ static message message_of(const question *asked, const luck_answer *refused)
         return found;
     case LUCK_BAD_DATE_SPECIFIER:
         return of_date(asked, refused);
+    case LUCK_REVERSED_RANGE:
+        return of_range(asked, refused);
     case LUCK_NOT_UTF8:
         return of_bytes(asked);
     case LUCK_UNDECODABLE:

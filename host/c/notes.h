@@ -55,13 +55,13 @@ static void put_backslash_note(FILE *out, const question *asked)
         fputs("  note: `\\` is read as itself; `luck value` takes a literal, with its quotes, and reads its escapes\n", out);
 }
 
-/* The notes on a text that was read; 23 and what comes after it are said before anything is read. */
+/* The notes on an answer; but for that on packs, only where the text was read. */
 static void put_notes(FILE *out, const question *asked, uint32_t number)
 {
     put_pack_note(out, asked);
-    if (number < LUCK_NOT_UTF8 && (asked->of == A_LITERAL || asked->of == A_VALUE))
+    if (is_of_reading(number) && (asked->of == A_LITERAL || asked->of == A_VALUE))
         put_literal_note(out, asked);
-    if (number < LUCK_NOT_UTF8 && asked->of == A_BODY)
+    if (is_of_reading(number) && asked->of == A_BODY)
         put_backslash_note(out, asked);
 }
 
@@ -73,6 +73,18 @@ static void put_trial_note(uint32_t version)
               stderr);
     if (version == LUCK_LUA_52)
         fputs("  note: by the rules of Lua 5.4; Lua 5.2 also replaces an empty match right after a match\n", stderr);
+}
+
+/* A trial runs a pattern that the check refuses for a reversed range, as Lua does; that nothing matches it may be why the result is not
+ * what was wanted. */
+static void put_range_note(const question *pattern)
+{
+    luck_answer found = luck_check_pattern(pattern->version, pattern->text, pattern->len);
+    if (found.number != LUCK_REVERSED_RANGE)
+        return;
+    fputs("  note: ", stderr);
+    put_sentence(stderr, message_of(pattern, &found).fault, pattern, &found);
+    fprintf(stderr, " (offset %zu of the pattern)\n", found.offset);
 }
 
 #endif

@@ -49,6 +49,15 @@ static void put_part(FILE *out, char letter, const question *asked, const luck_a
     case '2':
         put_text(out, &second, 1);
         break;
+    case '<':
+        put_text(out, asked->text + answer->offset, 1);
+        break;
+    case '>':
+        put_text(out, asked->text + answer->offset + 2, 1);
+        break;
+    case 'w':
+        put_character(out, asked, start_of_character(asked->text, answer->offset));
+        break;
     case 'k':
         put_text(out, &asked->kind, 1);
         break;

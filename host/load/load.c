@@ -29,7 +29,7 @@
 #define LOAD_MARGIN 32
 #endif
 
-enum { MOST_ROOM = 4 * MOST, NUMBERS = 31, VERSIONS = 6, KINDS = 10 };
+enum { MOST_ROOM = 4 * MOST, NUMBERS = 40, VERSIONS = 6, KINDS = 10 };
 
 /* What the bytes that a trial may read by its steps come to at most, so that a call takes some milliseconds. */
 enum { MOST_READ = 4000000, MOST_STEPS = 2000000 };
@@ -71,6 +71,7 @@ static uint64_t calls[FUNCTIONS];
 static uint64_t numbers[FUNCTIONS][NUMBERS];
 static uint64_t kinds[KINDS + 1];
 static uint64_t trials_alike;
+static uint64_t trials_reversed;
 
 /* The question that is being asked, for what is printed. */
 static question now;
@@ -260,11 +261,11 @@ static answer call(const question *q, uint8_t *output)
 
 /* ---- promises of luck.h ---- */
 
-#define N(number) ((uint32_t)1 << (number))
+#define N(number) ((uint64_t)1 << (number))
 
-static const uint32_t listed[FUNCTIONS] = {
+static const uint64_t listed[FUNCTIONS] = {
     N(0) | N(1) | N(2) | N(3) | N(4) | N(5) | N(6) | N(7) | N(23) | N(25),
-    N(0) | N(1) | N(8) | N(9) | N(10) | N(11) | N(12) | N(13) | N(23) | N(25),
+    N(0) | N(1) | N(8) | N(9) | N(10) | N(11) | N(12) | N(13) | N(23) | N(25) | N(39),
     N(0) | N(14) | N(15) | N(16) | N(17) | N(23) | N(25),
     N(0) | N(14) | N(15) | N(16) | N(17) | N(18) | N(23) | N(25),
     N(0) | N(19) | N(20) | N(21) | N(23) | N(25),
@@ -358,7 +359,83 @@ static uint64_t at_most_u32(uint64_t number)
 
 static answer ask(const question *q);
 
-/* The answer of a literal that is not skipped is that of its body's check. */
+/* ---- ranges of a pattern ---- */
+
+static bool has_byte(const text *t, uint8_t byte)
+{
+    return memchr(t->bytes, byte, t->len) != NULL;
+}
+
+/* The pattern with a letter for each `-`: it has no ranges, and all else that a check looks at is as it was. */
+static const text *without_ranges(const text *t)
+{
+    static text made;
+    made.len = t->len;
+    for (size_t i = 0; i < t->len; i++) {
+        made.bytes[i] = t->bytes[i] == '-' ? 'a' : t->bytes[i];
+    }
+    return &made;
+}
+
+/* The place of the `]` that closes a set, from its first member on: the first `]` that is neither that member nor after a `%`. */
+static size_t set_end(const text *t, size_t at)
+{
+    do {
+        at += at < t->len && t->bytes[at] == '%' ? 2 : 1;
+    } while (at < t->len && t->bytes[at] != ']');
+    return at < t->len ? at : t->len;
+}
+
+/* The left byte of the first reversed range of a set; its end where there is none. */
+static size_t reversed_member(const text *t, size_t at, size_t end)
+{
+    while (at < end) {
+        bool range = t->bytes[at] != '%' && at + 2 < end && t->bytes[at + 1] == '-';
+        if (range && t->bytes[at] > t->bytes[at + 2]) {
+            return at;
+        }
+        at += range ? 3 : t->bytes[at] == '%' ? 2 : 1;
+    }
+    return end;
+}
+
+/* The left byte of the first reversed range of a pattern without another fault before it; the length where there is none. */
+static size_t reversed_range(const text *t)
+{
+    size_t at = 0;
+    while (at < t->len) {
+        if (t->bytes[at] == '[') {
+            size_t member = at + 1 + (at + 1 < t->len && t->bytes[at + 1] == '^' ? 1 : 0), end = set_end(t, member);
+            size_t found = reversed_member(t, member, end);
+            if (found < end) {
+                return found;
+            }
+            at = end + 1;
+        } else {
+            at += t->bytes[at] != '%' ? 1 : at + 1 < t->len && t->bytes[at + 1] == 'b' ? 4 : 2;
+        }
+    }
+    return t->len;
+}
+
+/* 39 where it is due, and only there; a fault that comes first is answered as if there were no 39, and one after it is not seen. */
+static void ranges_hold(const question *q, const answer *a)
+{
+    const text *t = q->texts[0];
+    bool reversed = a->number == 39;
+    if (reversed || a->number == 0) {
+        holds(reversed_range(t) == (reversed ? a->offset : t->len), "39 at the first reversed range, and only there", a);
+    }
+    if (has_byte(t, '-')) {
+        question plain = *q;
+        plain.texts[0] = without_ranges(t);
+        answer b = ask(&plain);
+        now = *q;
+        holds(reversed ? b.number == 0 || b.offset > a->offset : memcmp(a, &b, sizeof b) == 0, "but for 39 the answer is that without ranges", a);
+    }
+}
+
+/* The answer of a literal that is not skipped is that of its body's check; with a backslash it is not tested for 39. */
 static void literal_as_body(const question *q, const answer *a, function body)
 {
     static text between;
@@ -367,7 +444,7 @@ static void literal_as_body(const question *q, const answer *a, function body)
     between.len = t->len - 2;
     memcpy(between.bytes, t->bytes + 1, between.len);
     bare.asked = body;
-    bare.texts[0] = &between;
+    bare.texts[0] = body == CHECK_PATTERN && has_byte(&between, '\\') ? without_ranges(&between) : &between;
     answer b = ask(&bare);
     now = *q;
     holds(a->number == b.number && a->first == b.first && a->second == b.second && a->offset == b.offset && a->count == b.count,
@@ -392,6 +469,7 @@ static void literal_holds(const question *q, const answer *a)
     if (a->spanned) {
         holds(a->start == at_most_u32((uint64_t)q->start + 1 + a->offset), "the span's start is the fault's place in the source", a);
         holds(a->end >= at_most_u32(a->start + 1) && a->end <= at_most_u32(a->start + 4), "the span is one character", a);
+        holds(n != 39 || a->end == at_most_u32(a->start + 1), "the span of 39 is one byte", a);
     }
     if (n != 30 && n != 25 && n != 23) {
         holds(len >= 2, "a literal that is checked has two quotes", a);
@@ -431,6 +509,9 @@ static void promises_hold(const question *q, const answer *a)
     default:
         order_holds(q, a, true);
         body_holds(q, a, q->asked, q->texts[0]->len);
+        if (q->asked == CHECK_PATTERN) {
+            ranges_hold(q, a);
+        }
         break;
     }
 }
@@ -651,7 +732,8 @@ static void ask_trial(void)
     ask_with_rooms(&q, some_room(&q));
 }
 
-/* With a pattern and a replacement that are accepted, the six versions answer alike, and none raises. */
+/* With a pattern and a replacement that are accepted, the six versions answer alike, and none raises. So it is with a pattern that would be
+ * accepted without the test of its ranges. */
 static void ask_alike(void)
 {
     static text pattern, replacement, subject;
@@ -662,6 +744,11 @@ static void ask_alike(void)
         make_damaged(&pattern, PATTERN, some_length(), 2);
     }
     answer accepted = ask(&check);
+    bool reversed = accepted.number == 39;
+    if (reversed) {
+        check.texts[0] = without_ranges(&pattern);
+        accepted = ask(&check);
+    }
     make_damaged(&replacement, REPLACEMENT, some_length(), 1);
     question check_replacement = {.asked = CHECK_REPLACEMENT, .version = 2 + (uint32_t)below(VERSIONS - 1), .known = true,
                                   .captures = (size_t)accepted.count, .texts = {&replacement}};
@@ -679,6 +766,7 @@ static void ask_alike(void)
         holds(memcmp(&a, &first, sizeof a) == 0 && memcmp(first_written, written, (size_t)a.written) == 0, "the six versions are alike", &a);
     }
     trials_alike++;
+    trials_reversed += reversed ? 1 : 0;
 }
 
 /* ---- the run ---- */
@@ -710,7 +798,7 @@ static void print_counts(void)
     for (size_t kind = 1; kind <= KINDS; kind++) {
         printf(" %zu: %" PRIu64, kind, kinds[kind]);
     }
-    printf("\ntrials alike under the six versions: %" PRIu64 "\n", trials_alike);
+    printf("\ntrials alike under the six versions: %" PRIu64 ", of a reversed range %" PRIu64 "\n", trials_alike, trials_reversed);
 }
 
 /* A whole number without anything else. */

@@ -78,6 +78,7 @@ static const piece pattern_pieces[] = {
     P("%S"), P("%0"), P("%1"), P("%2"), P("%9"), P("%b"), P("%b()"), P("%bxx"), P("%f"), P("%f["), P("%f[%w]"), P("["), P("[^"), P("[]"), P("[^]"),
     P("[]]"), P("[a-z]"), P("[%w_]"), P("[a-"), P("[%"), P("]"), P("^"), P("-"), P("("), P(")"), P("()"), P("(("), P("))"), P("(.)"), P("."), P(".-"),
     P(".*"), P("*"), P("+"), P("?"), P("$"), P("a"), P("b"), P("1"), P("=" ), P("a?"), P("b*"), P("a-"), P("a*b*"), P("[ab]-"), P("\0"), P("\xE2\x82\xAC"),
+    P("[z-a]"), P("[^b-a]"), P("[b-a"), P("9-0"), P("-%"), P("\xC3\xA9-a"), P("[]-A]"),
 };
 
 static const piece pack_pieces[] = {
@@ -115,9 +116,11 @@ static const piece subject_pieces[] = {
 static const piece good_formats[] = {
     P("%d of %s"), P("%5.2f"), P("%-10s|%q"), P("%%"), P("%x %X %c %o %e %g"), P("trip %d at %s, %5.1f V"), P("%05d"), P("%+d"), P("%.14g"), P("%a"), P(""),
 };
+/* The last three have a reversed range: the check refuses them, and a trial runs them like the others. */
 static const piece good_patterns[] = {
     P("(%d+)"), P("^%s*(.-)%s*$"), P("(%w+)=(%w+)"), P("[%w_]+"), P("%b()"), P("%f[%w]%w+"), P("(.)%1"), P("()a()"), P("[^%s]-$"), P("a?b?c?d*"), P(".-b"),
     P("((a)(b))%2%3"), P("[]a]"), P("[a-z]*[0-9]+"), P("%a%d%p%s"), P(""), P("a*b*a*b*a*b*a*b*"), P("%%"), P("((((((((a))))))))"), P("\xE2\x82\xAC+"),
+    P("[^9-0]*=()"), P("(a)[b-aa-c]"), P("%f[^z-a]a+"),
 };
 static const piece good_packs[] = {P("<i4 s1 z"), P("!8 b Xi8 d"), P(">I2 c10 x"), P("=!4 j J T n"), P("bBhHlLfd"), P("s"), P("i16 I1"), P("")};
 static const piece good_replacements[] = {P("%1"), P("<%0>"), P("%%"), P("%2=%1"), P("text"), P(""), P("%1%1 %0"), P("\xC3\xA9 %1")};

@@ -170,6 +170,7 @@ class Number(enum.IntEnum):
     TOO_DEEP = 28
     RAISED = 29
     UNKNOWN_KIND = 30
+    REVERSED_RANGE = 39
 
 
 # The messages of the Rust crate. It has none for 25 and 30, since a version and a kind are no numbers there.
@@ -201,6 +202,7 @@ _REFUSALS = {
     25: "unknown version",
     26: "the value is longer than the output",
     30: "unknown kind",
+    39: "reversed range at offset {offset}",
 }
 
 _ENDINGS = {
@@ -270,7 +272,7 @@ class Literal(NamedTuple):
     skipped: bool  # not checked; all else is 0 and False
     spanned: bool  # start and end hold the span of a fault in the body
     start: int  # the source's offset of the character at fault, at most 4,294,967,295
-    end: int  # the offset after that character, likewise
+    end: int  # the offset after that character, or one after start where the fault is inside a character, likewise
     offset: int  # the fault's place in the body; for NOT_UTF8 in the text, its quote included
     count: int  # as in Answer, by the kind
 
@@ -505,7 +507,10 @@ class Luck:
         return _check(self._library.luck_check_format, version, body)
 
     def check_pattern(self, version: AnyVersion, body: Text) -> Answer:
-        """A pattern of string.find, match, gmatch and gsub; counts its captures, `()` included."""
+        """A pattern of string.find, match, gmatch and gsub; counts its captures, `()` included.
+
+        A range that holds no byte, as in `[z-a]`, is refused (39), though Lua and a trial take it.
+        """
         return _check(self._library.luck_check_pattern, version, body)
 
     def check_pack(self, version: AnyVersion, body: Text) -> Answer:

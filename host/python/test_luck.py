@@ -84,6 +84,7 @@ REFUSALS = [
     (b"P", 1, b"(", 11, 1, ""),
     (b"P", 1, 33 * b"(", 12, 32, ""),
     (b"P", 1, b"%1", 13, 1, ""),
+    (b"P", 1, b"[z-a]", 39, 1, ""),
     (b"K", 3, b"y", 14, 0, "y"),
     (b"K", 3, b"b1", 14, 1, "1"),
     (b"K", 3, b"c", 15, 1, ""),
@@ -170,7 +171,7 @@ class Bodies(unittest.TestCase):
                 self.assertEqual(CHECKS[kind](version, body), refused(number, offset, characters))
 
     def test_every_number_has_a_row(self) -> None:
-        self.assertEqual({row[3] for row in REFUSALS}, set(range(1, 24)))
+        self.assertEqual({row[3] for row in REFUSALS}, {*range(1, 24), 39})
 
     def test_versions(self) -> None:
         for kind, body, versions in [
@@ -210,6 +211,26 @@ class Bodies(unittest.TestCase):
         self.assertEqual(luck.check_packsize(3, b"b\0"), refused(14, 1))
         self.assertEqual(luck.check_date(2, b"\0%Q"), refused(22, 2))
         self.assertEqual(luck.check_replacement(2, None, b"\0%x"), refused(20, 2))
+
+    def test_ranges(self) -> None:
+        for body, answer in [
+            ("[a-a]", accepted(0)),
+            ("[%z-a]", accepted(0)),
+            ("([z-])", accepted(1)),
+            ("z-a", accepted(0)),
+            ("[z-é]", accepted(0)),
+            ("[^z-a]", refused(39, 2)),
+            ("%f[z-a]", refused(39, 3)),
+            ("[z-%a]", refused(39, 1)),
+            ("[]-A]", refused(39, 1)),
+            ("[z-a])", refused(39, 1)),
+            ("[é-a]", refused(39, 2)),
+            (")[z-a]", refused(11, 0)),
+            ("[z-a", refused(8, 0)),
+        ]:
+            for version in VERSIONS:
+                with self.subTest(body=body, version=version):
+                    self.assertEqual(luck.check_pattern(version, body), answer)
 
     def test_not_utf8(self) -> None:
         for body in [b"%\xFF", b"%\x80", b"%\xC3", b"%\xC0\x80", b"%\xE2\x82", b"%\xED\xA0\x80", b"%\xF4\x90\x80\x80"]:
@@ -260,6 +281,7 @@ class Messages(unittest.TestCase):
             (luck.check_format(1, "%------d"), "too many flags at `-` at offset 6"),
             (luck.check_format(4, "%#d"), "`%d` can't take `#` at offset 1"),
             (luck.check_pattern(4, "(%d+"), "unmatched capture at offset 4"),
+            (luck.check_pattern(4, "[é-a]"), "reversed range at offset 2"),
             (luck.check_packsize(4, "s"), "variable-length option `s` at offset 0"),
             (luck.check_replacement(4, 1, "%2"), "capture index is higher than the pattern's capture count at offset 1"),
             (luck.check_date(4, "a%"), "ends with a lone `%` at offset 1"),
@@ -313,7 +335,7 @@ class Messages(unittest.TestCase):
     def test_rust(self) -> None:
         """The words are those of the Rust crate's `Display`."""
         there = set(re.findall(r'(?:write!\(f, |f\.write_str\()"((?:[^"\\]|\\.)*)"', self.refusal))
-        here = {words for number, words in module._REFUSALS.items() if number <= Number.NOT_UTF8}
+        here = {words for number, words in module._REFUSALS.items() if number <= Number.NOT_UTF8 or number == Number.REVERSED_RANGE}
         self.assertEqual(there - here, {"refusal {number} at offset {offset}"})
         self.assertEqual(here - there, set())
         for number in (24, 26):
@@ -358,12 +380,25 @@ class Literals(unittest.TestCase):
             (b"F", 0, "'%\U0001F600'".encode(), (2, 6)),
             (b"F", 0, b"'\0%\0'", (3, 4)),
             (b"P", 7, b"'('", (9, 10)),
+            (b"P", 100, b"'[z-a]'", (102, 103)),
+            (b"P", 100, "'[é-a]'".encode(), (103, 104)),
             (b"F", UINT32_MAX - 3, b"'%y'", (UINT32_MAX - 1, UINT32_MAX)),
             (b"F", UINT32_MAX - 2, b"'%y'", (UINT32_MAX, UINT32_MAX)),
             (b"F", UINT32_MAX, b"'%y'", (UINT32_MAX, UINT32_MAX)),
         ]:
             answer = luck.check_literal(kind, 4, None, start, text)
             self.assertEqual((answer.spanned, answer.start, answer.end), (True, *span))
+
+    def test_ranges(self) -> None:
+        """A body with a backslash is not tested for them."""
+        for text, number in [
+            (b"'[z-a]'", 39),
+            (rb"'[z-a]\n'", 0),
+            (rb"'\\[z-a]'", 0),
+            (rb"'[\-.]'", 0),
+            (rb"'[z-a]\n)'", 11),
+        ]:
+            self.assertEqual(luck.check_literal(b"P", 4, None, 0, text).number, number)
 
     def test_captures(self) -> None:
         for kind, captures, text, number in [
@@ -491,6 +526,8 @@ class Trials(unittest.TestCase):
             ((b"ab", b"", b"x"), b"xaxbx", 3, 6),
             ((b"", b"", b""), b"", 1, 2),
             ((b"a\0b", b"\0b", b"x"), b"ax", 1, 5),
+            ((b"az-", b"[z-a]", b"x"), b"az-", 0, 4),
+            ((b"az-", b"[^z-a]", b"x"), b"xxx", 3, 7),
             ((b"\0\xFFa\0", b"[%z\xFF]", b"<\xFE\0>"), b"<\xFE\0><\xFE\0>a<\xFE\0>", 3, 8),
         ]:
             subject, pattern, replacement = texts

@@ -50,11 +50,12 @@ pub fn check_format(version: Version, body: &[u8]) -> Result<usize, Refusal> {
 ///
 /// assert_eq!(luck::check_pattern(Version::Lua54, b"()(%a+)"), Ok(2));
 /// assert_eq!(luck::check_pattern(Version::Lua54, b"(%d+"), Err(Refusal::UnmatchedCapture { offset: 4 }));
+/// assert_eq!(luck::check_pattern(Version::Lua54, b"[z-a]"), Err(Refusal::ReversedRange { offset: 1 }));
 /// ```
 ///
 /// # Errors
 ///
-/// The first fault: refusals 1 and 8 to 13, or [`Refusal::NotUtf8`].
+/// The first fault: refusals 1 and 8 to 13, [`Refusal::ReversedRange`], which Lua itself takes, or [`Refusal::NotUtf8`].
 pub fn check_pattern(version: Version, body: &[u8]) -> Result<usize, Refusal> {
     call(raw::luck_check_pattern, version, body)
 }

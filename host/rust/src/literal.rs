@@ -23,7 +23,7 @@ pub enum LiteralCheck {
 pub struct Span {
     /// The offset of the character at fault.
     pub start: u32,
-    /// The offset after it; one after `start` where the fault is at the body's end.
+    /// The offset after it; one after `start` where the fault is at the body's end or inside a character.
     pub end: u32,
 }
 
@@ -69,7 +69,7 @@ impl Literal {
 /// [`Kind::Replacement`], as in [`crate::check_replacement`].
 ///
 /// It is no lexer: a quote or a line break between the quotes is taken. An escape that is not skipped is read as the two bytes that
-/// are written, not as the one that Lua reads.
+/// are written, not as the one that Lua reads; so a pattern with a backslash is not tested for [`Refusal::ReversedRange`].
 ///
 /// ```
 /// use luck::{Kind, LiteralCheck, Span, Version};

@@ -78,6 +78,8 @@ pub const TOO_DEEP: u32 = 28;
 pub const RAISED: u32 = 29;
 /// The kind letter is none of the six.
 pub const UNKNOWN_KIND: u32 = 30;
+/// A range in a set whose left byte is greater than its right, as in `[z-a]`: it holds no byte. Lua takes it.
+pub const REVERSED_RANGE: u32 = 39;
 
 /// What a check of a body answers.
 #[repr(C)]
@@ -111,7 +113,7 @@ pub struct Literal {
     pub spanned: bool,
     /// The source's offset of the character at fault; `u32::MAX` where it does not fit.
     pub start: u32,
-    /// The offset after that character; likewise.
+    /// The offset after that character, or one after `start` where the fault is inside a character; likewise.
     pub end: u32,
     /// The fault's place in the body; for [`NOT_UTF8`] in the text, its quote included.
     pub offset: usize,

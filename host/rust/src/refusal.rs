@@ -138,6 +138,12 @@ pub enum Refusal {
         /// The first byte of the first ill-formed sequence; in the check of a literal the quote is counted too.
         offset: usize,
     },
+    /// 39: a range in a set whose left byte is greater than its right, as in `[z-a]`: it holds no byte, so nothing matches it. Lua
+    /// takes it, and so does a trial; it is most likely a slip.
+    ReversedRange {
+        /// The left byte, which may be the last of a character of several bytes.
+        offset: usize,
+    },
     /// Any other number. The library gives none to the functions that take a [`crate::Version`]; 25 and 30 come from [`crate::raw`].
     Other {
         /// The number.
@@ -178,6 +184,7 @@ impl Refusal {
             raw::CAPTURE_INDEX => Self::CaptureIndexOutOfRange { offset },
             raw::BAD_DATE_SPECIFIER => Self::BadDateSpecifier { offset },
             raw::NOT_UTF8 => Self::NotUtf8 { offset },
+            raw::REVERSED_RANGE => Self::ReversedRange { offset },
             number => Self::Other { number, offset },
         }
     }
@@ -209,6 +216,7 @@ impl Refusal {
             Self::CaptureIndexOutOfRange { .. } => raw::CAPTURE_INDEX,
             Self::BadDateSpecifier { .. } => raw::BAD_DATE_SPECIFIER,
             Self::NotUtf8 { .. } => raw::NOT_UTF8,
+            Self::ReversedRange { .. } => raw::REVERSED_RANGE,
             Self::Other { number, .. } => number,
         }
     }
@@ -240,6 +248,7 @@ impl Refusal {
             | Self::CaptureIndexOutOfRange { offset }
             | Self::BadDateSpecifier { offset }
             | Self::NotUtf8 { offset }
+            | Self::ReversedRange { offset }
             | Self::Other { offset, .. } => offset,
         }
     }
@@ -282,6 +291,7 @@ impl fmt::Display for Refusal {
                 write!(f, "unexpected character after `%`, expected a date specifier or `%` at offset {offset}")
             }
             Self::NotUtf8 { offset } => write!(f, "not UTF-8 at offset {offset}"),
+            Self::ReversedRange { offset } => write!(f, "reversed range at offset {offset}"),
             Self::Other { number, offset } => write!(f, "refusal {number} at offset {offset}"),
         }
     }

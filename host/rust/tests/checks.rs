@@ -45,6 +45,34 @@ fn patterns() {
     assert_eq!(luck::check_pattern(Lua54, b"[%"), Err(Refusal::TruncatedSpecifier { offset: 1 }));
 }
 
+/// A range's ends are bytes. A set's other faults come before its ranges, and those before what follows the set.
+#[test]
+fn ranges() {
+    let reversed: [(&str, usize); 10] = [
+        ("[z-a]", 1),
+        ("[^z-a]", 2),
+        ("%f[z-a]", 3),
+        ("[z-%a]", 1),
+        ("[]-A]", 1),
+        ("[a-cz-yb-a]", 4),
+        ("[z-a])", 1),
+        ("([z-a]", 2),
+        ("[é-a]", 2),
+        ("[a-é-z]", 4),
+    ];
+    for version in Version::ALL {
+        for (body, offset) in reversed {
+            assert_eq!(luck::check_pattern(version, body.as_bytes()), Err(Refusal::ReversedRange { offset }), "{body}");
+        }
+        for body in ["[a-a]", "[%z-a]", "[z-]", "[-a]", "z-a", "[z-é]", "[!-%%]"] {
+            assert_eq!(luck::check_pattern(version, body.as_bytes()), Ok(0), "{body}");
+        }
+        assert_eq!(luck::check_pattern(version, b")[z-a]"), Err(Refusal::UnmatchedCapture { offset: 0 }));
+        assert_eq!(luck::check_pattern(version, b"[z-a"), Err(Refusal::UnterminatedSet { offset: 0 }));
+        assert_eq!(luck::check_pattern(version, b"[z-a%"), Err(Refusal::TruncatedSpecifier { offset: 4 }));
+    }
+}
+
 #[test]
 fn captures() {
     let captures = |count| [vec![b'('; count], vec![b')'; count]].concat();

@@ -55,6 +55,23 @@ fn spans() {
     assert_eq!(open.span, Some(Span { start: 9, end: 10 }), "at the body's end");
 }
 
+/// A range may begin inside a character, and a body with a backslash is not tested for one.
+#[test]
+fn ranges() {
+    let check = |text: &str| luck::check_literal(Kind::Pattern, Lua54, None, 100, text.as_bytes());
+    for (text, offset) in [("'[z-a]'", 1), ("'[é-a]'", 2), ("'[z-a])'", 1), ("'[\u{1F600}-a]'", 4)] {
+        let error = check(text).unwrap_err();
+        assert_eq!(error.refusal, Refusal::ReversedRange { offset }, "{text}");
+        let start = 101 + u32::try_from(offset).unwrap();
+        assert_eq!(error.span, Some(Span { start, end: start + 1 }), "{text}");
+    }
+    for text in [r"'[z-a]\n'", r"'\\[z-a]'", r"'[\-.]'", r"'[z-a\]]'"] {
+        assert_eq!(check(text), Ok(Accepted(0)), "{text}");
+    }
+    assert_eq!(check(r"'[z-a]\n)'").unwrap_err().refusal, Refusal::UnmatchedCapture { offset: 7 });
+    assert_eq!(check(r"'[z-a]\65'"), Ok(Skipped));
+}
+
 /// The fault of `'%y'` is at the start + 2.
 #[test]
 fn saturating_spans() {

@@ -146,6 +146,7 @@ fn numbers_of_the_header() {
         ("TOO_DEEP", raw::TOO_DEEP),
         ("RAISED", raw::RAISED),
         ("UNKNOWN_KIND", raw::UNKNOWN_KIND),
+        ("REVERSED_RANGE", raw::REVERSED_RANGE),
     ];
     assert_eq!(numbers_after("/* `number`"), here.map(|(name, number)| (name.to_owned(), number)));
 }

@@ -19,7 +19,7 @@ const fn row(kind: Kind, version: u32, body: &'static [u8], number: u32, refusal
 /// A replacement's pattern has one capture.
 const CAPTURES: usize = 1;
 
-const ROWS: [Row; 28] = [
+const ROWS: [Row; 29] = [
     row(Format, 1, b"%", 1, Refusal::TruncatedSpecifier { offset: 0 }, "truncated specifier at offset 0"),
     row(Format, 1, b"%y", 2, Refusal::UnknownSpecifier { offset: 1, character: 'y' }, "unknown specifier `%y` at offset 1"),
     row(Format, 1, b"%------d", 3, Refusal::BadFlag { offset: 6, character: '-' }, "too many flags at `-` at offset 6"),
@@ -42,6 +42,7 @@ const ROWS: [Row; 28] = [
     row(Pattern, 1, b"(", 11, Refusal::UnmatchedCapture { offset: 1 }, "unmatched capture at offset 1"),
     row(Pattern, 1, &[b'('; 33], 12, Refusal::TooManyCaptures { offset: 32 }, "too many captures at offset 32"),
     row(Pattern, 1, b"%1", 13, Refusal::BadBackReference { offset: 1 }, "back reference names no closed capture at offset 1"),
+    row(Pattern, 1, b"[z-a]", 39, Refusal::ReversedRange { offset: 1 }, "reversed range at offset 1"),
     row(Pack, 3, b"y", 14, Refusal::InvalidPackOption { offset: 0, character: 'y' }, "invalid pack option `y` at offset 0"),
     row(Pack, 3, b"b1", 14, Refusal::InvalidPackOption { offset: 1, character: '1' }, "invalid pack option `1` at offset 1"),
     row(Pack, 3, b"c", 15, Refusal::TruncatedPackSize { offset: 1 }, "truncated pack size at offset 1"),
@@ -169,14 +170,14 @@ fn literals() {
 
 #[test]
 fn every_number() {
-    for number in 1..=raw::NOT_UTF8 {
+    for number in (1..=raw::NOT_UTF8).chain([raw::REVERSED_RANGE]) {
         assert!(ROWS.iter().any(|row| row.number == number), "{number} has no row");
     }
 }
 
 #[test]
 fn other_numbers() {
-    for number in [24, 25, 26, 27, 28, 29, 30, 31, u32::MAX] {
+    for number in [24, 25, 26, 27, 28, 29, 30, 31, 38, 40, u32::MAX] {
         let answer = raw::Answer { number, first: 0, second: 0, offset: 5, count: 0 };
         let refusal = answer.result().unwrap_err();
         assert_eq!(refusal, Refusal::Other { number, offset: 5 });

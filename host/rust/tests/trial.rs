@@ -45,6 +45,16 @@ fn done() {
     }
 }
 
+/// The check refuses such a pattern, and the trial runs it.
+#[test]
+fn reversed_ranges() {
+    for version in Version::ALL {
+        assert_eq!(run(version, [b"az-", b"[z-a]", b"x"], ENOUGH, 20), (trial(Done, 3, 0, 4), b"az-".to_vec()));
+        assert_eq!(run(version, [b"az-", b"[^z-a]", b"x"], ENOUGH, 20), (trial(Done, 3, 3, 7), b"xxx".to_vec()));
+        assert_eq!(run(version, [b"az-", b"([z-aa])", b"<%1>"], ENOUGH, 20), (trial(Done, 5, 1, 10), b"<a>z-".to_vec()));
+    }
+}
+
 #[test]
 fn empty() {
     for version in Version::ALL {
