@@ -25,8 +25,10 @@ pub fn run(plan: &Plan, tables: &mut Tables) -> Result<(), String> {
     }
     for kind in Kind::ALL {
         let text = texts::accepted(kind, Alphabet::Any, plan.size(64 * KIB));
-        long(plan, tables, kind, &text)?;
+        long(plan, tables, &long_name(kind, &text), kind, &text)?;
     }
+    let ranges = texts::sets_of_ranges(plan.size(64 * KIB));
+    long(plan, tables, "pattern, sets of ranges", Kind::Pattern, &ranges)?;
     // A pack format that is accepted has ASCII only.
     for kind in Kind::ALL.into_iter().filter(|&kind| !is_pack(kind)) {
         large(plan, tables, kind, Alphabet::Any)?;
@@ -100,9 +102,8 @@ fn compare(name: &str, kind: Kind, body: &[u8]) -> Result<Answer, String> {
 }
 
 /// A body that is accepted, and so read to its end.
-fn long(plan: &Plan, tables: &mut Tables, kind: Kind, text: &[u8]) -> Result<(), String> {
-    let name = long_name(kind, text);
-    compare_long(&name, kind, text)?;
+fn long(plan: &Plan, tables: &mut Tables, name: &str, kind: Kind, text: &[u8]) -> Result<(), String> {
+    compare_long(name, kind, text)?;
     let mut library = side(|| by_library(kind, black_box(text)));
     let baseline = side(|| by_luck(kind, black_box(text)));
     let measured = side_by_side(plan, &mut library, &mut [baseline])?;
@@ -130,8 +131,8 @@ fn compare_long(name: &str, kind: Kind, text: &[u8]) -> Result<(), String> {
 fn large(plan: &Plan, tables: &mut Tables, kind: Kind, alphabet: Alphabet) -> Result<(), String> {
     let unit = plan.size(2 * MIB);
     let text = texts::accepted(kind, alphabet, unit).repeat(8);
-    long(plan, tables, kind, &text)?;
     let name = long_name(kind, &text);
+    long(plan, tables, &name, kind, &text)?;
     TIMES.iter().try_for_each(|times| compare_long(&name, kind, &text[..times * unit]))?;
     let grown = TIMES.map(|times| {
         let text = &text[..times * unit];

@@ -82,10 +82,15 @@ pub fn log(size: usize) -> Vec<u8> {
     })
 }
 
-/// Bodies by the grammar, some of them at fault.
 pub fn short_bodies(kind: Kind) -> Vec<Vec<u8>> {
     let mut random = Random::new(SEED);
-    (0..SHORT_COUNT).map(|_| short(&mut random, |random, text| bodies::body(random, kind, text))).collect()
+    (0..SHORT_COUNT).map(|_| short_body(&mut random, kind, |_| true)).collect()
+}
+
+/// Sets, each with a range or several.
+pub fn sets_of_ranges(size: usize) -> Vec<u8> {
+    const SETS: [&str; 6] = ["[a-z]", "[A-Za-z_]", "[0-9A-Fa-f]", "[^0-9]", "[%w_.-]", "[!-~]"];
+    words(&SETS, size)
 }
 
 /// Literals by the grammar, some of them at fault. None has a code point that version 4 takes and luck does not (F-4).
@@ -109,11 +114,17 @@ pub fn short_plain_literals() -> Vec<Vec<u8>> {
         .collect()
 }
 
-/// The first of the texts that is short.
-fn short(random: &mut Random, make: impl Fn(&mut Random, &mut Vec<u8>)) -> Vec<u8> {
-    first(random, make, |text| SHORT.contains(&text.len()))
+/// A body by the grammar, some of them at fault. No pattern has a reversed range, which luck takes (F-10).
+fn short_body(random: &mut Random, kind: Kind, is_wanted: impl Fn(&[u8]) -> bool) -> Vec<u8> {
+    let is_alike = |text: &[u8]| Body::new(text).reversed(kind, VERSION).is_none();
+    first(
+        random,
+        |random, text| bodies::body(random, kind, text),
+        |text| SHORT.contains(&text.len()) && is_wanted(text) && is_alike(text),
+    )
 }
 
+/// The first of the texts that is wanted.
 fn first(random: &mut Random, make: impl Fn(&mut Random, &mut Vec<u8>), is_wanted: impl Fn(&[u8]) -> bool) -> Vec<u8> {
     loop {
         let mut text = Vec::new();
@@ -127,13 +138,8 @@ fn first(random: &mut Random, make: impl Fn(&mut Random, &mut Vec<u8>), is_wante
 /// A body without a fault: bodies by the grammar, one after the other.
 pub fn accepted(kind: Kind, alphabet: Alphabet, size: usize) -> Vec<u8> {
     let mut random = Random::new(SEED);
-    filled(size, || {
-        first(
-            &mut random,
-            |random, text| bodies::body(random, kind, text),
-            |text| SHORT.contains(&text.len()) && (alphabet == Alphabet::Any || text.is_ascii()) && fits_anywhere(kind, text),
-        )
-    })
+    let is_wanted = |text: &[u8]| (alphabet == Alphabet::Any || text.is_ascii()) && fits_anywhere(kind, text);
+    filled(size, || short_body(&mut random, kind, is_wanted))
 }
 
 /// Whether the body is accepted after and before any others that are. Captures have a limit, so a pattern may have none; of pack
@@ -256,11 +262,7 @@ fn line(random: &mut Random) -> Vec<u8> {
     let has_count = kind == Kind::Replacement && random.one_in(2);
     push(&mut line, &if has_count { format!("{:>2}", random.below(4)) } else { "  ".to_owned() });
     line.push(if random.one_in(50) { b'_' } else { b' ' });
-    line.extend(first(
-        random,
-        |random, text| bodies::body(random, kind, text),
-        |text| SHORT.contains(&text.len()) && !text.contains(&b'\n'),
-    ));
+    line.extend(short_body(random, kind, |text| !text.contains(&b'\n')));
     line.push(b'\n');
     line
 }

@@ -2,6 +2,7 @@
 
 mod checks;
 mod known;
+pub mod left_out;
 mod output;
 pub mod report;
 

@@ -1,4 +1,4 @@
-//! What is right of the program `bodies`: document 01's rules of a line, luck's answer for the body, and the totals of F-9.
+//! What is right of the program `bodies`: document 01's rules of a line, luck's answer for the body or 39, and the totals of F-9.
 
 pub mod comparison;
 mod failures;
@@ -11,6 +11,7 @@ use std::fmt;
 
 use crate::kind::Kind;
 use crate::reference::checks::Body;
+use library::Answer;
 
 /// The bytes that a line may have, its newline not counted.
 pub const LONGEST: usize = 4005;
@@ -80,12 +81,32 @@ fn rows(input: &[u8]) -> (String, Totals) {
 
 /// The refusals in their order: 31, 30, 25, then those of the body, 23 first.
 pub fn row(line: &[u8]) -> Row {
+    row_by(line, Body::check)
+}
+
+/// The same with luck's own answer for the body, which is never 39.
+pub fn row_by_luck(line: &[u8]) -> Row {
+    row_by(line, Body::by_luck)
+}
+
+/// A check of a body with its version and count of captures.
+type BodyCheck<'line> = fn(Body<'line>, Kind, u32, Option<usize>) -> Answer;
+
+fn row_by<'line>(line: &'line [u8], check: BodyCheck<'line>) -> Row {
     if line.len() > LONGEST {
         return refused(31);
     }
     let Some(Question { kind, version, captures, body }) = question(line) else { return refused(30) };
-    let answer = Body::new(body).check(kind, version, captures);
+    let answer = check(Body::new(body), kind, version, captures);
     Row { number: answer.number, offset: answer.offset, count: answer.count }
+}
+
+/// Of a line whose row has 39: whether luck finds no fault before the end of the set.
+pub fn is_first_fault(line: &[u8]) -> Option<bool> {
+    let Question { kind, version, body, .. } = question(line).filter(|_| line.len() <= LONGEST)?;
+    let body = Body::new(body);
+    body.reversed(kind, version)?;
+    body.is_first_fault(kind)
 }
 
 const fn refused(number: u32) -> Row {

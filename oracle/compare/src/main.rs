@@ -80,7 +80,7 @@ fn compare_lines(program: &Path, words: &[&str]) -> ExitCode {
     match LineComparison::run(program, seed, count) {
         Ok(comparison) => {
             println!("{comparison}");
-            ExitCode::from(u8::from(comparison.differing() > 0))
+            ExitCode::from(u8::from(comparison.has_failed()))
         }
         Err(error) => cannot_use(program, &error),
     }
@@ -101,5 +101,5 @@ fn compare(extent: &Extent, parts: Parts) -> ExitCode {
     let mut run = Run::new(extent);
     parts(&mut run, extent);
     println!("{}", run.report());
-    ExitCode::from(u8::from(run.report().differing() > 0))
+    ExitCode::from(u8::from(run.report().has_failed()))
 }

@@ -1,6 +1,7 @@
 //! What is right: luck's Rust, with the port's own refusals 25, 23 and 26 around it.
 
 pub mod checks;
+pub mod reversed;
 pub mod wide;
 
 use std::borrow::Cow;

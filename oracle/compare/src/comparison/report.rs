@@ -3,6 +3,7 @@
 use std::fmt;
 
 use crate::comparison::known::{self, KNOWN};
+use crate::comparison::left_out::LeftOut;
 
 #[derive(Debug, Clone, Copy, PartialEq, Eq)]
 pub enum Check {
@@ -18,15 +19,19 @@ pub enum Check {
     DecodeWide,
     Format,
     Pattern,
+    /// Of patterns that are refused with 39, which luck does not know.
+    PatternReversed,
     Pack,
     Packsize,
     Replacement,
     Date,
     Literal,
+    /// The same of literals.
+    LiteralReversed,
 }
 
 impl Check {
-    const ALL: [Self; 16] = [
+    const ALL: [Self; 18] = [
         Self::Rules,
         Self::Whitespace,
         Self::Span,
@@ -38,11 +43,13 @@ impl Check {
         Self::DecodeWide,
         Self::Format,
         Self::Pattern,
+        Self::PatternReversed,
         Self::Pack,
         Self::Packsize,
         Self::Replacement,
         Self::Date,
         Self::Literal,
+        Self::LiteralReversed,
     ];
 
     const fn name(self) -> &'static str {
@@ -58,11 +65,13 @@ impl Check {
             Self::DecodeWide => "decode_string wide",
             Self::Format => "check_format",
             Self::Pattern => "check_pattern",
+            Self::PatternReversed => "pattern reversed",
             Self::Pack => "check_pack",
             Self::Packsize => "check_packsize",
             Self::Replacement => "check_replacement",
             Self::Date => "check_date",
             Self::Literal => "check_literal",
+            Self::LiteralReversed => "literal reversed",
         }
     }
 }
@@ -85,6 +94,9 @@ pub struct Case<'text> {
 #[derive(Default)]
 pub struct Report {
     counts: [Count; Check::ALL.len()],
+    /// Of the checks of bodies, and of those of literals.
+    pub bodies: LeftOut,
+    pub literals: LeftOut,
     shown: Vec<String>,
 }
 
@@ -107,6 +119,17 @@ impl Report {
         if count.differing <= Self::MOST_SHOWN {
             self.shown.push(format!("{case}: {}", details()));
         }
+    }
+
+    /// Whether anything differs, or what was left out is not just what luck has no answer for.
+    pub fn has_failed(&self) -> bool {
+        let has = |check: Check| self.counts[check as usize].compared > 0;
+        let is_missing = |check: Check, reversed: Check| has(check) && !has(reversed);
+        self.differing() > 0
+            || self.bodies.has_failed()
+            || self.literals.has_failed()
+            || is_missing(Check::Pattern, Check::PatternReversed)
+            || is_missing(Check::Literal, Check::LiteralReversed)
     }
 
     pub fn compared(&self) -> u64 {
@@ -149,6 +172,8 @@ impl fmt::Display for Report {
             let Count { compared, differing, known } = self.counts[check as usize];
             writeln!(f, "{:<18} {compared:>12} compared {differing:>8} differ {known:>8} known", check.name())?;
         }
+        writeln!(f, "left out of luck's, bodies: {}", self.bodies)?;
+        writeln!(f, "left out of luck's, literals: {}", self.literals)?;
         for known in KNOWN {
             writeln!(f, "known: {}", known.reason)?;
         }
@@ -158,6 +183,9 @@ impl fmt::Display for Report {
         let hidden = self.differing() - self.shown.len() as u64;
         if hidden > 0 {
             writeln!(f, "and {hidden} more")?;
+        }
+        if self.has_failed() && self.differing() == 0 {
+            writeln!(f, "failed: what is left out of luck's is nothing, or not just what is answered 39")?;
         }
         write!(f, "{} calls compared, {} differences", self.compared(), self.differing())
     }

@@ -5,6 +5,7 @@ use std::io::{self, Read};
 use std::path::Path;
 use std::time::Instant;
 
+use crate::comparison::left_out::LeftOut;
 use crate::comparison::report::Shown;
 use crate::lines::long::{self, LongInput};
 use crate::lines::program::{self, Run};
@@ -22,6 +23,8 @@ pub struct LineComparison<'program> {
     inputs: u64,
     lines: u64,
     differing: u64,
+    /// Lines with 39.
+    left_out: LeftOut,
     /// The first differences.
     shown: Vec<String>,
 }
@@ -31,7 +34,15 @@ impl<'program> LineComparison<'program> {
 
     /// All inputs, of them `count` random lines. Fails where the program cannot be run.
     pub fn run(program: &'program Path, seed: u64, count: u64) -> io::Result<Self> {
-        let mut comparison = Self { program, random: Random::new(seed), inputs: 0, lines: 0, differing: 0, shown: Vec::new() };
+        let mut comparison = Self {
+            program,
+            random: Random::new(seed),
+            inputs: 0,
+            lines: 0,
+            differing: 0,
+            left_out: LeftOut::default(),
+            shown: Vec::new(),
+        };
         comparison.stored()?;
         comparison.heads()?;
         comparison.random_lines(seed, count)?;
@@ -45,8 +56,9 @@ impl<'program> LineComparison<'program> {
         Ok(comparison)
     }
 
-    pub const fn differing(&self) -> u64 {
-        self.differing
+    /// Whether anything differs, or what was left out of luck's answers is not just what luck has none for.
+    pub const fn has_failed(&self) -> bool {
+        self.differing > 0 || self.left_out.has_failed() || self.left_out.calls() == 0
     }
 
     fn stored(&mut self) -> io::Result<()> {
@@ -218,6 +230,7 @@ impl<'program> LineComparison<'program> {
         })?;
         self.inputs += 1;
         self.rows(input, &wanted, &found);
+        self.left_out(input, &found);
         self.ending(run, || format!("{} pieces, {}", pieces.len(), Shown(input)));
         Ok(())
     }
@@ -293,6 +306,19 @@ impl<'program> LineComparison<'program> {
         }
     }
 
+    /// The rows found beside luck's own.
+    fn left_out(&mut self, input: &[u8], found: &[u8]) {
+        let mut found = found.split_inclusive(|&byte| byte == b'\n');
+        for line in lines::lines(input) {
+            let by_luck = format!("{}\n", lines::row_by_luck(line));
+            let is_first_fault = lines::is_first_fault(line);
+            self.left_out.call(is_first_fault.is_some(), found.next() == Some(by_luck.as_bytes()));
+            if let Some(is_first_fault) = is_first_fault {
+                self.left_out.text(is_first_fault);
+            }
+        }
+    }
+
     fn differ(&mut self, details: impl FnOnce() -> String) {
         self.differing += 1;
         if self.shown.len() < Self::MOST_SHOWN {
@@ -319,6 +345,7 @@ impl fmt::Display for LineComparison<'_> {
         if hidden > 0 {
             writeln!(f, "and {hidden} more")?;
         }
+        writeln!(f, "left out of luck's, lines: {}", self.left_out)?;
         write!(f, "{} lines compared in {} inputs, {} differences", self.lines, self.inputs, self.differing)
     }
 }

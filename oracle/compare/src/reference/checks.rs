@@ -1,4 +1,5 @@
-//! What is right of a check: luck's Rust, with the port's own refusals 30, 25 and 23 around it.
+//! What is right of a check: luck's Rust, with the port's own refusals 30, 25 and 23 around it, and 39 for patterns with a reversed
+//! range.
 
 use std::str;
 
@@ -6,7 +7,7 @@ use luck_linter::Fault;
 use luck_token::Span;
 
 use crate::kind::Kind;
-use crate::reference::lua_version;
+use crate::reference::{VERSIONS, lua_version, reversed};
 use library::{Answer, Literal};
 
 const ACCEPTED: Answer = Answer { number: 0, first: 0, second: 0, offset: 0, count: 0 };
@@ -40,7 +41,22 @@ impl<'text> Body<'text> {
         Self(str::from_utf8(text).map_err(|error| error.valid_up_to()))
     }
 
+    /// luck's answer, but for patterns that are refused with 39.
     pub fn check(self, kind: Kind, version: u32, captures: Option<usize>) -> Answer {
+        self.reversed(kind, version).unwrap_or_else(|| self.by_luck(kind, version, captures))
+    }
+
+    /// The answer for a pattern that is refused with 39. luck's stands for all others.
+    pub fn reversed(self, kind: Kind, version: u32) -> Option<Answer> {
+        if kind == Kind::Pattern { reversed::pattern(version, self.0.ok()?.as_bytes()) } else { None }
+    }
+
+    /// Of a pattern that is refused with 39: whether luck finds no fault before the end of the set.
+    pub fn is_first_fault(self, kind: Kind) -> Option<bool> {
+        if kind == Kind::Pattern { reversed::is_first_fault(self.0.ok()?) } else { None }
+    }
+
+    pub fn by_luck(self, kind: Kind, version: u32, captures: Option<usize>) -> Answer {
         let Some(version) = lua_version(version) else { return refused(25, 0) };
         match self.0 {
             Ok(body) => answer(kind.validate(body, version, captures)),
@@ -58,8 +74,24 @@ impl Text {
         Self(text.map(|text| luck_linter::Literal { text: text.into(), span: Span::default() }))
     }
 
-    /// The answer for a literal that starts at `start`.
+    /// The answer for a literal that starts at `start`: luck's, but for patterns that are refused with 39.
     pub fn check(&mut self, kind: u8, version: u32, captures: Option<usize>, start: u32) -> Literal {
+        self.reversed(kind, version, start).unwrap_or_else(|| self.by_luck(kind, version, captures, start))
+    }
+
+    /// The answer for a pattern that is refused with 39. luck's stands for all others.
+    pub fn reversed(&self, kind: u8, version: u32, start: u32) -> Option<Literal> {
+        let text = &self.0.as_ref().ok()?.text;
+        if kind == Kind::Pattern.letter() { reversed::literal(version, start, text.as_bytes()) } else { None }
+    }
+
+    /// Of a literal that is refused with 39 where it is a pattern: whether luck finds no fault before the end of the set.
+    pub fn is_first_fault(&self) -> Option<bool> {
+        self.reversed(Kind::Pattern.letter(), *VERSIONS.start(), 0)?;
+        reversed::is_first_fault(self.0.as_ref().ok()?.checkable_body()?)
+    }
+
+    pub fn by_luck(&mut self, kind: u8, version: u32, captures: Option<usize>, start: u32) -> Literal {
         let Some(kind) = Kind::of_letter(kind) else { return unspanned(refused(30, 0)) };
         let Some(version) = lua_version(version) else { return unspanned(refused(25, 0)) };
         let literal = match &mut self.0 {

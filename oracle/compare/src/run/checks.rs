@@ -2,7 +2,7 @@
 
 use super::{Extent, Run};
 use crate::kind::Kind;
-use crate::texts::exhaustive::{self, QUOTED, RAW};
+use crate::texts::exhaustive::{self, QUOTED, QUOTED_SET, RAW};
 use crate::texts::symbols::{self, ALPHABETS};
 use crate::texts::{bodies, body_edges, grammar};
 
@@ -12,6 +12,7 @@ impl Run {
         self.bodies(extent);
         self.random_bodies(extent);
         self.checked_literals(extent);
+        self.ranges(extent);
     }
 
     fn body_edges(&mut self) {
@@ -93,4 +94,37 @@ impl Run {
             }
         });
     }
+
+    /// Sets with ranges in both directions: literals of them, and patterns and literals by the grammar of `ranges`, every other one
+    /// damaged.
+    fn ranges(&mut self, extent: &Extent) {
+        let most = if extent.is_long { 5 } else { 4 };
+        self.section(&format!("literals checked, {}, up to {most}", QUOTED_SET.name), |comparison, _, count| {
+            exhaustive::texts(&symbols::LITERAL_RANGES, most, &QUOTED_SET, &mut |text| {
+                comparison.literal(text);
+                *count += 1;
+            });
+        });
+        let mut random = ranges::random::Random(extent.seed);
+        self.section(&format!("Pattern, ranges, random, seed {}", extent.seed), |comparison, _, count| {
+            while *count < extent.random_bodies {
+                comparison.body(Kind::Pattern, &any_ranges(&mut random, *count, ranges::grammar::pattern));
+                *count += 1;
+            }
+        });
+        self.section(&format!("literals checked, ranges, random, seed {}", extent.seed), |comparison, _, count| {
+            while *count < extent.random_bodies / 4 {
+                comparison.literal(&any_ranges(&mut random, *count, ranges::grammar::literal));
+                *count += 1;
+            }
+        });
+    }
+}
+
+fn any_ranges(random: &mut ranges::random::Random, turn: u64, make: fn(&mut ranges::random::Random) -> Vec<u8>) -> Vec<u8> {
+    let mut text = make(random);
+    if turn % 2 == 1 {
+        ranges::grammar::damage(random, &mut text);
+    }
+    text
 }

@@ -1,6 +1,7 @@
 //! The stored answers of the checks, a file for each kind, and of the check of a literal.
 //!
-//! The answers are luck's, with the port's own refusals 30, 25 and 23 around them; the library is not asked.
+//! The answers are luck's, with the port's own refusals 30, 25 and 23 around them, and 39 for patterns with a reversed range; the
+//! library is not asked.
 
 use std::fs;
 use std::io;
@@ -159,6 +160,12 @@ fn literal_records() -> Records {
             for kind in *b"FPKSGDQ" {
                 add(&Question { kind, version, captures: Some(1), text }, STARTS[(index + usize::from(version)) % STARTS.len()]);
             }
+        }
+    }
+    for (index, text) in picked::range_literals().iter().enumerate() {
+        for version in versions() {
+            let question = Question { kind: Kind::Pattern.letter(), version, captures: None, text };
+            add(&question, STARTS[(index + usize::from(version)) % STARTS.len()]);
         }
     }
     let mut random = Random::new(SEED);

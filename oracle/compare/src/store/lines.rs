@@ -1,7 +1,7 @@
 //! The stored lines of the program `bodies`, and the rows and totals that it must write for them.
 //!
 //! They are the reference's, and the library is not asked. The rows of the lines picked by hand are written by hand too, from
-//! documents 01 and 03, and so are the totals: a reference that is wrong is noticed there.
+//! documents 01 to 03, and so are the totals: a reference that is wrong is noticed there.
 
 use std::fs;
 use std::io;
@@ -105,6 +105,43 @@ const REFUSED: [ByHand<'_>; 53] = [
     (b"D7   %Q", 25, 0, 0),
 ];
 
+/// F-10: document 03's inputs and their neighbours, with and without a backslash, and what comes before 39.
+const RANGES: [ByHand<'_>; 33] = [
+    (b"P1   [z-a]", 39, 1, 0),
+    (b"P2   [z-%a]", 39, 1, 0),
+    (b"P3   [%z-a]", 0, 0, 0),
+    (b"P4   [^z-a]", 39, 2, 0),
+    (b"P5   %f[z-a]", 39, 3, 0),
+    (b"P6   [a-a]", 0, 0, 0),
+    (b"P1   )[z-a]", 11, 0, 0),
+    (b"P2   [z-a])", 39, 1, 0),
+    (b"P3   [z-a", 8, 0, 0),
+    (b"P4   [\xC3\xA9-a]", 39, 2, 0),
+    (b"P5   ([z-a]", 39, 2, 0),
+    (b"P6   [a-z][z-a]", 39, 6, 0),
+    (b"P1   [a-zb-a]", 39, 4, 0),
+    (b"P2   []-A]", 39, 1, 0),
+    (b"P3   []-a]", 0, 0, 0),
+    (b"P4   [z-]", 0, 0, 0),
+    (b"P5   [--%]", 8, 0, 0),
+    (b"P6   [--%]]", 39, 1, 0),
+    (b"P1   [%%-a]", 0, 0, 0),
+    (b"P2   [!-%%g]", 0, 0, 0),
+    (b"P3   [\xC3\xA9-\xC3\xA9]", 0, 0, 0),
+    (b"P4   (a)%1[z-a]", 39, 6, 0),
+    (b"P5   %1[z-a]", 13, 1, 0),
+    (b"P6   %b[z-a]", 0, 0, 0),
+    (b"P1   [z-a]\\n", 39, 1, 0),
+    (b"P2   \\[z-a]", 39, 2, 0),
+    (b"P3   [z-\\]", 39, 1, 0),
+    (b"P4   [a-\0]", 39, 1, 0),
+    (b"P5   [z-a]\r", 39, 1, 0),
+    (b"P6   [z-a]\xFF", 23, 5, 0),
+    (b"P7   [z-a]", 25, 0, 0),
+    (b"P1 1 [z-a]", 30, 0, 0),
+    (b"F1   [z-a]", 0, 0, 0),
+];
+
 /// Lines that do not fit, and such beside them that do.
 const MISFITS: [ByHand<'_>; 63] = [
     (b"", 30, 0, 0),
@@ -200,7 +237,7 @@ const LONG: [LongByHand; 18] = [
 ];
 
 /// The stored lines, and those of them that are refused, counted in the file.
-const TOTALS: &str = "    514    302";
+const TOTALS: &str = "    547    326";
 
 /// Writes both files and answers how many lines and bytes they have.
 pub fn write(folder: &Path, input: &[u8]) -> io::Result<(usize, usize)> {
@@ -228,7 +265,7 @@ pub fn input() -> Result<Vec<u8>, String> {
     if lines::output(EXAMPLE_INPUT) != EXAMPLE_OUTPUT {
         return Err("the reference does not give document 01's example".to_owned());
     }
-    let by_hand = EXAMPLE.iter().chain(&ACCEPTED).chain(&REFUSED).chain(&MISFITS);
+    let by_hand = EXAMPLE.iter().chain(&ACCEPTED).chain(&REFUSED).chain(&RANGES).chain(&MISFITS);
     let mut stored: Vec<Stored> = by_hand.map(Stored::by_hand).collect();
     stored.extend(LONG.iter().map(long_line));
     stored.extend(random_lines());

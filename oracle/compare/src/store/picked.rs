@@ -362,10 +362,97 @@ const fn picked(kind: Kind) -> &'static [&'static str] {
     }
 }
 
+/// Patterns of F-10: document 03's inputs, and their neighbours.
+pub const RANGES: [&str; 81] = [
+    "[z-a]",
+    "[z-%a]",
+    "[%z-a]",
+    "[^z-a]",
+    "%f[z-a]",
+    "[a-a]",
+    ")[z-a]",
+    "[z-a])",
+    "[z-a",
+    "[é-a]",
+    "%f[^z-a]",
+    "%f[z-a",
+    "([z-a]",
+    "([z-a])",
+    "()%1[z-a]",
+    "[z-a]%",
+    "[z-a][",
+    "[z-a]%1",
+    "%1[z-a]",
+    "(%1[z-a])",
+    "%[z-a]",
+    "%%[z-a]",
+    "%b[z-a]",
+    "%bxy[z-a]",
+    "[[z-a]",
+    "[a-z][z-a]",
+    "[z-a][a-z]",
+    "[a-zb-a]",
+    "[b-aa-z]",
+    "[az-a]",
+    "[a-b-A]",
+    "[a-bb-A]",
+    "[a--A]",
+    "[]-a]",
+    "[]-A]",
+    "[^]-A]",
+    "[^-A]",
+    "[^^-a]",
+    "[^^-A]",
+    "[%]-A]",
+    "[z-]",
+    "[^z-]",
+    "[z-]]",
+    "[-a]",
+    "[--a]",
+    "[--%]",
+    "[--%]]",
+    "[---]",
+    "[+--]",
+    "[.--]",
+    "[z-%]",
+    "[z-%]]",
+    "[%%-a]",
+    "[%a-Z]",
+    "[%a-zb-a]",
+    "[!-%%g]",
+    "[!-%%]",
+    "[&-%%]",
+    "[&-%%g]",
+    "[é-é]",
+    "[a-é]",
+    "[a-éb-a]",
+    "[%é-a]",
+    "[€-a]",
+    "[😀-a]",
+    "[é-%a]",
+    "[éz-a]",
+    "é[z-a]é",
+    "[~-}]",
+    "[a-`]",
+    "[`-a]",
+    "[9-0]",
+    "[0-9A-Fa-f]",
+    "[A-z]",
+    "[a-Z]",
+    "[a-\0]",
+    "[\0-a]",
+    "[z-\\]",
+    "\\[z-a]",
+    "(((((((((((((((((((((((((((((((([z-a]",
+    "((((((((((((((((((((((((((((((((([z-a]",
+];
+
 /// The texts picked by hand, and some that are not UTF-8.
 pub fn edges(kind: Kind) -> Vec<Vec<u8>> {
     let ill_formed: [&[u8]; 5] = [b"\xFF", b"%\xFF", b"a%\xC3", b"%y\xED\xA0\x80", b"[b1c\xF4\x90\x80\x80"];
-    picked(kind).iter().map(|text| text.as_bytes()).chain(ill_formed).map(<[u8]>::to_vec).collect()
+    let ranges: &[&str] = if kind == Kind::Pattern { &RANGES } else { &[] };
+    let [picked, ranges] = [picked(kind), ranges].map(|texts| texts.iter().map(|text| text.as_bytes()));
+    picked.chain(ill_formed).chain(ranges).map(<[u8]>::to_vec).collect()
 }
 
 /// Up to twelve symbols, one in sixteen of them many times; one text in thirty is damaged by a byte.
@@ -412,6 +499,21 @@ pub const LITERALS: [&[u8]; 26] = [
     b"\"\xFF\"",
     b"\"%y\xFF\"",
 ];
+
+/// The patterns of F-10 as literals, each without a backslash and with one, which stands before it, behind it or in it by turns.
+pub fn range_literals() -> Vec<Vec<u8>> {
+    let mut literals = Vec::new();
+    for (index, text) in RANGES.iter().enumerate() {
+        let (front, back) = text.split_at(text.chars().next().map_or(0, char::len_utf8));
+        literals.push(format!("\"{text}\""));
+        literals.push(match index % 3 {
+            0 => format!("'\\n{text}'"),
+            1 => format!("\"{text}\\\\\""),
+            _ => format!("'{front}\\'{back}'"),
+        });
+    }
+    literals.into_iter().map(String::into_bytes).collect()
+}
 
 /// A hostile body in quotes, now and then with an escape, without its last quote, or in brackets.
 pub fn literal(random: &mut Random, kind: Kind) -> Vec<u8> {

@@ -50,6 +50,8 @@ pub struct Form {
 
 pub const RAW: Form = Form { name: "raw", open: b"", close: b"" };
 pub const QUOTED: Form = Form { name: "quoted", open: b"\"", close: b"\"" };
+pub const SET: Form = Form { name: "in [ ]", open: b"[", close: b"]" };
+pub const QUOTED_SET: Form = Form { name: "in \"[ ]\"", open: b"\"[", close: b"]\"" };
 pub const PERCENT: Form = Form { name: "behind %", open: b"%", close: b"" };
 pub const LONG: Form = Form { name: "in [[ ]]", open: b"[[", close: b"]]" };
 pub const LONG_LEVEL_1: Form = Form { name: "in [=[ ]=]", open: b"[=[", close: b"]=]" };

@@ -2,7 +2,7 @@
 //! and three bytes, and a byte that no text has.
 
 use crate::kind::Kind;
-use crate::texts::exhaustive::{Form, PERCENT, RAW};
+use crate::texts::exhaustive::{Form, PERCENT, RAW, SET};
 
 /// An alphabet of a kind, what is put around its texts, and how many symbols they have at most.
 pub struct Alphabet {
@@ -28,7 +28,7 @@ const fn behind_percent(
     Alphabet { kind, name, symbols, form: PERCENT, short, long }
 }
 
-pub const ALPHABETS: [Alphabet; 18] = [
+pub const ALPHABETS: [Alphabet; 19] = [
     raw(Kind::Format, "all symbols", &FORMAT, 4, 5),
     raw(Kind::Format, "some symbols", &FORMAT_SOME, 4, 6),
     behind_percent(Kind::Format, "digits", &FORMAT_DIGITS, 4, 6),
@@ -38,6 +38,7 @@ pub const ALPHABETS: [Alphabet; 18] = [
     raw(Kind::Pattern, "digits", &PATTERN_DIGITS, 4, 6),
     raw(Kind::Pattern, "sets", &PATTERN_SETS, 6, 9),
     raw(Kind::Pattern, "captures", &PATTERN_CAPTURES, 6, 8),
+    Alphabet { kind: Kind::Pattern, name: "ranges", symbols: &PATTERN_RANGES, form: SET, short: 5, long: 7 },
     raw(Kind::Pack, "all symbols", &PACK, 4, 5),
     raw(Kind::Pack, "sizes", &PACK_SIZES, 5, 6),
     raw(Kind::Packsize, "all symbols", &PACK, 4, 5),
@@ -132,6 +133,7 @@ const PATTERN_SOME: [&[u8]; 16] =
     [b"%", b"[", b"]", b"^", b"(", b")", b"0", b"1", b"2", b"b", b"f", b"a", b"-", "é".as_bytes(), "€".as_bytes(), b"\xFF"];
 const PATTERN_DIGITS: [&[u8]; 15] = [b"%", b"(", b")", b"0", b"1", b"2", b"3", b"4", b"5", b"6", b"7", b"8", b"9", b"/", b":"];
 const PATTERN_SETS: [&[u8]; 6] = [b"[", b"]", b"^", b"%", b"%f", b"a"];
+const PATTERN_RANGES: [&[u8]; 8] = [b"%", b"-", b"]", b"^", b"[", b"a", b"z", "é".as_bytes()];
 const PATTERN_CAPTURES: [&[u8]; 7] = [b"(", b")", b"()", b"%1", b"%2", b"%3", b"a"];
 
 /// Every option and every digit.
@@ -275,3 +277,6 @@ pub const LITERAL: [&[u8]; 20] = [
     "😀".as_bytes(),
     b"\xFF",
 ];
+
+/// For literals with a set: ranges, escapes of the set and of the literal, and the quote.
+pub const LITERAL_RANGES: [&[u8]; 9] = [b"%", b"-", b"]", b"a", b"z", b"\\", b"n", b"\"", "é".as_bytes()];
