@@ -3,4 +3,4 @@ pub mod Forward
 pub mod Sound
 pub mod Accepted
 pub mod Endings
-pub mod Reversed
+pub mod Promises

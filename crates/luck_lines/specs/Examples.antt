@@ -88,7 +88,12 @@ pub longest-line : (lineAnswer (replicate 4005 0) ≡ refused 30 0) × (lineAnsw
 unfolding computed
 longest-line = (refl, refl)
 
--- a line for each number that a line is answered, from 0 on
+-- a reversed range, with a backslash in the body and without
+pub reversed-lines : (lineAnswer (ascii "P1   [z-a]\\n") ≡ refused 39 1) × (lineAnswer (ascii "P6   [a-z][z-a]") ≡ refused 39 6)
+unfolding computed
+reversed-lines = (refl, refl)
+
+-- a line for each number that a line is answered, from 0 to 31, and 39
 abbrev answered : List (List ℕ)
 answered =
     ascii "F1   %d"
@@ -118,6 +123,7 @@ answered =
     ∷ ascii "F7   x"
     ∷ ascii "F"
     ∷ replicate 4006 0
+    ∷ ascii "P1   [z-a]"
     ∷ []
 
 abbrev numbersOf : List (List ℕ) → List ℕ
@@ -129,7 +135,7 @@ allAmong [] numbers = true
 allAmong (n ∷ more) numbers = among n numbers && allAmong more numbers
 
 -- all of them but the first are counted as refused
-pub all-refused : (length answered ≡ 27) × (refusedCount (answers answered) ≡ 26)
+pub all-refused : (length answered ≡ 28) × (refusedCount (answers answered) ≡ 27)
 unfolding computed
 all-refused = (refl, refl)
 

@@ -1,6 +1,6 @@
 -- What the checks promise. First the check of a literal, where a kind letter names a check, the version is one of the
--- six and the text is UTF-8; in every other case the answer is 30, 25 or 23, by the definition. At the end every check
--- of a body that is not UTF-8, as the value of a literal can be (F-4 of document 02).
+-- six and the text is UTF-8; in every other case the answer is 30, 25 or 23, by the definition. F-6 and F-10 of document
+-- 02 are among it. At the end every check of a body that is not UTF-8, as the value of a literal can be (F-4).
 -- Assumes nothing.
 use Prim.Native.Nat.{ℕ, _+_, _-_, _<_, _≤_}
 use Prim.Native.Char.{code}
@@ -42,7 +42,7 @@ AnswersBody check version a text = a .skipped ≡ false → a .answer ≡ answer
 abbrev pub SkippedOrAccepted : LiteralAnswer → Type 0
 SkippedOrAccepted a = a .skipped ≡ false → a ≡ unspanned (accepted 0)
 
--- 39 of a literal comes where no backslash stands in its body, and its span is one byte wide (F-10)
+-- 39 of a literal comes only where no backslash stands in its body; its span is that one byte, saturating in `u32` (F-10)
 abbrev pub ReversedSpan : ℕ → LiteralAnswer → List ℕ → Type 0
 ReversedSpan start a text =
     a .answer .number ≡ 39

@@ -1,4 +1,4 @@
--- The checks of a body, as one data type, after document 01: the kind letter that names each, its walk, its answer, and
+-- The checks of a body, as one data type, after documents 01 and 02: the kind letter that names each, its walk, its answer, and
 -- the numbers of the table of refusals that it can answer.
 -- Assumes nothing.
 use Prim.Native.Nat.{ℕ}
@@ -61,7 +61,8 @@ answer date version text = checkDate version text
 answer (replacement captures) version text = checkReplacement version captures text
 answer (pack packsize) version text = checkPack version packsize text
 
--- 0 where the text is accepted, else a refusal of document 01 or 02; 21 where a digit can be too large: the largest is 9
+-- 0 where the text is accepted, else a refusal of document 01 or 02; 21 where a digit can be too large (the largest
+-- is 9)
 abbrev pub numbers : Check → List ℕ
 numbers format = 0 ∷ 1 ∷ 2 ∷ 3 ∷ 4 ∷ 5 ∷ 6 ∷ 7 ∷ 23 ∷ 25 ∷ []
 numbers (pattern false) = 0 ∷ 1 ∷ 8 ∷ 9 ∷ 10 ∷ 11 ∷ 12 ∷ 13 ∷ 23 ∷ 25 ∷ []

@@ -34,7 +34,7 @@ pub data Example : Type 0 where
 abbrev unread : List Example
 unread = gives 1 (0xFF ∷ []) 23 ∷ gives 7 [] 25 ∷ []
 
--- the pattern's with the test of ranges and without; `untested` has an example for each number of both
+-- `untested` has a text for each number of the check without the test of ranges, `patterns` one for 39 too
 abbrev untested : List Example
 untested =
     gives 1 (ascii "()%1") 0

@@ -1,5 +1,6 @@
 -- The check of a literal in a source (checkable_body and literal_error of luck's rule format_string), by one of the
--- kind letters of document 01, in the order of point 9 of document 03; of a pattern's ranges after F-10 of document 02.
+-- kind letters of document 01, in the order of point 9 of document 03. F-10 of document 02 says where a pattern's ranges
+-- are tested.
 -- Assumes nothing.
 use Prim.Native.Nat.{ℕ, _+_, _-_}
 use Prim.Native.Char.{code}
@@ -31,7 +32,7 @@ hasNumericEscape (b ∷ c ∷ more) =
     let byte = hasNumericEscape (c ∷ more) in
     if eqb b (code "\\") then pair else byte
 
--- a backslash may spell an end of a range, so that ranges are not tested in a body that has one
+-- an escape may stand for an end of a range, as in `[\n-a]`, so ranges are not tested in a body with a backslash
 unfoldable pub literalCheck : Check → List ℕ → Check
 literalCheck check body = if among (code "\\") body then withoutRanges check else check
 

@@ -25,7 +25,7 @@ use Rattle.luck_answer.proofs.Answers.{Stops, walk-every}
 use Rattle.luck_pattern.specs.Captures.{closeLatest, isClosed, allClosed}
 use Rattle.luck_pattern.specs.Reading.{Head, at-open, at-close, at-percent, at-set, at-other, headOf, Escape, esc-digit, esc-balance, esc-frontier, esc-other, esc-end, escapeAt, SetEnd, closes-at, cut-at, unclosed, firstMember, setEnd}
 use Rattle.luck_pattern.specs.Pattern.{isEmptySet, Scanned, past, fault, onward, afterClose, patternEnd, closedAs, reversedOf, setAs, setRead, escapeAs, escapeRead, headTurn, patternTurn, patternWalk, checkPatternAs}
-use Rattle.luck_pattern.specs.Ranges.{itemReversed, Passed, at-start, one-more, FirstReversed, NoneReversed}
+use Rattle.luck_pattern.specs.Ranges.{itemReversed, Passed, at-start, one-more, FirstReversedSet, NoneReversed}
 use Rattle.luck_pattern.proofs.Places.{ClosesFrom, first-behind, set-closes}
 use Rattle.luck_pattern.proofs.Ranges.{tested, turn-tested, Reversed, walk-or-39, same-or-39}
 
@@ -194,11 +194,11 @@ module _ (pat : List ℕ) where
       walk-every (patternTurn false pat) (patternEnd pat) (length pat) (λ (a : Answer). a .number < 39)
       (λ p captures h. turn-number p (patternTurn false pat p captures) (sane pat p captures h)) end-number 0 []
 
-  pub walk-39 : (k : ℕ) → (patternWalk true pat ≡ refused 39 k) ↔ FirstReversed pat k
+  pub walk-39 : (k : ℕ) → (patternWalk true pat ≡ refused 39 k) ↔ FirstReversedSet pat k
   unfolding patternWalk
   walk-39 k = (λ e. go e (ended (length pat) 0 [] (omega arith) at-start), λ y. back y)
     where
-      go : From 0 [] ≡ refused 39 k → Ended → FirstReversed pat k
+      go : From 0 [] ≡ refused 39 k → Ended → FirstReversedSet pat k
       go e y =
           ⊎-elim
           (λ x.
@@ -207,8 +207,8 @@ module _ (pat : List ℕ) where
             place = y .at;
             captures = y .captures;
             passed = y .passed;
-            there = x .0;
-            is = is-39 pat (y .at) (y .captures) k (x .0) .0 (x .2 ∙ ap stop same);
+            in-text = x .0;
+            found = is-39 pat (y .at) (y .captures) k (x .0) .0 (x .2 ∙ ap stop same);
           })
           (λ l.
           let same : patternEnd pat (y .at) (y .captures) ≡ refused 39 k = sym (walk-end (patternTurn true pat) (patternEnd pat) (length pat) (y .at) (y .captures) l) ∙ sym (passed-walk (y .passed)) ∙ e in
@@ -216,29 +216,29 @@ module _ (pat : List ℕ) where
           absurd (omega (arith, end-number (y .at) (y .captures))))
           (y .how)
 
-      back : FirstReversed pat k → From 0 [] ≡ refused 39 k
+      back : FirstReversedSet pat k → From 0 [] ≡ refused 39 k
       back y =
           passed-walk (y .passed)
-          ∙ walk-stop (patternTurn true pat) (patternEnd pat) (length pat) (y .place) (y .captures) (refused 39 k) (y .there) (is-39 pat (y .place) (y .captures) k (y .there) .1 (y .is))
+          ∙ walk-stop (patternTurn true pat) (patternEnd pat) (length pat) (y .place) (y .captures) (refused 39 k) (y .in-text) (is-39 pat (y .place) (y .captures) k (y .in-text) .1 (y .found))
 
   -- ---- Accepted with the test
 
   -- the walk with the test is not 39
-  not-39 : ((k : ℕ) → FirstReversed pat k → ⊥) → {p : ℕ} {captures : List Bool} → Passed false pat p captures
+  not-39 : ((k : ℕ) → FirstReversedSet pat k → ⊥) → {p : ℕ} {captures : List Bool} → Passed false pat p captures
       → Passed true pat p captures
   not-39 n at-start = at-start
   not-39 n (one-more {p} {width} {before} {after} q h e) = step (not-39 n q) (itemReversed pat p) refl
     where
       step : Passed true pat p before → (o : Option ℕ) → itemReversed pat p ≡ o → Passed true pat (p + width) after
       step q none f = one-more q h (goes-on pat p before width after .1 (f, e))
-      step q (some k) f = absurd (n k (record { place = p; captures = before; passed = q; there = h; is = f }))
+      step q (some k) f = absurd (n k (record { place = p; captures = before; passed = q; in-text = h; found = f }))
 
-  pub none-first : ((k : ℕ) → FirstReversed pat k → ⊥) → NoneReversed pat
+  pub none-first : ((k : ℕ) → FirstReversedSet pat k → ⊥) → NoneReversed pat
   none-first n p captures q h = go (itemReversed pat p) refl
     where
       go : (o : Option ℕ) → itemReversed pat p ≡ o → itemReversed pat p ≡ none
       go none f = f
-      go (some k) f = absurd (n k (record { place = p; captures = captures; passed = not-39 n q; there = h; is = f }))
+      go (some k) f = absurd (n k (record { place = p; captures = captures; passed = not-39 n q; in-text = h; found = f }))
 
   pub walk-accepted : (n : ℕ)
       → (patternWalk true pat ≡ accepted n) ↔ ((patternWalk false pat ≡ accepted n) × NoneReversed pat)
@@ -249,7 +249,7 @@ module _ (pat : List ℕ) where
         ⊎-elim (λ same. same ∙ y .0)
         (λ r.
         let f = walk-39 (r .0) .0 (r .2) in
-        let g : none ≡ some (r .0) = sym (y .1 (f .place) (f .captures) (passed-without (f .passed)) (f .there)) ∙ f .is in
+        let g : none ≡ some (r .0) = sym (y .1 (f .place) (f .captures) (passed-without (f .passed)) (f .in-text)) ∙ f .found in
         let z : _≡_ {A = ℕ} 0 1 = cc in absurd (omega arith))
         (walk-or-39 pat),
   )
@@ -279,7 +279,7 @@ module _ (version : ℕ) (pat : List ℕ) where
   -- 39 at k exactly where the version and the text are fine and the first set that has a reversed range, before which
   -- nothing is at fault, has its first at k
   pub check-39 : (k : ℕ)
-      → (checkPatternAs true version pat ≡ refused 39 k) ↔ ((isVersion version ≡ true) × (illFormed pat ≡ none) × FirstReversed pat k)
+      → (checkPatternAs true version pat ≡ refused 39 k) ↔ ((isVersion version ≡ true) × (illFormed pat ≡ none) × FirstReversedSet pat k)
   unfolding checkPatternAs
   check-39 k =
       let gives = text-gives (patternWalk true pat) (refused 39 k) (λ e. omega arith) (λ e. omega arith) in
@@ -311,7 +311,12 @@ module _ (version : ℕ) (pat : List ℕ) where
         (λ r.
         let y = check-39 (r .0) .0 (r .2) in
         let f = y .2 in
-        let g : none ≡ some (r .0) = sym (fine (y .0) (y .1) (f .place) (f .captures) (passed-without pat (f .passed)) (f .there)) ∙ f .is in
+        let g : none ≡ some (r .0) = sym (fine (y .0) (y .1) (f .place) (f .captures) (passed-without pat (f .passed)) (f .in-text)) ∙ f .found in
         let z : _≡_ {A = ℕ} 0 1 = cc in absurd (omega arith))
         (same-or-39 version pat),
   )
+
+  -- so where no item has one, the test changes nothing
+  pub check-as-before : NoneReversed pat → checkPatternAs true version pat ≡ checkPatternAs false version pat
+  check-as-before fine =
+      ⊎-elim (λ same. same) (λ r. absurd (check-not-39 .1 (λ v u. fine) (ap (λ (a : Answer). a .number) (r .2)))) (same-or-39 version pat)

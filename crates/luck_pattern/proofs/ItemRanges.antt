@@ -10,9 +10,9 @@ use lib.ListN.{length}
 use lib.Dec.{eqb, ltb}
 use Rattle.luck_text.specs.Bytes.{if_then_else_, byteAt}
 use Rattle.luck_text.proofs.Cases.{by-test}
-use Rattle.luck_pattern.specs.Reading.{Head, at-open, at-close, at-percent, at-set, at-other, headOf, Escape, esc-digit, esc-balance, esc-frontier, esc-other, esc-end, escapeAt, SetEnd, closes-at, cut-at, unclosed, firstMember, setEnd, escapeSet, headSet, itemSet}
+use Rattle.luck_pattern.specs.Reading.{Head, at-open, at-close, at-percent, at-set, at-other, headOf, Escape, esc-digit, esc-balance, esc-frontier, esc-other, esc-end, escapeAt, SetEnd, closes-at, cut-at, unclosed, firstMember, setEnd}
 use Rattle.luck_pattern.specs.Items.{raises, Read, last, setOf, repeated, readSingle, readSet, readFrontier, readEscape, readByte, readHead, readItem}
-use Rattle.luck_pattern.specs.Ranges.{reversedBefore, reversedSet, itemReversed, UpwardsItem, itemOf}
+use Rattle.luck_pattern.specs.Ranges.{escapeSet, headSet, itemSet, reversedBefore, reversedSet, itemReversed, UpwardsItem, itemOf}
 use Rattle.luck_pattern.proofs.Elements.{none-reversed}
 
 -- no reversed range is found, exactly where each range of what is read runs upwards

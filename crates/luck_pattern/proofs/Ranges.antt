@@ -18,9 +18,9 @@ use Rattle.luck_token.specs.Version.{isVersion}
 use Rattle.luck_utf8.specs.Utf8.{illFormed}
 use Rattle.luck_token.specs.Text.{afterVersion, afterUtf8, afterText}
 use Rattle.luck_answer.specs.Answer.{Answer, accepted, refused, checkText}
-use Rattle.luck_pattern.specs.Reading.{Head, at-open, at-close, at-percent, at-set, at-other, headOf, Escape, esc-digit, esc-balance, esc-frontier, esc-other, esc-end, escapeAt, SetEnd, closes-at, cut-at, unclosed, firstMember, setEnd, escapeSet, headSet, itemSet}
+use Rattle.luck_pattern.specs.Reading.{Head, at-open, at-close, at-percent, at-set, at-other, headOf, Escape, esc-digit, esc-balance, esc-frontier, esc-other, esc-end, escapeAt, SetEnd, closes-at, cut-at, unclosed, firstMember, setEnd}
 use Rattle.luck_pattern.specs.Pattern.{Scanned, past, fault, onward, patternEnd, closedAs, reversedOf, setAs, setRead, escapeAs, escapeRead, headTurn, patternTurn, patternWalk, checkPatternAs}
-use Rattle.luck_pattern.specs.Ranges.{reversedBefore, reversedSet, itemReversed, RangeAt}
+use Rattle.luck_pattern.specs.Ranges.{escapeSet, headSet, itemSet, reversedBefore, reversedSet, itemReversed, RangeAt}
 use Rattle.luck_pattern.proofs.Places.{ClosesFrom, set-closes}
 use Rattle.luck_pattern.specs.Elements.{firstReversed}
 use Rattle.luck_pattern.proofs.Elements.{ReversedAt, some-reversed}

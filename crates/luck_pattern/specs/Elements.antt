@@ -1,6 +1,6 @@
--- The elements of a set with their places, as matchbracketclass of lstrlib.c 5.4 reads them: one reading, by which the
--- matching goes (`elementsOf`) and the test of ranges (F-10 of document 02): a range is reversed where its left byte is
--- greater than its right.
+-- The elements of a set with their places, as matchbracketclass of lstrlib.c 5.4 reads them: one reading, which the
+-- matching (`elementsOf`) and the test of ranges (`firstReversed`, F-10 of document 02) both go by. A range is reversed
+-- where its left byte is greater than its right.
 -- Assumes nothing.
 use Prim.Native.Nat.{ℕ, zero, suc, _+_, _-_}
 use Prim.Native.Char.{code}
@@ -16,14 +16,14 @@ pub data Element : Type 0 where
   range : ℕ → ℕ → Element
   plain : ℕ → Element
 
--- the element at place q of a set whose closing `]` stands at e, behind q. A `%` just before it takes it as its byte
+-- the element at place q of a set whose closing `]` stands at e, behind q. A `%` just before that `]` takes the `]`
 unfoldable pub elementAt : List ℕ → ℕ → ℕ → Element
 elementAt pat e q =
     if eqb (byteAt pat q) (code "%") then escape (byteAt pat (q + 1))
     else if eqb (byteAt pat (q + 1)) (code "-") && ltb (q + 2) e then range (byteAt pat q) (byteAt pat (q + 2))
     else plain (byteAt pat q)
 
--- the bytes that an element takes: `%` and a byte; left, `-`, right; a byte
+-- how many bytes of the pattern an element is: `%` and a byte; left, `-`, right; a byte
 unfoldable pub widthOf : Element → ℕ
 widthOf (escape b) = 2
 widthOf (range left right) = 3

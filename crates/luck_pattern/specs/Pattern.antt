@@ -1,7 +1,7 @@
 -- Which patterns are accepted (validate_lua_pattern, scan_escape and scan_set of luck; document 01, "Pattern, then
--- replacement"), by what stands at each place (Reading.antt). luck passes over a whole UTF-8 character where this
--- passes over one byte: the bytes after a character's first are 128 or more, so none of them is a byte that is tested
--- for here, and the two read the same items.
+-- replacement"; F-10 of document 02), by what stands at each place (Reading.antt). luck passes over a whole UTF-8
+-- character where this passes over one byte: the bytes after a character's first are 128 or more, so none of them begins
+-- an item or ends a set, and the two read the same items. Only the test of ranges, which luck lacks, compares them.
 -- Assumes nothing.
 use Prim.Native.Nat.{ℕ, _+_, _-_}
 use Prim.Native.Char.{code}
@@ -64,7 +64,8 @@ closedAs e none = past (e + 1)
 closedAs e (some left) = fault (refused 39 left)
 
 module _ (ranges : Bool) (pat : List ℕ) where
-  -- the reversed range that the check looks for, in the set from its `[` at place p to its closing `]` at place e
+  -- the first reversed range of the set from its `[` at place p to its closing `]` at place e; none where ranges are not
+  -- tested
   unfoldable pub reversedOf : ℕ → ℕ → Option ℕ
   reversedOf p e = if ranges then firstReversed pat e (firstMember pat p) else none
 
@@ -90,7 +91,7 @@ module _ (ranges : Bool) (pat : List ℕ) where
   unfoldable pub escapeRead : ℕ → List Bool → Scanned
   escapeRead p captures = escapeAs p captures (escapeAt pat (p + 1))
 
-  -- the item at place p, after these captures
+  -- what is passed over at place p, after these captures: an item, or the repeat behind one
   unfoldable pub headTurn : ℕ → List Bool → Head → Turn (List Bool) Answer
   headTurn p captures at-open =
       if ltb (length captures) maxCaptures then goes 1 (captures ++ (false ∷ [])) else stop (refused 12 p)

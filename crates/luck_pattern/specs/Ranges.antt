@@ -1,18 +1,40 @@
 -- The words of what is promised of the test of ranges (F-10 of document 02): the first reversed range of an item, as the
--- check finds it and as the matching reads it; the items that the check passes; and the first reversed range of a
--- pattern.
+-- check finds it; whether an item has one, as the matching reads it; the items that the check passes; and the first
+-- reversed range of a pattern.
 -- Assumes nothing.
 use Prim.Native.Nat.{ℕ, _+_, _≤_, _<_}
 use Prim.Native.Char.{code}
 use mathlib.Core.Path.{_≡_}
 use mathlib.Core.Bool.{Bool, true, false}
-use mathlib.Core.List.{List, [], List·Memᴰ}
+use mathlib.Core.List.{List, [], _∷_, List·Memᴰ}
 use mathlib.Core.Option.{Option, none, some}
 use lib.ListN.{length}
-use Rattle.luck_text.specs.Bytes.{byteAt}
+use lib.Dec.{eqb}
+use Rattle.luck_text.specs.Bytes.{if_then_else_, byteAt}
 use Rattle.luck_text.specs.Walk.{goes}
-use Rattle.luck_pattern.specs.Reading.{SetEnd, closes-at, cut-at, unclosed, firstMember, setEnd, itemSet}
-use Rattle.luck_pattern.specs.Elements.{Element, range, firstReversed}
+use Rattle.luck_pattern.specs.Reading.{
+  Head,
+  at-open,
+  at-close,
+  at-percent,
+  at-set,
+  at-other,
+  headOf,
+  Escape,
+  esc-digit,
+  esc-balance,
+  esc-frontier,
+  esc-other,
+  esc-end,
+  escapeAt,
+  SetEnd,
+  closes-at,
+  cut-at,
+  unclosed,
+  firstMember,
+  setEnd,
+}
+use Rattle.luck_pattern.specs.Elements.{Element, range, isReversed, firstReversed}
 use Rattle.luck_pattern.specs.Pattern.{patternTurn}
 use Rattle.luck_pattern.specs.Items.{
   Single,
@@ -37,6 +59,24 @@ use Rattle.luck_pattern.specs.Items.{
 
 -- ---- The reversed range of an item
 
+unfoldable pub escapeSet : List ℕ → ℕ → Escape → Option ℕ
+escapeSet pat p esc-end = none
+escapeSet pat p (esc-digit d) = none
+escapeSet pat p esc-balance = none
+escapeSet pat p esc-frontier = if eqb (byteAt pat (p + 2)) (code "[") then some (p + 2) else none
+escapeSet pat p esc-other = none
+
+unfoldable pub headSet : List ℕ → ℕ → Head → Option ℕ
+headSet pat p at-open = none
+headSet pat p at-close = none
+headSet pat p at-percent = escapeSet pat p (escapeAt pat (p + 1))
+headSet pat p at-set = some p
+headSet pat p at-other = none
+
+-- where the `[` of the item at place p stands, if it is a set or a frontier
+unfoldable pub itemSet : List ℕ → ℕ → Option ℕ
+itemSet pat p = headSet pat p (headOf (byteAt pat p))
+
 unfoldable pub reversedBefore : List ℕ → ℕ → SetEnd → Option ℕ
 reversedBefore pat p (closes-at e) = firstReversed pat e (firstMember pat p)
 reversedBefore pat p (cut-at e) = none
@@ -50,11 +90,11 @@ reversedSet pat (some p) = reversedBefore pat p (setEnd pat p)
 unfoldable pub itemReversed : List ℕ → ℕ → Option ℕ
 itemReversed pat p = reversedSet pat (itemSet pat p)
 
--- each range of a list of elements runs upwards
+-- no range of a list of elements is reversed: the left byte of each is at most the right one
 abbrev pub Upwards : List Element → Type 0
 Upwards elements = (left right : ℕ) → List·Memᴰ (range left right) elements → left ≤ right
 
--- so does each range in the set of a single, or of an item as the matching reads it
+-- nor any in the set of a single, or of an item as the matching reads it
 abbrev pub UpwardsSingle : Single → Type 0
 UpwardsSingle any = Unit {0}
 UpwardsSingle (class b) = Unit {0}
@@ -76,7 +116,14 @@ abbrev pub itemOf : Read → Item
 itemOf (last i) = i
 itemOf (item i q) = i
 
--- a reversed range, whole inside the text, whose left byte stands at place k
+-- a set's elements without its reversed ranges
+unfoldable pub withoutReversed : List Element → List Element
+withoutReversed [] = []
+withoutReversed (element ∷ more) =
+    let rest = withoutReversed more in
+    if isReversed element then rest else element ∷ rest
+
+-- at place k stand three bytes of the text that a set can read as a reversed range
 pub record RangeAt (pat : List ℕ) (k : ℕ) : Type 0 where
   pub inside : k + 2 < length pat
   pub hyphen : byteAt pat (k + 1) ≡ code "-"
@@ -93,12 +140,12 @@ pub data Passed (ranges : Bool) (pat : List ℕ) : ℕ → List Bool → Type 0 
 
 -- the items before a place are passed with the test, so that none of them is at fault and none has a reversed range;
 -- and the set of the item there closes, and its first reversed range stands at k
-pub record FirstReversed (pat : List ℕ) (k : ℕ) : Type 0 where
+pub record FirstReversedSet (pat : List ℕ) (k : ℕ) : Type 0 where
   pub place : ℕ
   pub captures : List Bool
   pub passed : Passed true pat place captures
-  pub there : place < length pat
-  pub is : itemReversed pat place ≡ some k
+  pub in-text : place < length pat
+  pub found : itemReversed pat place ≡ some k
 
 -- no item that the check comes to without the test has a reversed range
 abbrev pub NoneReversed : List ℕ → Type 0

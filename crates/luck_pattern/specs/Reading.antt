@@ -1,12 +1,12 @@
 -- What stands at a place of a pattern, as `match` (document 01 calls it do_match) and classEnd of lstrlib.c 5.4 read
 -- it: the byte there, the byte after a `%`, the members of a set and where it ends. The check (Pattern.antt) and the
--- items that a trial runs (Items.antt) both go by it; the elements of a set are in Elements.antt.
+-- items that a trial runs (Items.antt) both go by it. The members of a set are what classEnd steps over to find its end;
+-- the elements that matchbracketclass tests for are in Elements.antt, and in `[!-%%g]` the two differ.
 -- Assumes nothing.
 use Prim.Native.Nat.{ℕ, _+_, _-_}
 use Prim.Native.Char.{code}
 use mathlib.Core.Bool.{Bool, true, false, not, _&&_}
 use mathlib.Core.List.{List}
-use mathlib.Core.Option.{Option, none, some}
 use lib.ListN.{length}
 use lib.Dec.{eqb, ltb}
 use Rattle.luck_text.specs.Bytes.{if_then_else_, byteAt, isDigit}
@@ -71,23 +71,3 @@ firstMember pat p = if eqb (byteAt pat (p + 1)) (code "^") then p + 2 else p + 1
 
 unfoldable pub setEnd : List ℕ → ℕ → SetEnd
 setEnd pat p = walkFrom (memberTurn pat) membersEnd (length pat) (firstMember pat p) true
-
--- ---- The set of an item
-
-unfoldable pub escapeSet : List ℕ → ℕ → Escape → Option ℕ
-escapeSet pat p esc-end = none
-escapeSet pat p (esc-digit d) = none
-escapeSet pat p esc-balance = none
-escapeSet pat p esc-frontier = if eqb (byteAt pat (p + 2)) (code "[") then some (p + 2) else none
-escapeSet pat p esc-other = none
-
-unfoldable pub headSet : List ℕ → ℕ → Head → Option ℕ
-headSet pat p at-open = none
-headSet pat p at-close = none
-headSet pat p at-percent = escapeSet pat p (escapeAt pat (p + 1))
-headSet pat p at-set = some p
-headSet pat p at-other = none
-
--- where the `[` of the item at place p stands, if it is a set or a frontier
-unfoldable pub itemSet : List ℕ → ℕ → Option ℕ
-itemSet pat p = headSet pat p (headOf (byteAt pat p))

@@ -37,7 +37,7 @@ fn first_member(text: &[u8], start: usize) -> usize
 }
 
 // A set from its first member to its closing `]` at `end`: it is passed over, or its first reversed range is its fault. The elements are read as
-// `matchbracketclass` reads them, so that a range may end in a `%`, whose next byte is then an element of its own.
+// `matchbracketclass` reads them, so that a range may end in a `%`, and the byte after it begins the next element.
 fn scan_ranges(text: &[u8], first: usize, end: usize) -> Scan
     requires { ⌜ (first ≤ end) × (end < length (now text)) ⌝ }
     ensures { λ r. ⌜

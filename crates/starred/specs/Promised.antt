@@ -1,5 +1,5 @@
 -- Demand 1: what is promised of every answer of every function of include/luck.h and of every line of `bodies`,
--- whatever is asked, by document 01's records and refusals.
+-- whatever is asked, by the records and refusals of documents 01 and 02.
 -- Assumes nothing.
 use Prim.Native.Nat.{ℕ, _-_, _≤_}
 use mathlib.Core.Path.{_≡_}

@@ -135,10 +135,11 @@ once-utf8-holds = refl
 
 -- ---- F-10: reversed ranges
 
--- A pattern, its number and its offset, in every version.
+-- a character of two bytes
 abbrev é : List ℕ
 é = 0xC3 ∷ 0xA9 ∷ []
 
+-- A pattern, its number and its offset, in every version.
 abbrev pub ranges : List (List ℕ × (ℕ × ℕ))
 ranges =
     (ascii "[z-a]", (39, 1)) ∷
@@ -149,7 +150,7 @@ ranges =
     -- the first of a set, and the first set
     (ascii "[a-cz-bb-a]", (39, 4)) ∷
     (ascii "[a-z][z-a][b-a]", (39, 6)) ∷
-    -- as the matching reads them: `%` is an end on the right, not on the left; `]` is one in the first place
+    -- as the matching reads them: `%` can be a right end, not a left one; `]` can be a left end in the first place
     (ascii "[z-%a]", (39, 1)) ∷
     (ascii "[%z-a]", (0, 0)) ∷
     (ascii "[!-%%g]", (0, 0)) ∷
@@ -164,6 +165,9 @@ ranges =
     (ascii "z-a", (0, 0)) ∷
     (ascii "%[z-a]", (0, 0)) ∷
     (ascii "%bz-", (0, 0)) ∷
+    -- a backslash is a byte
+    (ascii "[z-a]\\n", (39, 1)) ∷
+    (ascii "[z-\\]", (39, 1)) ∷
     -- a fault before the set, in it, and after it
     (ascii ")[z-a]", (11, 0)) ∷
     (ascii "[z-a", (8, 0)) ∷

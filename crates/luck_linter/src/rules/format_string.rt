@@ -2,6 +2,7 @@
 ghost use mathlib.Core.Path.{_≡_};
 ghost use mathlib.Core.Bool.{true};
 ghost use Prim.Native.Nat.{_+_, min};
+ghost use Prim.Native.Char.{code};
 ghost use Rattle.luck_text.specs.Bytes.{among};
 ghost use Rattle.luck_token.specs.Span.{u32-max};
 ghost use Rattle.luck_answer.specs.Answer.{checkAnswer};
@@ -117,7 +118,7 @@ fn is_numeric_escape(byte: u8) -> bool
     byte == b'u'
 }
 
-// What the backslashes of a body begin: there are none; no escape that spells a byte by its number; such an escape.
+// A body's backslashes: none; some, but no escape that spells a byte by its number; such an escape.
 pub enum Escapes {
     Nothing,
     Plain,
@@ -126,7 +127,7 @@ pub enum Escapes {
 
 // Escapes are rare: what stands between them is passed over by blocks.
 fn escapes_in(body: &[u8]) -> Escapes
-    ensures { λ r. ⌜ (isNumeric r ≡ hasNumericEscape (now (body .entry))) × (hasBackslash r ≡ among 92 (now (body .entry))) ⌝ }
+    ensures { λ r. ⌜ (isNumeric r ≡ hasNumericEscape (now (body .entry))) × (hasBackslash r ≡ among (code "\\") (now (body .entry))) ⌝ }
 {
     let mut backslash = false;
     let mut at = blocks::blocks_end(body, 0, b'\\');
@@ -190,7 +191,7 @@ fn walk_body(check: Check, rules: Rules, start: u32, body: &[u8]) -> Literal
     spanned(answer, span_at(start, body, offset))
 }
 
-// A backslash may spell an end of a range: where one stands, ranges are not tested.
+// An escape may stand for an end of a range: where a backslash stands, ranges are not tested.
 fn check_body(check: Check, rules: Rules, start: u32, body: &[u8]) -> Literal
     ensures { λ r. ⌜ literalAnswer r ≡ checkBody (checkMeant check) rules start (now (body .entry)) ⌝ }
 {

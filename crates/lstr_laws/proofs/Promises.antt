@@ -1,23 +1,19 @@
--- A reversed range, which the check refuses (39), fits no byte where it is run: a set is what it is without it.
+-- What is promised of reversed ranges where they are run (F-10 of document 02: the check refuses them, a trial does not): such a range fits no byte, and a
+-- set fits what it fits without those that it has.
 -- Assumes nothing.
 use Prim.Native.Nat.{ℕ}
 use native.Mathlib.Omega.{arith}
 use mathlib.Core.Path.{_≡_, refl, sym, ap, _∙_}
-use mathlib.Core.Bool.{Bool, true, false, _&&_, _||_, true≢false}
+use mathlib.Core.Bool.{Bool, true, false, not, _&&_, _||_, true≢false}
 use mathlib.Core.List.{List, [], _∷_}
 use lib.Dec.{leb}
 use borrow.Author.Tests.{ltb-true, leb-true, lt-leb}
 use Rattle.luck_text.specs.Bytes.{if_then_else_}
 use Rattle.luck_text.proofs.Cases.{by-test, first-false, second-false}
 use Rattle.luck_pattern.specs.Elements.{Element, escape, range, plain, isReversed}
-use Rattle.lstr_item.specs.Single.{isElement, isAnyOf}
-
--- the elements without the reversed ranges
-unfoldable pub withoutReversed : List Element → List Element
-withoutReversed [] = []
-withoutReversed (element ∷ more) =
-    let rest = withoutReversed more in
-    if isReversed element then rest else element ∷ rest
+use Rattle.luck_pattern.specs.Items.{Set}
+use Rattle.luck_pattern.specs.Ranges.{withoutReversed}
+use Rattle.lstr_item.specs.Single.{isElement, isAnyOf, inSet}
 
 module _ (inClass : ℕ → ℕ → Bool) where
   pub fits-nothing : (element : Element) (c : ℕ) → isReversed element ≡ true → isElement inClass element c ≡ false
@@ -30,10 +26,15 @@ module _ (inClass : ℕ → ℕ → Bool) where
       go true f = second-false (leb left c) (leb c right) (lt-leb c right (omega (arith, ltb-true right left e, leb-true left c f)))
       go false f = first-false (leb left c) (leb c right) f
 
-  pub same-without : (elements : List Element) (c : ℕ) → isAnyOf inClass (withoutReversed elements) c ≡ isAnyOf inClass elements c
+  any-without : (elements : List Element) (c : ℕ) → isAnyOf inClass (withoutReversed elements) c ≡ isAnyOf inClass elements c
   unfolding withoutReversed isAnyOf
-  same-without [] c = refl
-  same-without (element ∷ more) c =
+  any-without [] c = refl
+  any-without (element ∷ more) c =
       by-test (λ (xs : List Element). isAnyOf inClass xs c ≡ isAnyOf inClass (element ∷ more) c) (isReversed element) _ _
-      (λ e. same-without more c ∙ sym (ap (λ b. b || isAnyOf inClass more c) (fits-nothing element c e)))
-      (λ e. ap (λ b. isElement inClass element c || b) (same-without more c))
+      (λ e. any-without more c ∙ sym (ap (λ b. b || isAnyOf inClass more c) (fits-nothing element c e)))
+      (λ e. ap (λ b. isElement inClass element c || b) (any-without more c))
+
+  pub same-without : (set : Set) (c : ℕ)
+      → inSet inClass (record { complement = set .complement; elements = withoutReversed (set .elements) }) c ≡ inSet inClass set c
+  unfolding inSet
+  same-without set c = ap (λ fits. if set .complement then not fits else fits) (any-without (set .elements) c)
