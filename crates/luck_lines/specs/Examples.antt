@@ -89,7 +89,8 @@ unfolding computed
 longest-line = (refl, refl)
 
 -- a reversed range, with a backslash in the body and without
-pub reversed-lines : (lineAnswer (ascii "P1   [z-a]\\n") ≡ refused 39 1) × (lineAnswer (ascii "P6   [a-z][z-a]") ≡ refused 39 6)
+pub reversed-lines : (lineAnswer (ascii "P1   [z-a]\\n") ≡ refused 39 1)
+    × (lineAnswer (ascii "P6   [a-z][z-a]") ≡ refused 39 6)
 unfolding computed
 reversed-lines = (refl, refl)
 

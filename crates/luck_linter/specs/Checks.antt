@@ -1,5 +1,5 @@
--- The checks of a body, as one data type, after documents 01 and 02: the kind letter that names each, its walk, its answer, and
--- the numbers of the table of refusals that it can answer.
+-- The checks of a body, as one data type, after documents 01 and 02: the kind letter that names each, its walk, its
+-- answer, and the numbers of the table of refusals that it can answer.
 -- Assumes nothing.
 use Prim.Native.Nat.{ℕ}
 use Prim.Native.Char.{code}

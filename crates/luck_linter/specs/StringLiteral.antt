@@ -1,6 +1,6 @@
 -- The check of a literal in a source (checkable_body and literal_error of luck's rule format_string), by one of the
--- kind letters of document 01, in the order of point 9 of document 03. F-10 of document 02 says where a pattern's ranges
--- are tested.
+-- kind letters of document 01, in the order of point 9 of document 03. F-10 of document 02 says where a pattern's
+-- ranges are tested.
 -- Assumes nothing.
 use Prim.Native.Nat.{ℕ, _+_, _-_}
 use Prim.Native.Char.{code}

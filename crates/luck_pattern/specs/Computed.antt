@@ -18,8 +18,8 @@ unfolding
     Pattern.isEmptySet Pattern.onward Pattern.afterClose
     Pattern.patternEnd Pattern.closedAs Pattern.reversedOf Pattern.setAs Pattern.setRead Pattern.escapeAs
     Pattern.escapeRead Pattern.headTurn Pattern.patternTurn Pattern.patternWalk Pattern.checkPatternAs
-    Pattern.checkPattern Ranges.escapeSet Ranges.headSet Ranges.itemSet Ranges.reversedBefore Ranges.reversedSet Ranges.itemReversed
-    Ranges.withoutReversed
+    Pattern.checkPattern Ranges.escapeSet Ranges.headSet Ranges.itemSet Ranges.reversedBefore Ranges.reversedSet
+    Ranges.itemReversed Ranges.withoutReversed
     Items.setOf Items.repeatOf Items.repeatWidth Items.repeated Items.readSingle Items.readSet Items.readFrontier
     Items.readEscape Items.readByte Items.readHead Items.readItem Items.thenItems Items.itemsFrom Items.items
 computed = tt

@@ -1,7 +1,8 @@
 -- Which patterns are accepted (validate_lua_pattern, scan_escape and scan_set of luck; document 01, "Pattern, then
 -- replacement"; F-10 of document 02), by what stands at each place (Reading.antt). luck passes over a whole UTF-8
--- character where this passes over one byte: the bytes after a character's first are 128 or more, so none of them begins
--- an item or ends a set, and the two read the same items. Only the test of ranges, which luck lacks, compares them.
+-- character where this passes over one byte: the bytes after a character's first are 128 or more, so none of them
+-- begins an item or ends a set, and the two read the same items. Only the test of ranges, which luck lacks, compares
+-- them.
 -- Assumes nothing.
 use Prim.Native.Nat.{ℕ, _+_, _-_}
 use Prim.Native.Char.{code}
@@ -64,8 +65,8 @@ closedAs e none = past (e + 1)
 closedAs e (some left) = fault (refused 39 left)
 
 module _ (ranges : Bool) (pat : List ℕ) where
-  -- the first reversed range of the set from its `[` at place p to its closing `]` at place e; none where ranges are not
-  -- tested
+  -- the first reversed range of the set from its `[` at place p to its closing `]` at place e; none where ranges are
+  -- not tested
   unfoldable pub reversedOf : ℕ → ℕ → Option ℕ
   reversedOf p e = if ranges then firstReversed pat e (firstMember pat p) else none
 

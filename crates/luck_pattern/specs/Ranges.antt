@@ -1,5 +1,5 @@
--- The words of what is promised of the test of ranges (F-10 of document 02): the first reversed range of an item, as the
--- check finds it; whether an item has one, as the matching reads it; the items that the check passes; and the first
+-- The words of what is promised of the test of ranges (F-10 of document 02): the first reversed range of an item, as
+-- the check finds it; whether an item has one, as the matching reads it; the items that the check passes; and the first
 -- reversed range of a pattern.
 -- Assumes nothing.
 use Prim.Native.Nat.{ℕ, _+_, _≤_, _<_}

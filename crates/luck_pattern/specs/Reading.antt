@@ -1,7 +1,7 @@
 -- What stands at a place of a pattern, as `match` (document 01 calls it do_match) and classEnd of lstrlib.c 5.4 read
 -- it: the byte there, the byte after a `%`, the members of a set and where it ends. The check (Pattern.antt) and the
--- items that a trial runs (Items.antt) both go by it. The members of a set are what classEnd steps over to find its end;
--- the elements that matchbracketclass tests for are in Elements.antt, and in `[!-%%g]` the two differ.
+-- items that a trial runs (Items.antt) both go by it. The members of a set are what classEnd steps over to find its
+-- end; the elements that matchbracketclass tests for are in Elements.antt, and in `[!-%%g]` the two differ.
 -- Assumes nothing.
 use Prim.Native.Nat.{ℕ, _+_, _-_}
 use Prim.Native.Char.{code}
