@@ -25,7 +25,7 @@ use Rattle.luck_answer.proofs.Texts.{text-fine, text-ill-formed}
 use Rattle.luck_replacement.proofs.Promises.{UnknownOrFromNine, walk-accepts}
 use Rattle.luck_linter.specs.Computed.{computed}
 use Rattle.luck_linter.specs.Checks.{Check, replacement, checkOf, walkOf, answer}
-use Rattle.luck_linter.specs.StringLiteral.{LiteralAnswer, hasNumericEscape, literalCheck, skippedAnswer, unspanned, withSpan, bodyOf, checkBody, checkShort, checkNamedLiteral, checkLiteral}
+use Rattle.luck_linter.specs.StringLiteral.{LiteralAnswer, hasNumericEscape, hasBackslash, literalCheck, skippedAnswer, unspanned, withSpan, bodyOf, checkBody, checkShort, checkNamedLiteral, checkLiteral}
 use Rattle.luck_linter.proofs.Checked.{whole-check}
 use Rattle.luck_linter.proofs.Reversed.{reversed-body}
 use Rattle.luck_linter.proofs.StringLiterals as literals
@@ -46,7 +46,7 @@ SkippedOrAccepted a = a .skipped ≡ false → a ≡ unspanned (accepted 0)
 abbrev pub ReversedSpan : ℕ → LiteralAnswer → List ℕ → Type 0
 ReversedSpan start a text =
     a .answer .number ≡ 39
-    → (among (code "\\") (bodyOf text) ≡ false) × (a .span ≡ spanOf (start + 1 + a .answer .offset) (start + 1 + a .answer .offset + 1))
+    → (hasBackslash (bodyOf text) ≡ false) × (a .span ≡ spanOf (start + 1 + a .answer .offset) (start + 1 + a .answer .offset + 1))
 
 -- ---- Their proofs
 

@@ -20,7 +20,7 @@ use Rattle.luck_replacement.specs.Replacement.{allowsDigit}
 use Rattle.luck_pattern.specs.Pattern.{patternWalk}
 use Rattle.luck_pattern.proofs.Ranges.{walk-or-39}
 use Rattle.luck_linter.specs.Checks.{Check, format, pattern, date, replacement, pack, withoutRanges, walkOf, numbers}
-use Rattle.luck_linter.specs.StringLiteral.{LiteralAnswer, literalCheck, spanAt, withSpan}
+use Rattle.luck_linter.specs.StringLiteral.{LiteralAnswer, hasBackslash, literalCheck, spanAt, withSpan}
 use Rattle.luck_linter.proofs.Counts.{isWalked}
 use Rattle.luck_linter.proofs.Checked.{walk-bounded}
 
@@ -82,17 +82,17 @@ untested (replacement captures) = refl
 untested (pack packsize) = refl
 
 -- ranges are tested only where no backslash stands
-no-backslash : (check : Check) (body : List ℕ) → testsRanges (literalCheck check body) ≡ true → among (code "\\") body ≡ false
+no-backslash : (check : Check) (body : List ℕ) → testsRanges (literalCheck check body) ≡ true → hasBackslash body ≡ false
 unfolding literalCheck
-no-backslash check body e = go (among (code "\\") body) refl e
+no-backslash check body e = go (hasBackslash body) refl e
   where
-    go : (b : Bool) → among (code "\\") body ≡ b → testsRanges (if b then withoutRanges check else check) ≡ true → among (code "\\") body ≡ false
+    go : (b : Bool) → hasBackslash body ≡ b → testsRanges (if b then withoutRanges check else check) ≡ true → hasBackslash body ≡ false
     go true q e = absurd (true≢false (sym e ∙ (unfold if_then_else_ in untested check)))
     go false q e = q
 
 pub reversed-body : (check : Check) (rules : Rules) (start : ℕ) (body : List ℕ)
     → walkOf (literalCheck check body) rules body .number ≡ 39
-    → (among (code "\\") body ≡ false)
+    → (hasBackslash body ≡ false)
     × (withSpan start body (walkOf (literalCheck check body) rules body) .span
     ≡ spanOf (start + 1 + walkOf (literalCheck check body) rules body .offset) (start + 1 + walkOf (literalCheck check body) rules body .offset + 1))
 unfolding withSpan spanAt

@@ -5,10 +5,10 @@ use Rattle.luck_linter.specs.declared.rules.format_string.Escapes.{Escap
 use Rattle.luck_linter.specs.declared.rules.format_string.Escapes.the-variants.{Nothing, Plain, Numeric}
 
 -- whether a body has a backslash, and whether one begins an escape that spells a byte by its number
-abbrev pub hasBackslash : Escapes → Bool
-hasBackslash Nothing = false
-hasBackslash Plain = true
-hasBackslash Numeric = true
+abbrev pub isSome : Escapes → Bool
+isSome Nothing = false
+isSome Plain = true
+isSome Numeric = true
 
 abbrev pub isNumeric : Escapes → Bool
 isNumeric Nothing = false

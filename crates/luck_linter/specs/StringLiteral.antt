@@ -32,9 +32,12 @@ hasNumericEscape (b ∷ c ∷ more) =
     let byte = hasNumericEscape (c ∷ more) in
     if eqb b (code "\\") then pair else byte
 
+abbrev pub hasBackslash : List ℕ → Bool
+hasBackslash body = among (code "\\") body
+
 -- an escape may stand for an end of a range, as in `[\n-a]`, so ranges are not tested in a body with a backslash
 unfoldable pub literalCheck : Check → List ℕ → Check
-literalCheck check body = if among (code "\\") body then withoutRanges check else check
+literalCheck check body = if hasBackslash body then withoutRanges check else check
 
 -- skipped; or an answer, with a span where it is a refusal of the body
 pub record LiteralAnswer : Type 0 where

@@ -2,8 +2,6 @@
 ghost use mathlib.Core.Path.{_≡_};
 ghost use mathlib.Core.Bool.{true};
 ghost use Prim.Native.Nat.{_+_, min};
-ghost use Prim.Native.Char.{code};
-ghost use Rattle.luck_text.specs.Bytes.{among};
 ghost use Rattle.luck_token.specs.Span.{u32-max};
 ghost use Rattle.luck_answer.specs.Answer.{checkAnswer};
 ghost use Rattle.luck_replacement.specs.Replacement.{countOf};
@@ -12,6 +10,7 @@ ghost use Rattle.luck_linter.specs.Checks.{walkOf, checkMeant, checkName
 ghost use Rattle.luck_linter.specs.StringLiteral.{
   isNumericEscape,
   hasNumericEscape,
+  hasBackslash,
   literalAnswer,
   skippedAnswer,
   unspanned,
@@ -23,7 +22,7 @@ ghost use Rattle.luck_linter.specs.StringLiteral.{
   checkNamedLiteral,
   checkLiteral,
 };
-ghost use Rattle.luck_linter.specs.Inner.{hasBackslash, isNumeric};
+ghost use Rattle.luck_linter.specs.Inner.{isSome, isNumeric};
 use crate::checks;
 use crate::checks::Check;
 use crate::checks::Named;
@@ -127,7 +126,7 @@ pub enum Escapes {
 
 // Escapes are rare: what stands between them is passed over by blocks.
 fn escapes_in(body: &[u8]) -> Escapes
-    ensures { λ r. ⌜ (isNumeric r ≡ hasNumericEscape (now (body .entry))) × (hasBackslash r ≡ among (code "\\") (now (body .entry))) ⌝ }
+    ensures { λ r. ⌜ (isNumeric r ≡ hasNumericEscape (now (body .entry))) × (isSome r ≡ hasBackslash (now (body .entry))) ⌝ }
 {
     let mut backslash = false;
     let mut at = blocks::blocks_end(body, 0, b'\\');
