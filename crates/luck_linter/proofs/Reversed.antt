@@ -2,7 +2,6 @@
 -- byte wide, as it stands before a hyphen.
 -- Assumes nothing.
 use Prim.Native.Nat.{ℕ, _+_}
-use Prim.Native.Char.{code}
 use native.Mathlib.Omega.{arith}
 use mathlib.Core.Path.{_≡_, refl, sym, ap, subst, _∙_}
 use mathlib.Core.Logic.{⊎-elim}
@@ -17,7 +16,6 @@ use Rattle.luck_token.specs.Span.{spanOf}
 use Rattle.luck_token.specs.declared.version.Rules.{Rules}
 use Rattle.luck_answer.specs.Answer.{Answer}
 use Rattle.luck_replacement.specs.Replacement.{allowsDigit}
-use Rattle.luck_pattern.specs.Pattern.{patternWalk}
 use Rattle.luck_pattern.proofs.Ranges.{walk-or-39}
 use Rattle.luck_linter.specs.Checks.{Check, format, pattern, date, replacement, pack, withoutRanges, walkOf, numbers}
 use Rattle.luck_linter.specs.StringLiteral.{LiteralAnswer, hasBackslash, literalCheck, spanAt, withSpan}

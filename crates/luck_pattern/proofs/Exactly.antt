@@ -7,7 +7,7 @@ use native.Mathlib.Omega.{arith}
 use mathlib.Core.Path.{_≡_, refl, sym, ap, subst, _∙_}
 use mathlib.Core.Logic.{_⊎_, inl, inr, ⊎-elim, _↔_}
 use mathlib.Core.Bool.{Bool, true, false}
-use mathlib.Core.List.{List, [], _∷_, _++_}
+use mathlib.Core.List.{List, []}
 use mathlib.Core.Option.{Option, none, some}
 use lib.ListN.{length}
 use lib.Dec.{eqb, ltb}
@@ -27,7 +27,7 @@ use Rattle.luck_pattern.specs.Reading.{Head, at-open, at-close, at-perce
 use Rattle.luck_pattern.specs.Pattern.{isEmptySet, Scanned, past, fault, onward, afterClose, patternEnd, closedAs, reversedOf, setAs, setRead, escapeAs, escapeRead, headTurn, patternTurn, patternWalk, checkPatternAs}
 use Rattle.luck_pattern.specs.Ranges.{itemReversed, Passed, at-start, one-more, FirstReversedSet, NoneReversed}
 use Rattle.luck_pattern.proofs.Places.{ClosesFrom, first-behind, set-closes}
-use Rattle.luck_pattern.proofs.Ranges.{tested, turn-tested, Reversed, walk-or-39, same-or-39}
+use Rattle.luck_pattern.proofs.Ranges.{tested, turn-tested, walk-or-39, same-or-39}
 
 -- ---- A turn without the test: an item has a byte at least and lies in the text, and no fault is 39
 

@@ -2,16 +2,15 @@
 -- item's first reversed range; so the answers are the same, or 39 at a place inside the text, and what is accepted with
 -- the test is accepted without it, with the same count.
 -- Assumes nothing.
-use Prim.Native.Nat.{ℕ, zero, suc, _+_, _-_, _≤_, _<_}
-use Prim.Native.Char.{code}
+use Prim.Native.Nat.{ℕ, zero, suc, _+_, _-_}
 use native.Mathlib.Omega.{arith}
-use mathlib.Core.Path.{_≡_, refl, sym, ap, subst, _∙_, fun-ext}
+use mathlib.Core.Path.{_≡_, refl, sym, ap, _∙_}
 use mathlib.Core.Logic.{_⊎_, inl, inr, ⊎-elim}
 use mathlib.Core.Bool.{Bool, true, false}
 use mathlib.Core.List.{List, []}
 use mathlib.Core.Option.{Option, none, some}
 use lib.ListN.{length}
-use lib.Dec.{eqb, ltb}
+use lib.Dec.{eqb}
 use Rattle.luck_text.specs.Bytes.{if_then_else_, byteAt}
 use Rattle.luck_text.specs.Walk.{Turn, stop, goes, walk, walkFrom}
 use Rattle.luck_token.specs.Version.{isVersion}
@@ -19,11 +18,11 @@ use Rattle.luck_utf8.specs.Utf8.{illFormed}
 use Rattle.luck_token.specs.Text.{afterVersion, afterUtf8, afterText}
 use Rattle.luck_answer.specs.Answer.{Answer, accepted, refused, checkText}
 use Rattle.luck_pattern.specs.Reading.{Head, at-open, at-close, at-percent, at-set, at-other, headOf, Escape, esc-digit, esc-balance, esc-frontier, esc-other, esc-end, escapeAt, SetEnd, closes-at, cut-at, unclosed, firstMember, setEnd}
-use Rattle.luck_pattern.specs.Pattern.{Scanned, past, fault, onward, patternEnd, closedAs, reversedOf, setAs, setRead, escapeAs, escapeRead, headTurn, patternTurn, patternWalk, checkPatternAs}
+use Rattle.luck_pattern.specs.Pattern.{fault, onward, patternEnd, closedAs, reversedOf, setAs, setRead, escapeAs, escapeRead, headTurn, patternTurn, patternWalk, checkPatternAs}
 use Rattle.luck_pattern.specs.Ranges.{escapeSet, headSet, itemSet, reversedBefore, reversedSet, itemReversed, RangeAt}
 use Rattle.luck_pattern.proofs.Places.{ClosesFrom, set-closes}
 use Rattle.luck_pattern.specs.Elements.{firstReversed}
-use Rattle.luck_pattern.proofs.Elements.{ReversedAt, some-reversed}
+use Rattle.luck_pattern.proofs.Elements.{some-reversed}
 
 -- ---- A turn
 
