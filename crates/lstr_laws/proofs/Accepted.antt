@@ -1,4 +1,5 @@
--- A pattern that the check accepts with its count of captures is read into items that are well formed, and so is what follows a leading `^`.
+-- A pattern that the check accepts with its count of captures is read into items that are well formed, and so is what follows a leading `^`. For that the
+-- check is followed from each item to the next, also with its test of ranges, where the item has no reversed range.
 -- Assumes nothing.
 use Prim.Native.Nat.{ℕ, zero, suc, _+_, _-_, _≤_, _<_}
 use native.Mathlib.Omega.{arith}
@@ -32,7 +33,10 @@ use Rattle.luck_pattern.specs.Items.{
   plus,
   minus,
   Item,
+  back-reference,
   Read,
+  last,
+  item,
   repeatOf,
   repeatWidth,
   repeated,
@@ -48,7 +52,9 @@ use Rattle.luck_pattern.specs.Items.{
   items,
 }
 use Rattle.lstr_laws.proofs.Sound.{AllClosed, WellFormed}
+use Rattle.luck_pattern.specs.Ranges.{headSet, itemSet, reversedSet, itemReversed}
 use Rattle.luck_pattern.proofs.Ranges.{accepted-without}
+use Rattle.luck_pattern.proofs.Exactly.{goes-on}
 use Rattle.luck_pattern.proofs.Places.{ClosesFrom, first-behind, set-closes}
 use Rattle.lstr_item.proofs.Items.{IsRepeat, is-repeat}
 
@@ -68,10 +74,24 @@ if-passed false x number offset c h e = refused-accepted (refused number offset)
 
 -- ---- The check from a place on
 
+-- what the check with its test of ranges answers from place p, after captures of which these are closed
+abbrev pub Tested : List ℕ → ℕ → List Bool → Answer
+Tested pat p flags = walkFrom (patternTurn true pat) (patternEnd pat) (length pat) p flags
+
 module _ (pat : List ℕ) (c : ℕ) where
-  -- the check accepts from place p, after captures of which these are closed, and counts c in all
-  abbrev Accepts : ℕ → List Bool → Type 0
+  -- the check without that test accepts from there, and counts c in all
+  abbrev pub Accepts : ℕ → List Bool → Type 0
   Accepts p flags = walkFrom (patternTurn false pat) (patternEnd pat) (length pat) p flags ≡ accepted c
+
+  -- it comes from place p to q, and accepts from there; with the test it comes there too, if the item at p has no reversed range
+  abbrev pub Comes : ℕ → List Bool → ℕ → List Bool → Type 0
+  Comes p flags q after = Accepts q after × (itemReversed pat p ≡ none → Tested pat p flags ≡ Tested pat q after)
+
+  -- by way of a place whose item has no set
+  by-way : (p q r : ℕ) (flags between after : List Bool) (h : Head) → headOf (byteAt pat q) ≡ h → headSet pat q h ≡ none → Comes p flags q between → Comes q between r after
+      → Comes p flags r after
+  unfolding itemReversed reversedSet itemSet
+  by-way p q r flags between after h e s x y = (y .0, λ n. x .1 n ∙ y .1 (ap (reversedSet pat) (ap (headSet pat q) e ∙ s)))
 
   at-the-end : (p : ℕ) (flags : List Bool) → length pat ≤ p → Accepts p flags → AllClosed c flags
   unfolding patternEnd
@@ -80,22 +100,25 @@ module _ (pat : List ℕ) (c : ℕ) where
       record { count = same-count (length flags) c (y .1); closed = y .0 }
 
   -- the turn at a place, whose outcome is known
-  abbrev After : ℕ → Turn (List Bool) Answer → Type 0
-  After p (stop a) = a ≡ accepted c
-  After p (goes width flags) = 0 < width → p + width ≤ length pat → Accepts (p + width) flags
+  abbrev After : ℕ → List Bool → Turn (List Bool) Answer → Type 0
+  After p flags (stop a) = a ≡ accepted c
+  After p flags (goes width after) = 0 < width → p + width ≤ length pat → Comes p flags (p + width) after
 
-  one-turn : (p : ℕ) (flags : List Bool) → p < length pat → Accepts p flags → (t : Turn (List Bool) Answer) → patternTurn false pat p flags ≡ t → After p t
+  one-turn : (p : ℕ) (flags : List Bool) → p < length pat → Accepts p flags → (t : Turn (List Bool) Answer) → patternTurn false pat p flags ≡ t → After p flags t
   one-turn p flags h a (stop x) e = sym (walk-stop (patternTurn false pat) (patternEnd pat) (length pat) p flags x h e) ∙ a
-  one-turn p flags h a (goes width after) e = λ g i. sym (walk-goes (patternTurn false pat) (patternEnd pat) (length pat) p flags width after g i e) ∙ a
+  one-turn p flags h a (goes width after) e = λ g i. (
+    sym (walk-goes (patternTurn false pat) (patternEnd pat) (length pat) p flags width after g i e) ∙ a,
+    λ n. walk-goes (patternTurn true pat) (patternEnd pat) (length pat) p flags width after g i (goes-on pat p flags width after .1 (n, e)),
+  )
 
-  by-head : (p : ℕ) (flags : List Bool) → p < length pat → Accepts p flags → (h : Head) → headOf (byteAt pat p) ≡ h → After p (headTurn false pat p flags h)
+  by-head : (p : ℕ) (flags : List Bool) → p < length pat → Accepts p flags → (h : Head) → headOf (byteAt pat p) ≡ h → After p flags (headTurn false pat p flags h)
   unfolding patternTurn
-  by-head p flags i a h e = subst (λ x. After p (headTurn false pat p flags x)) e (one-turn p flags i a (headTurn false pat p flags (headOf (byteAt pat p))) refl)
+  by-head p flags i a h e = subst (λ x. After p flags (headTurn false pat p flags x)) e (one-turn p flags i a (headTurn false pat p flags (headOf (byteAt pat p))) refl)
 
-  after-open : (p : ℕ) (flags : List Bool) → p < length pat → After p (headTurn false pat p flags at-open) → (length flags < 32) × Accepts (p + 1) (flags ++ (false ∷ []))
+  after-open : (p : ℕ) (flags : List Bool) → p < length pat → After p flags (headTurn false pat p flags at-open) → (length flags < 32) × Comes p flags (p + 1) (flags ++ (false ∷ []))
   unfolding headTurn
   after-open p flags h =
-      by-test (λ (t : Turn (List Bool) Answer). After p t → (length flags < 32) × Accepts (p + 1) (flags ++ (false ∷ []))) (ltb (length flags) 32) _ _
+      by-test (λ (t : Turn (List Bool) Answer). After p flags t → (length flags < 32) × Comes p flags (p + 1) (flags ++ (false ∷ []))) (ltb (length flags) 32) _ _
       (λ e a. (ltb-true (length flags) 32 e, a (omega arith) (omega arith)))
       (λ e a. refused-accepted (refused 12 p) c a (omega arith))
 
@@ -103,46 +126,46 @@ module _ (pat : List ℕ) (c : ℕ) where
   record Closed (p : ℕ) (flags : List Bool) : Type 0 where
     pub after : List Bool
     pub closes : closeLatest flags ≡ some after
-    pub on : Accepts (p + 1) after
+    pub on : Comes p flags (p + 1) after
 
-  after-close : (p : ℕ) (flags : List Bool) → p < length pat → After p (headTurn false pat p flags at-close) → Closed p flags
+  after-close : (p : ℕ) (flags : List Bool) → p < length pat → After p flags (headTurn false pat p flags at-close) → Closed p flags
   unfolding headTurn afterClose
   after-close p flags h a = go (closeLatest flags) refl a
     where
-      go : (o : Option (List Bool)) → closeLatest flags ≡ o → After p (afterClose p o) → Closed p flags
+      go : (o : Option (List Bool)) → closeLatest flags ≡ o → After p flags (afterClose p o) → Closed p flags
       go none e a = refused-accepted (refused 11 p) c a (omega arith)
       go (some after) e a = record { after = after; closes = e; on = a (omega arith) (omega arith) }
 
   -- a byte that stands for itself, or a repeat
-  after-byte : (p : ℕ) (flags : List Bool) → p < length pat → headOf (byteAt pat p) ≡ at-other → Accepts p flags → Accepts (p + 1) flags
+  after-byte : (p : ℕ) (flags : List Bool) → p < length pat → headOf (byteAt pat p) ≡ at-other → Accepts p flags → Comes p flags (p + 1) flags
   unfolding headTurn
   after-byte p flags h e a = by-head p flags h a at-other e (omega arith) (omega arith)
 
   -- what was read is passed over
-  after-read : (p : ℕ) (flags : List Bool) (q : ℕ) → p < q → q ≤ length pat → After p (onward p flags (past q)) → Accepts q flags
+  after-read : (p : ℕ) (flags : List Bool) (q : ℕ) → p < q → q ≤ length pat → After p flags (onward p flags (past q)) → Comes p flags q flags
   unfolding onward
-  after-read p flags q g i a = subst (λ (x : ℕ). Accepts x flags) (omega arith) (a (omega arith) (omega arith))
+  after-read p flags q g i a = subst (λ (x : ℕ). Comes p flags x flags) (omega arith) (a (omega arith) (omega arith))
 
-  after-fault : {X : Type 0} (p : ℕ) (flags : List Bool) (answer : Answer) → 0 < answer .number → After p (onward p flags (fault answer)) → X
+  after-fault : {X : Type 0} (p : ℕ) (flags : List Bool) (answer : Answer) → 0 < answer .number → After p flags (onward p flags (fault answer)) → X
   unfolding onward
   after-fault p flags answer h a = refused-accepted answer c a h
 
-  -- a set that is accepted ends at its closing `]`
-  record Set-accepted (p : ℕ) (flags : List Bool) : Type 0 where
+  -- a set that is accepted, in the item at start, ends at its closing `]`
+  record Set-accepted (start p : ℕ) (flags : List Bool) : Type 0 where
     pub at : ℕ
     pub closes : setEnd pat p ≡ closes-at at
     pub behind : p < at
-    pub on : Accepts (at + 1) flags
+    pub on : Comes start flags (at + 1) flags
 
   set-fault : (p : ℕ) → 0 < (if isEmptySet pat p then 9 else 8)
   set-fault p = by-test (λ (n : ℕ). 0 < n) (isEmptySet pat p) _ _ (λ t. omega arith) (λ t. omega arith)
 
   -- the set's `[` stands at p, and the item that has it at start, before or at p
-  after-set : (start p : ℕ) (flags : List Bool) → start ≤ p → After start (onward start flags (setRead false pat p)) → Set-accepted p flags
+  after-set : (start p : ℕ) (flags : List Bool) → start ≤ p → After start flags (onward start flags (setRead false pat p)) → Set-accepted start p flags
   unfolding setRead setAs closedAs reversedOf if_then_else_
   after-set start p flags h a = go (setEnd pat p) refl (set-closes pat p) a
     where
-      go : (e : SetEnd) → setEnd pat p ≡ e → ClosesFrom pat (firstMember pat p) (setEnd pat p) → After start (onward start flags (setAs false pat p e)) → Set-accepted p flags
+      go : (e : SetEnd) → setEnd pat p ≡ e → ClosesFrom pat (firstMember pat p) (setEnd pat p) → After start flags (onward start flags (setAs false pat p e)) → Set-accepted start p flags
       go (closes-at e) q i a =
           let j : ClosesFrom pat (firstMember pat p) (closes-at e) = subst (ClosesFrom pat (firstMember pat p)) q i in
           let k = first-behind pat p in
@@ -177,112 +200,132 @@ unfolding escapeAt
 escape-there pat q e f t =
     by-test (λ (x : Escape). There x → q < length pat) (ltb q (length pat)) _ _ (λ h y. ltb-true q (length pat) h) (λ h y. absurd y) (subst There (sym f) t)
 
-module _ (pat : List ℕ) (c m : ℕ)
-    (later : (q : ℕ) (flags : List Bool) → length pat ≤ q + m → Accepts pat c q flags → WellFormed (itemsFrom pat m q) flags c) where
-  abbrev Fine : Read → List Bool → Type 0
-  Fine r flags = WellFormed (thenItems (itemsFrom pat m) r) flags c
+module _ (pat : List ℕ) (c p : ℕ) (flags : List Bool) where
+  -- the check comes from the item i at place p to the next one at q; where the items from there are well formed after the captures then, they are so with i
+  pub record Next (i : Item) (q : ℕ) : Type 0 where
+    pub behind : p < q
+    pub after : List Bool
+    pub on : Comes pat c p flags q after
+    pub formed : (is : List Item) → WellFormed is after c → WellFormed (i ∷ is) flags c
+
+  -- so it does from what was read at p, a last item ending the pattern
+  abbrev pub Leads : Read → Type 0
+  Leads (last i) = Next i (length pat)
+  Leads (item i q) = Next i q
+
+  -- an item that leaves the captures as they are
+  next : (i : Item) (q : ℕ) → p < q → ((is : List Item) → WellFormed is flags c → WellFormed (i ∷ is) flags c) → Comes pat c p flags q flags → Next i q
+  next i q g f a = record { behind = g; after = flags; on = a; formed = f }
 
   -- behind a single, its repeat is a byte that the check passes over
-  passed : (q : ℕ) (flags : List Bool) → length pat ≤ q + m → Accepts pat c q flags → (b : ℕ) → byteAt pat q ≡ b → 0 < b → headOf b ≡ at-other
-      → WellFormed (itemsFrom pat m (q + 1)) flags c
-  passed q flags l a b e g h = later (q + 1) flags (omega arith) (after-byte pat c q flags (present pat q (omega arith)) (ap headOf e ∙ h) a)
+  passed : (q : ℕ) → Comes pat c p flags q flags → (b : ℕ) → byteAt pat q ≡ b → 0 < b → headOf b ≡ at-other → Comes pat c p flags (q + 1) flags
+  unfolding headSet
+  passed q a b e g h =
+      let o = ap headOf e ∙ h in
+      by-way pat c p q (q + 1) flags flags flags at-other o refl a (after-byte pat c q flags (present pat q (omega arith)) o (a .0))
 
-  repeat-fine : (x : Single) (q : ℕ) (flags : List Bool) → length pat ≤ q + m → Accepts pat c q flags → (r : Repeat) → IsRepeat (byteAt pat q) r → Fine (repeated x r q) flags
-  unfolding thenItems repeated repeatWidth headOf if_then_else_
-  repeat-fine x q flags l a once e = later (q + 0) flags (omega arith) (subst (λ (y : ℕ). Accepts pat c y flags) (omega arith) a)
-  repeat-fine x q flags l a optional e = passed q flags l a 63 e (omega arith) refl
-  repeat-fine x q flags l a star e = passed q flags l a 42 e (omega arith) refl
-  repeat-fine x q flags l a plus e = passed q flags l a 43 e (omega arith) refl
-  repeat-fine x q flags l a minus e = passed q flags l a 45 e (omega arith) refl
+  repeat-leads : (x : Single) (q : ℕ) → p < q → Comes pat c p flags q flags → (r : Repeat) → IsRepeat (byteAt pat q) r → Leads (repeated x r q)
+  unfolding repeated repeatWidth headOf if_then_else_
+  repeat-leads x q g a once e = next _ (q + 0) (omega arith) (λ is w. w) (subst (λ (y : ℕ). Comes pat c p flags y flags) (omega arith) a)
+  repeat-leads x q g a optional e = next _ (q + 1) (omega arith) (λ is w. w) (passed q a 63 e (omega arith) refl)
+  repeat-leads x q g a star e = next _ (q + 1) (omega arith) (λ is w. w) (passed q a 42 e (omega arith) refl)
+  repeat-leads x q g a plus e = next _ (q + 1) (omega arith) (λ is w. w) (passed q a 43 e (omega arith) refl)
+  repeat-leads x q g a minus e = next _ (q + 1) (omega arith) (λ is w. w) (passed q a 45 e (omega arith) refl)
 
-  single-fine : (x : Single) (q : ℕ) (flags : List Bool) → length pat ≤ q + m → Accepts pat c q flags → Fine (readSingle pat x q) flags
+  single-leads : (x : Single) (q : ℕ) → p < q → Comes pat c p flags q flags → Leads (readSingle pat x q)
   unfolding readSingle
-  single-fine x q flags l a = repeat-fine x q flags l a (repeatOf (byteAt pat q)) (is-repeat (byteAt pat q))
+  single-leads x q g a = repeat-leads x q g a (repeatOf (byteAt pat q)) (is-repeat (byteAt pat q))
 
-  module _ (p : ℕ) (flags : List Bool) (h : p < length pat) (l : length pat ≤ p + suc m) where
-    open-fine : (length flags < 32) × Accepts pat c (p + 1) (flags ++ (false ∷ [])) → Fine (readHead pat p at-open) flags
-    unfolding readHead thenItems
-    open-fine y =
-        by-test (λ (r : Read). Fine r flags) (eqb (byteAt pat (p + 1)) 41) _ _
-        (λ e.
-        let b = eqb-true (byteAt pat (p + 1)) 41 e in
-        let i = present pat (p + 1) (omega arith) in
-        let shut = after-close pat c (p + 1) (flags ++ (false ∷ [])) i (by-head pat c (p + 1) (flags ++ (false ∷ [])) i (y .1) at-close (closing-head b)) in
-        let same : some (shut .after) ≡ some (flags ++ (true ∷ [])) = sym (shut .closes) ∙ close-opened flags in
-        let after : shut .after ≡ flags ++ (true ∷ []) = cc in
-        let on : Accepts pat c (p + 2) (flags ++ (true ∷ [])) =
-        subst (λ (q : ℕ). Accepts pat c q (flags ++ (true ∷ []))) (omega arith) (subst (Accepts pat c (p + 1 + 1)) after (shut .on)) in
-        (y .0, later (p + 2) (flags ++ (true ∷ [])) (omega arith) on))
-        (λ e. (y .0, later (p + 1) (flags ++ (false ∷ [])) (omega arith) (y .1)))
-      where
-        closing-head : byteAt pat (p + 1) ≡ 41 → headOf (byteAt pat (p + 1)) ≡ at-close
-        closing-head e = ap headOf e ∙ (unfold headOf if_then_else_ in refl)
+  open-leads : (length flags < 32) × Comes pat c p flags (p + 1) (flags ++ (false ∷ [])) → Leads (readHead pat p at-open)
+  unfolding readHead headSet
+  open-leads y =
+      by-test Leads (eqb (byteAt pat (p + 1)) 41) _ _
+      (λ e.
+      let b = eqb-true (byteAt pat (p + 1)) 41 e in
+      let i = present pat (p + 1) (omega arith) in
+      let shut = after-close pat c (p + 1) (flags ++ (false ∷ [])) i (by-head pat c (p + 1) (flags ++ (false ∷ [])) i (y .1 .0) at-close (closing-head b)) in
+      let same : some (shut .after) ≡ some (flags ++ (true ∷ [])) = sym (shut .closes) ∙ close-opened flags in
+      let after : shut .after ≡ flags ++ (true ∷ []) = cc in
+      let both = by-way pat c p (p + 1) (p + 1 + 1) flags (flags ++ (false ∷ [])) (shut .after) at-close (closing-head b) refl (y .1) (shut .on) in
+      let on : Comes pat c p flags (p + 2) (shut .after) = subst (λ (q : ℕ). Comes pat c p flags q (shut .after)) (omega arith) both in
+      record { behind = omega arith; after = flags ++ (true ∷ []); on = subst (Comes pat c p flags (p + 2)) after on; formed = λ is w. (y .0, w) })
+      (λ e. record { behind = omega arith; after = flags ++ (false ∷ []); on = y .1; formed = λ is w. (y .0, w) })
+    where
+      closing-head : byteAt pat (p + 1) ≡ 41 → headOf (byteAt pat (p + 1)) ≡ at-close
+      closing-head e = ap headOf e ∙ (unfold headOf if_then_else_ in refl)
 
-    close-fine : Closed pat c p flags → Fine (readHead pat p at-close) flags
-    unfolding readHead thenItems
-    close-fine y = (y .after, y .closes, later (p + 1) (y .after) (omega arith) (y .on))
+  close-leads : Closed pat c p flags → Leads (readHead pat p at-close)
+  unfolding readHead
+  close-leads y = record { behind = omega arith; after = y .after; on = y .on; formed = λ is w. (y .after, y .closes, w) }
 
-    set-fine : Set-accepted pat c p flags → Fine (readHead pat p at-set) flags
-    unfolding readHead readSet
-    set-fine y = rw (y .closes) (single-fine _ (y .at + 1) flags (omega (arith, y .behind)) (y .on))
+  set-leads : Set-accepted pat c p p flags → Leads (readHead pat p at-set)
+  unfolding readHead readSet
+  set-leads y = rw (y .closes) (single-leads _ (y .at + 1) (omega (arith, y .behind)) (y .on))
 
-    frontier-fine : (q : ℕ) → p < q → Set-accepted pat c q flags → Fine (readFrontier pat q (setEnd pat q)) flags
-    unfolding readFrontier thenItems
-    frontier-fine q g y = rw (y .closes) (later (y .at + 1) flags (omega (arith, y .behind)) (y .on))
+  frontier-leads : (q : ℕ) → p < q → Set-accepted pat c p q flags → Leads (readFrontier pat q (setEnd pat q))
+  unfolding readFrontier
+  frontier-leads q g y = rw (y .closes) (next _ (y .at + 1) (omega (arith, y .behind)) (λ is w. w) (y .on))
 
-    byte-fine : Accepts pat c (p + 1) flags → Fine (readHead pat p at-other) flags
-    unfolding readHead readByte thenItems
-    byte-fine a =
-        by-test (λ (r : Read). Fine r flags) _ _ _
-        (λ e.
-        let f = eqb-true (p + 1) (length pat) (and-right (eqb (byteAt pat p) 36) (eqb (p + 1) (length pat)) e) in
-        at-the-end pat c (p + 1) flags (omega arith) a)
-        (λ e.
-        by-test (λ (r : Read). Fine r flags) _ _ _ (λ t. single-fine any (p + 1) flags (omega arith) a) (λ t. single-fine (byte (byteAt pat p)) (p + 1) flags (omega arith) a))
+  byte-leads : Comes pat c p flags (p + 1) flags → Leads (readHead pat p at-other)
+  unfolding readHead readByte
+  byte-leads a =
+      by-test Leads _ _ _
+      (λ e.
+      let f = eqb-true (p + 1) (length pat) (and-right (eqb (byteAt pat p) 36) (eqb (p + 1) (length pat)) e) in
+      next _ (length pat) (omega arith) (λ is w. at-the-end pat c (p + 1) flags (omega arith) (a .0)) (subst (λ (q : ℕ). Comes pat c p flags q flags) f a))
+      (λ e. by-test Leads _ _ _ (λ t. single-leads any (p + 1) (omega arith) a) (λ t. single-leads (byte (byteAt pat p)) (p + 1) (omega arith) a))
 
-    escape-fine : (e : Escape) → escapeAt pat (p + 1) ≡ e → After pat c p (onward p flags (escapeAs false pat p flags e)) → Fine (readEscape pat p e) flags
-    unfolding escapeAs readEscape thenItems if_then_else_
-    escape-fine esc-end f a = after-fault pat c p flags (refused 1 p) (omega arith) a
-    escape-fine (esc-digit d) f a = go (isClosed flags d) refl a
-      where
-        go : (b : Bool) → isClosed flags d ≡ b → After pat c p (onward p flags (if b then past (p + 2) else fault (refused 13 (p + 1))))
-            → (isClosed flags d ≡ true) × WellFormed (itemsFrom pat m (p + 2)) flags c
-        go b e = by-test (λ (r : Found). After pat c p (onward p flags r) → (isClosed flags d ≡ true) × WellFormed (itemsFrom pat m (p + 2)) flags c) b _ _
-            (λ t a. (e ∙ t, later (p + 2) flags (omega arith) (after-read pat c p flags (p + 2) (omega arith) (omega (arith, escape-there pat (p + 1) (esc-digit d) f tt)) a)))
-            (λ t a. after-fault pat c p flags (refused 13 (p + 1)) (omega arith) a)
-    escape-fine esc-balance f a =
-        by-test (λ (r : Found). After pat c p (onward p flags r) → Fine (readEscape pat p esc-balance) flags) (ltb (p + 3) (length pat)) _ _
-        (λ t a. rw t (later (p + 4) flags (omega arith) (after-read pat c p flags (p + 4) (omega arith) (omega (arith, ltb-true (p + 3) (length pat) t)) a)))
-        (λ t a. after-fault pat c p flags (refused 1 p) (omega arith) a) a
-    escape-fine esc-frontier f a =
-        by-test (λ (r : Found). After pat c p (onward p flags r) → Fine (readEscape pat p esc-frontier) flags) (eqb (byteAt pat (p + 2)) 91) _ _
-        (λ t a. rw t (frontier-fine (p + 2) (omega arith) (after-set pat c p (p + 2) flags (omega arith) a)))
-        (λ t a. after-fault pat c p flags (refusedWith 10 p 102) (omega arith) a) a
-    escape-fine esc-other f a =
-        single-fine (class (byteAt pat (p + 1))) (p + 2) flags (omega arith)
-        (after-read pat c p flags (p + 2) (omega arith) (omega (arith, escape-there pat (p + 1) esc-other f tt)) a)
+  escape-leads : (e : Escape) → escapeAt pat (p + 1) ≡ e → After pat c p flags (onward p flags (escapeAs false pat p flags e)) → Leads (readEscape pat p e)
+  unfolding escapeAs readEscape if_then_else_
+  escape-leads esc-end f a = after-fault pat c p flags (refused 1 p) (omega arith) a
+  escape-leads (esc-digit d) f a = go (isClosed flags d) refl a
+    where
+      go : (b : Bool) → isClosed flags d ≡ b → After pat c p flags (onward p flags (if b then past (p + 2) else fault (refused 13 (p + 1)))) → Next (back-reference d) (p + 2)
+      go b e = by-test (λ (r : Found). After pat c p flags (onward p flags r) → Next (back-reference d) (p + 2)) b _ _
+          (λ t a. next _ (p + 2) (omega arith) (λ is w. (e ∙ t, w)) (after-read pat c p flags (p + 2) (omega arith) (omega (arith, escape-there pat (p + 1) (esc-digit d) f tt)) a))
+          (λ t a. after-fault pat c p flags (refused 13 (p + 1)) (omega arith) a)
+  escape-leads esc-balance f a =
+      by-test (λ (r : Found). After pat c p flags (onward p flags r) → Leads (readEscape pat p esc-balance)) (ltb (p + 3) (length pat)) _ _
+      (λ t a. rw t (next _ (p + 4) (omega arith) (λ is w. w) (after-read pat c p flags (p + 4) (omega arith) (omega (arith, ltb-true (p + 3) (length pat) t)) a)))
+      (λ t a. after-fault pat c p flags (refused 1 p) (omega arith) a) a
+  escape-leads esc-frontier f a =
+      by-test (λ (r : Found). After pat c p flags (onward p flags r) → Leads (readEscape pat p esc-frontier)) (eqb (byteAt pat (p + 2)) 91) _ _
+      (λ t a. rw t (frontier-leads (p + 2) (omega arith) (after-set pat c p (p + 2) flags (omega arith) a)))
+      (λ t a. after-fault pat c p flags (refusedWith 10 p 102) (omega arith) a) a
+  escape-leads esc-other f a =
+      single-leads (class (byteAt pat (p + 1))) (p + 2) (omega arith)
+      (after-read pat c p flags (p + 2) (omega arith) (omega (arith, escape-there pat (p + 1) esc-other f tt)) a)
 
-    head-fine : (x : Head) → After pat c p (headTurn false pat p flags x) → (headOf (byteAt pat p) ≡ x) → Fine (readHead pat p x) flags
+  module _ (h : p < length pat) where
+    head-leads : (x : Head) → After pat c p flags (headTurn false pat p flags x) → Leads (readHead pat p x)
     unfolding headTurn escapeRead
-    head-fine at-open a e = open-fine (after-open pat c p flags h a)
-    head-fine at-close a e = close-fine (after-close pat c p flags h a)
-    head-fine at-percent a e = percent-fine a
+    head-leads at-open a = open-leads (after-open pat c p flags h a)
+    head-leads at-close a = close-leads (after-close pat c p flags h a)
+    head-leads at-percent a = percent-leads a
       where
-        percent-fine : After pat c p (onward p flags (escapeRead false pat p flags)) → Fine (readHead pat p at-percent) flags
-        percent-fine a = unfold readHead in escape-fine (escapeAt pat (p + 1)) refl a
-    head-fine at-set a e = set-fine (after-set pat c p p flags (omega arith) a)
-    head-fine at-other a e = byte-fine (a (omega arith) (omega arith))
+        percent-leads : After pat c p flags (onward p flags (escapeRead false pat p flags)) → Leads (readHead pat p at-percent)
+        percent-leads a = unfold readHead in escape-leads (escapeAt pat (p + 1)) refl a
+    head-leads at-set a = set-leads (after-set pat c p p flags (omega arith) a)
+    head-leads at-other a = byte-leads (a (omega arith) (omega arith))
+
+    -- from an item that is accepted the check comes to the next
+    pub item-leads : Accepts pat c p flags → Leads (readItem pat p)
+    unfolding readItem
+    item-leads a = head-leads (headOf (byteAt pat p)) (by-head pat c p flags h a (headOf (byteAt pat p)) refl)
 
 module _ (pat : List ℕ) (c : ℕ) where
   from-fine : (m p : ℕ) (flags : List Bool) → length pat ≤ p + m → Accepts pat c p flags → WellFormed (itemsFrom pat m p) flags c
-  unfolding itemsFrom readItem
+  unfolding itemsFrom thenItems
   from-fine zero p flags l a = at-the-end pat c p flags (omega arith) a
   from-fine (suc m) p flags l a =
       by-test (λ (is : List Item). WellFormed is flags c) (leb (length pat) p) _ _
       (λ e. at-the-end pat c p flags (leb-true (length pat) p e) a)
-      (λ e.
-      let h = leb-false (length pat) p e in
-      head-fine pat c m (λ q f l a. from-fine m q f l a) p flags h l (headOf (byteAt pat p)) (by-head pat c p flags h a (headOf (byteAt pat p)) refl) refl)
+      (λ e. go (readItem pat p) (item-leads pat c p flags (leb-false (length pat) p e) a) (λ q f. from-fine m q f))
+    where
+      go : (r : Read) → Leads pat c p flags r → ((q : ℕ) (f : List Bool) → length pat ≤ q + m → Accepts pat c q f → WellFormed (itemsFrom pat m q) f c)
+          → WellFormed (thenItems (itemsFrom pat m) r) flags c
+      go (last i) y later = y .formed [] (at-the-end pat c (length pat) (y .after) (omega arith) (y .on .0))
+      go (item i q) y later = y .formed (itemsFrom pat m q) (later q (y .after) (omega (arith, y .behind)) (y .on .0))
 
   items-fine : (p : ℕ) (flags : List Bool) → Accepts pat c p flags → WellFormed (items pat p) flags c
   unfolding items
@@ -303,7 +346,7 @@ text-accepted version text walked c e =
 
 -- with or without its test of ranges
 module _ (ranges : Bool) (version : ℕ) (pat : List ℕ) (c : ℕ) (ok : checkPatternAs ranges version pat ≡ accepted c) where
-  accepts : Accepts pat c 0 []
+  pub accepts : Accepts pat c 0 []
   unfolding checkPatternAs patternWalk
   accepts = text-accepted version pat (patternWalk false pat) c (accepted-without version pat ranges c ok)
 
@@ -315,4 +358,4 @@ module _ (ranges : Bool) (version : ℕ) (pat : List ℕ) (c : ℕ) (ok : checkP
   anchored-well-formed t =
       let b = eqb-true (byteAt pat 0) 94 t in
       let other : headOf 94 ≡ at-other = refl in
-      items-fine pat c 1 [] (after-byte pat c 0 [] (present pat 0 (omega arith)) (ap headOf b ∙ other) accepts)
+      items-fine pat c 1 [] (after-byte pat c 0 [] (present pat 0 (omega arith)) (ap headOf b ∙ other) accepts .0)

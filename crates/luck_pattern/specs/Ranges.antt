@@ -94,7 +94,7 @@ itemReversed pat p = reversedSet pat (itemSet pat p)
 abbrev pub Upwards : List Element → Type 0
 Upwards elements = (left right : ℕ) → List·Memᴰ (range left right) elements → left ≤ right
 
--- nor any in the set of a single, or of an item as the matching reads it
+-- nor any in the set of a single, of an item as the matching reads it, or of several
 abbrev pub UpwardsSingle : Single → Type 0
 UpwardsSingle any = Unit {0}
 UpwardsSingle (class b) = Unit {0}
@@ -111,6 +111,10 @@ UpwardsItem (frontier set) = Upwards (set .elements)
 UpwardsItem (back-reference d) = Unit {0}
 UpwardsItem (single x r) = UpwardsSingle x
 UpwardsItem (raises kind) = Unit {0}
+
+abbrev pub AllUpwards : List Item → Type 0
+AllUpwards [] = Unit {0}
+AllUpwards (i ∷ more) = UpwardsItem i × AllUpwards more
 
 abbrev pub itemOf : Read → Item
 itemOf (last i) = i
