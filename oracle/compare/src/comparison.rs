@@ -3,7 +3,6 @@
 mod checks;
 mod known;
 pub mod left_out;
-mod output;
 pub mod report;
 
 use std::borrow::Cow;
@@ -11,11 +10,11 @@ use std::str;
 
 use luck_token::LuaVersion;
 
-use crate::comparison::output::Output;
 use crate::comparison::report::{Case, Check, Report};
 use crate::reference::{self, NO_VERSIONS, VERSIONS, Value};
 use crate::texts::random::Random;
 use library::token;
+use texts::output::Output;
 
 /// Bytes of room behind a value, to see that they stay as they were.
 const SPARE_ROOM: usize = 9;
@@ -29,7 +28,7 @@ pub struct Comparison {
 
 impl Comparison {
     pub(crate) fn new() -> Self {
-        Self { report: Report::default(), output: Output::new(), turn: 0 }
+        Self { report: Report::default(), output: Output::default(), turn: 0 }
     }
 
     pub const fn report(&self) -> &Report {

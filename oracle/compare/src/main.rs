@@ -1,43 +1,30 @@
 //! Compares the proved library with luck's Rust in one process, and the program `bodies` with the same; writes the stored answers.
 
-use std::env;
 use std::io;
 use std::path::Path;
 use std::process::ExitCode;
 
 use compare::lines::comparison::LineComparison;
-use compare::run::{DEFAULT_SEED, Extent, Run, long_extent, short_extent};
+use compare::run::{Extent, Run, long_extent, short_extent};
 use compare::store::{self, lines};
+use texts::words::{self, numbers};
 
 const USAGE: &str = "usage: compare short | compare (long | literals | checks) [SEED] [COUNT] | compare store DIR
        compare lines PROGRAM [SEED] [COUNT] | compare store-lines DIR";
 
 fn main() -> ExitCode {
-    let words: Vec<String> = env::args().skip(1).collect();
-    let words: Vec<&str> = words.iter().map(String::as_str).collect();
-    match *words.as_slice() {
-        ["short"] => compare(&short_extent(), Run::all),
+    words::run(USAGE, run)
+}
+
+fn run(words: &[&str]) -> Option<ExitCode> {
+    match *words {
+        ["short"] => Some(compare(&short_extent(), Run::all)),
         ["long", ref numbers @ ..] => compare_long(numbers, Run::all),
         ["literals", ref numbers @ ..] => compare_long(numbers, Run::literals),
         ["checks", ref numbers @ ..] => compare_long(numbers, Run::checks),
-        ["store", folder] => store(Path::new(folder)),
+        ["store", folder] => Some(store(Path::new(folder))),
         ["lines", program, ref numbers @ ..] => compare_lines(Path::new(program), numbers),
-        ["store-lines", folder] => store_lines(Path::new(folder)),
-        _ => usage(),
-    }
-}
-
-fn usage() -> ExitCode {
-    eprintln!("{USAGE}");
-    ExitCode::from(2)
-}
-
-/// SEED and COUNT, each with its default.
-fn numbers(words: &[&str], default_count: u64) -> Option<(u64, u64)> {
-    match *words {
-        [] => Some((DEFAULT_SEED, default_count)),
-        [seed] => Some((seed.parse().ok()?, default_count)),
-        [seed, count] => Some((seed.parse().ok()?, count.parse().ok()?)),
+        ["store-lines", folder] => Some(store_lines(Path::new(folder))),
         _ => None,
     }
 }
@@ -74,27 +61,24 @@ fn store_lines(folder: &Path) -> ExitCode {
     }
 }
 
-fn compare_lines(program: &Path, words: &[&str]) -> ExitCode {
+fn compare_lines(program: &Path, words: &[&str]) -> Option<ExitCode> {
     const DEFAULT_COUNT: u64 = 200_000;
-    let Some((seed, count)) = numbers(words, DEFAULT_COUNT) else { return usage() };
-    match LineComparison::run(program, seed, count) {
+    let (seed, count) = numbers(words, DEFAULT_COUNT)?;
+    Some(match LineComparison::run(program, seed, count) {
         Ok(comparison) => {
             println!("{comparison}");
             ExitCode::from(u8::from(comparison.has_failed()))
         }
         Err(error) => cannot_use(program, &error),
-    }
+    })
 }
 
 /// The parts of a run that are asked for.
 type Parts = fn(&mut Run, &Extent);
 
-fn compare_long(words: &[&str], parts: Parts) -> ExitCode {
+fn compare_long(words: &[&str], parts: Parts) -> Option<ExitCode> {
     const DEFAULT_COUNT: u64 = 10_000_000;
-    match numbers(words, DEFAULT_COUNT) {
-        Some((seed, count)) => compare(&long_extent(seed, count), parts),
-        None => usage(),
-    }
+    numbers(words, DEFAULT_COUNT).map(|(seed, count)| compare(&long_extent(seed, count), parts))
 }
 
 fn compare(extent: &Extent, parts: Parts) -> ExitCode {

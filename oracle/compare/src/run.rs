@@ -2,15 +2,14 @@
 
 mod checks;
 
-use std::time::Instant;
+use texts::section;
+use texts::words::DEFAULT_SEED;
 
 use crate::comparison::Comparison;
 use crate::comparison::report::Report;
 use crate::texts::exhaustive::{self, Form, LONG, LONG_LEVEL_1, QUOTED, RAW};
 use crate::texts::random::Random;
 use crate::texts::{edges, grammar};
-
-pub const DEFAULT_SEED: u64 = 20_240_501;
 
 /// How far a run goes.
 pub struct Extent {
@@ -168,10 +167,11 @@ impl Run {
 
     /// Runs a part of the comparison and says how many texts it had and how long it took.
     fn section(&mut self, name: &str, part: impl FnOnce(&mut Comparison, &mut Random, &mut u64)) {
-        let start = Instant::now();
-        let mut count = 0;
-        part(&mut self.comparison, &mut self.random, &mut count);
-        println!("{name}: {count} texts, {:.1} s", start.elapsed().as_secs_f64());
+        section::run(name, || {
+            let mut count = 0;
+            part(&mut self.comparison, &mut self.random, &mut count);
+            format!("{count} texts")
+        });
     }
 }
 

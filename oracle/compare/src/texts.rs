@@ -5,5 +5,6 @@ pub mod body_edges;
 pub mod edges;
 pub mod exhaustive;
 pub mod grammar;
-pub mod random;
 pub mod symbols;
+
+pub use ::texts::random;

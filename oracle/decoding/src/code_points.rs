@@ -1,6 +1,6 @@
 //! `\u{}` at every boundary, with zeros in front, and spread over all values.
 
-use crate::random::Random;
+use texts::random::Random;
 
 /// Where a rule changes: the first and last code points of one to six bytes, the surrogates, the last character, and the
 /// widths of a machine's word.

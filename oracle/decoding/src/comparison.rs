@@ -5,8 +5,7 @@ use std::fmt;
 
 use decoding::plain::{self, Refusal};
 use library::Decoded;
-
-use crate::random::Random;
+use texts::output::Output;
 
 /// The versions, and numbers beside and far from them.
 const VERSIONS: [u32; 9] = [1, 2, 3, 4, 5, 6, 0, 7, u32::MAX];
@@ -14,44 +13,6 @@ const VERSIONS: [u32; 9] = [1, 2, 3, 4, 5, 6, 0, 7, u32::MAX];
 const SPARE_ROOM: usize = 9;
 /// Differences of a kind that are printed.
 const SHOWN: u64 = 3;
-
-/// An output to lend: full of a pattern, between two guards, so that any byte written outside the value shows.
-#[derive(Default)]
-struct Output {
-    /// What every byte is before the call.
-    pattern: Vec<u8>,
-    bytes: Vec<u8>,
-}
-
-impl Output {
-    const GUARD: usize = 16;
-
-    fn lend(&mut self, room: usize) -> &mut [u8] {
-        let length = Self::GUARD + room + Self::GUARD;
-        if self.pattern.len() < length {
-            // No two places near each other look alike, so bytes moved by a few places show too.
-            let mut random = Random(0x6F75_7470_7574);
-            self.pattern = (0..length).map(|_| random.byte()).collect();
-        }
-        self.bytes.clear();
-        self.bytes.extend_from_slice(&self.pattern[..length]);
-        &mut self.bytes[Self::GUARD..Self::GUARD + room]
-    }
-
-    /// Whether the output that was lent last starts with `value` and all else is as it was, the guards too.
-    fn holds_only(&self, value: &[u8]) -> bool {
-        let (before, from_value) = self.bytes.split_at(Self::GUARD);
-        let behind = Self::GUARD + value.len();
-        before == &self.pattern[..Self::GUARD]
-            && from_value.starts_with(value)
-            && self.bytes[behind..] == self.pattern[behind..self.bytes.len()]
-    }
-
-    /// The lent bytes, for a report.
-    fn lent(&self) -> &[u8] {
-        &self.bytes[Self::GUARD..self.bytes.len() - Self::GUARD]
-    }
-}
 
 #[derive(Default)]
 pub struct Comparison {

@@ -1,8 +1,9 @@
 //! Random literals, made by a grammar, and damage to them.
 
+use texts::random::Random;
+
 use crate::code_points;
 use crate::exhaustive::HOSTILE;
-use crate::random::Random;
 
 const SIMPLE_ESCAPES: [&str; 10] = ["\\a", "\\b", "\\f", "\\n", "\\r", "\\t", "\\v", "\\\\", "\\\"", "\\'"];
 const UNDEFINED_ESCAPES: [&str; 12] = ["\\q", "\\A", "\\X", "\\U{41}", "\\Z", "\\ ", "\\%", "\\[", "\\\0", "\\é", "\\😀", "\\{"];

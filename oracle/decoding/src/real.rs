@@ -1,14 +1,15 @@
 //! Real Lua 5.4 and 5.3 beside the library: what they make of literals, of most of which one `\u{}` is all.
 
 use std::fmt;
-use std::io::{self, Write};
-use std::process::{Command, Stdio};
+use std::io;
+use std::process::ExitCode;
 
 use decoding::plain;
+use texts::random::Random;
+use texts::real_lua;
 
 use crate::code_points;
 use crate::grammar;
-use crate::random::Random;
 
 const SCRIPT: &str = include_str!("literals.lua");
 const UNDECODABLE: u32 = 24;
@@ -39,18 +40,10 @@ type Value = Option<Vec<u8>>;
 impl Lua {
     /// What it makes of each literal.
     fn values(&self, literals: &[Vec<u8>]) -> io::Result<Vec<Value>> {
-        // In one word: by itself, a script that starts with a comment looks like an option.
-        let script = format!("-e{SCRIPT}");
-        let mut child = Command::new(self.program).arg(script).stdin(Stdio::piped()).stdout(Stdio::piped()).spawn()?;
         let asked: Vec<u8> = literals.iter().flat_map(|literal| with_length(literal)).collect();
-        // Dropped at the end of this line, so that the input has an end.
-        child.stdin.take().expect("standard input is piped").write_all(&asked)?;
-        let output = child.wait_with_output()?;
-        let values = output.stdout.strip_prefix(format!("{}\n", self.name).as_bytes()).and_then(values);
-        match values {
-            Some(values) if output.status.success() && values.len() == literals.len() => Ok(values),
-            _ => Err(io::Error::other("not an answer to each literal")),
-        }
+        let written = real_lua::answer(self.program, self.name, SCRIPT, &asked)?;
+        let values = written.as_deref().and_then(values).filter(|values| values.len() == literals.len());
+        values.ok_or_else(|| io::Error::other("not an answer to each literal"))
     }
 }
 
@@ -103,7 +96,7 @@ fn by_plain_program(version: u32, literal: &[u8]) -> Found {
 }
 
 /// What one Lua, the library and the plain program answered.
-pub struct Tally {
+struct Tally {
     lua: &'static Lua,
     decoded: u64,
     refused: u64,
@@ -112,10 +105,11 @@ pub struct Tally {
     known: u64,
 }
 
-/// Asks each Lua. An error says which.
-pub fn run(seed: u64, count: u64) -> Result<Vec<Tally>, String> {
-    let ask = |lua: &'static Lua| Tally::of(lua, &literals(&mut Random(seed), count / lua.one_in));
-    LUAS.iter().map(|lua| ask(lua).map_err(|error| format!("{}: {error}", lua.program))).collect()
+/// Asks each Lua and reports. An error says which.
+pub fn run(seed: u64, count: u64) -> ExitCode {
+    let ask = |lua: &'static Lua| Tally::of(lua, &literals(&mut Random::new(seed), count / lua.one_in));
+    let tallies = LUAS.iter().map(|lua| ask(lua).map_err(|error| format!("{}: {error}", lua.program))).collect();
+    real_lua::report(tallies, Tally::has_failed)
 }
 
 impl Tally {
@@ -152,7 +146,7 @@ impl Tally {
     }
 
     /// Whether a Lua that refuses or decodes all, or a run that asked for nothing, would look like this.
-    pub const fn has_failed(&self) -> bool {
+    const fn has_failed(&self) -> bool {
         self.differing > 0 || self.decoded == 0 || self.refused == 0
     }
 }

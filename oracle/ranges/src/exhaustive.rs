@@ -1,5 +1,7 @@
 //! Every text of some kind, shortest first.
 
+use texts::exhaustive::Form;
+
 /// What a pattern is made of and what breaks one: each byte that the check reads, letters on both sides of each other, those that
 /// have a meaning behind `%`, a digit, a backslash, a quote, a character of two bytes, and a byte that no text has.
 pub const HOSTILE: [&[u8]; 18] =
@@ -38,63 +40,29 @@ pub const NEIGHBOURS: [&[u8]; 20] = [
 /// What reading a set twice and otherwise has to do with only, for the longest texts.
 pub const FEW_MEMBERS: [&[u8]; 5] = [b"%", b"-", b"]", b"a", b"!"];
 
-/// What is put around a text.
-pub struct Form {
-    pub name: &'static str,
-    open: &'static [u8],
-    close: &'static [u8],
-}
-
-const fn form(name: &'static str, open: &'static [u8], close: &'static [u8]) -> Form {
-    Form { name, open, close }
-}
-
-pub const RAW: Form = form("by themselves", b"", b"");
-pub const SET: Form = form("in [ ]", b"[", b"]");
+pub const RAW: Form = Form::new("by themselves", b"", b"");
+pub const SET: Form = Form::new("in [ ]", b"[", b"]");
 /// A set with something before or behind it: faults, which come first or don't, captures, and what makes it no set.
 pub const SETS: [Form; 10] = [
-    form("in [^ ]", b"[^", b"]"),
-    form("in %f[ ]", b"%f[", b"]"),
-    form("in ([ ]", b"([", b"]"),
-    form("in )[ ]", b")[", b"]"),
-    form("in [ ])", b"[", b"])"),
-    form("in [ ]%", b"[", b"]%"),
-    form("in [a-z][ ][z-a]", b"[a-z][", b"][z-a]"),
-    form("in [z-a][ ]", b"[z-a][", b"]"),
-    form("in %b[ ]", b"%b[", b"]"),
-    form("in %[ ]", b"%[", b"]"),
+    Form::new("in [^ ]", b"[^", b"]"),
+    Form::new("in %f[ ]", b"%f[", b"]"),
+    Form::new("in ([ ]", b"([", b"]"),
+    Form::new("in )[ ]", b")[", b"]"),
+    Form::new("in [ ])", b"[", b"])"),
+    Form::new("in [ ]%", b"[", b"]%"),
+    Form::new("in [a-z][ ][z-a]", b"[a-z][", b"][z-a]"),
+    Form::new("in [z-a][ ]", b"[z-a][", b"]"),
+    Form::new("in %b[ ]", b"%b[", b"]"),
+    Form::new("in %[ ]", b"%[", b"]"),
 ];
-pub const QUOTED: Form = form("in quotes", b"\"", b"\"");
-pub const QUOTED_SET: Form = form("in \"[ ]\"", b"\"[", b"]\"");
+pub const QUOTED: Form = Form::new("in quotes", b"\"", b"\"");
+pub const QUOTED_SET: Form = Form::new("in \"[ ]\"", b"\"[", b"]\"");
 pub const BACKSLASHED_SETS: [Form; 4] = [
-    form("in '\\n[ ]'", b"'\\n[", b"]'"),
-    form("in '[ ]\\\\'", b"'[", b"]\\\\'"),
-    form("in '[ ]\\'", b"'[", b"]\\'"),
-    form("in '\\x41[ ]'", b"'\\x41[", b"]'"),
+    Form::new("in '\\n[ ]'", b"'\\n[", b"]'"),
+    Form::new("in '[ ]\\\\'", b"'[", b"]\\\\'"),
+    Form::new("in '[ ]\\'", b"'[", b"]\\'"),
+    Form::new("in '\\x41[ ]'", b"'\\x41[", b"]'"),
 ];
-
-/// Every text of up to `most` symbols, in the form.
-pub fn texts(symbols: &[&[u8]], most: usize, form: &Form, visit: &mut dyn FnMut(&[u8])) {
-    for count in 0..=most {
-        texts_of(symbols, count, form, visit);
-    }
-}
-
-/// Counts through the texts of `count` symbols as an odometer does.
-fn texts_of(symbols: &[&[u8]], count: usize, form: &Form, visit: &mut dyn FnMut(&[u8])) {
-    let mut digits = vec![0; count];
-    let mut text = Vec::new();
-    loop {
-        text.clear();
-        text.extend_from_slice(form.open);
-        digits.iter().for_each(|&digit: &usize| text.extend_from_slice(symbols[digit]));
-        text.extend_from_slice(form.close);
-        visit(&text);
-        let Some(turning) = digits.iter().rposition(|&digit| digit + 1 < symbols.len()) else { return };
-        digits[turning] += 1;
-        digits[turning + 1..].fill(0);
-    }
-}
 
 /// Every two bytes as the ends of what is or looks like a range: in each place of a set, behind `%`, before `%`, and beside other
 /// ranges.

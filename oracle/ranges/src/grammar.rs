@@ -1,6 +1,6 @@
 //! Random patterns with many sets and ranges, literals of them, and damage to both.
 
-use crate::random::Random;
+use texts::random::Random;
 
 /// Characters of two to four bytes, at the ends of each width and with each of the first and last following bytes.
 const CHARACTERS: [&str; 12] =

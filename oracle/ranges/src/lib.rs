@@ -4,4 +4,3 @@
 pub mod answers;
 pub mod grammar;
 pub mod plain;
-pub mod random;

@@ -5,20 +5,20 @@ mod comparison;
 mod exhaustive;
 mod real;
 
-use std::env;
 use std::process::ExitCode;
-use std::time::Instant;
 
 use comparison::Comparison;
 use exhaustive::{
-    BACKSLASHED_SETS, FEW_MEMBERS, Form, HOSTILE, MEMBERS, NEIGHBOURS, QUOTED, QUOTED_SET, RAW, SET, SETS, SOME, captures,
+    BACKSLASHED_SETS, FEW_MEMBERS, HOSTILE, MEMBERS, NEIGHBOURS, QUOTED, QUOTED_SET, RAW, SET, SETS, SOME, captures,
     character_pairs, pairs, runs, triples,
 };
 use ranges::grammar;
-use ranges::random::Random;
+use texts::exhaustive::{Form, texts};
+use texts::random::{self, Grammar, Random};
+use texts::section;
+use texts::words::{self, DEFAULT_SEED, numbers};
 
 const USAGE: &str = "usage: ranges short | ranges long [SEED] [COUNT] | ranges real [SEED] [COUNT]";
-const DEFAULT_SEED: u64 = 20_240_501;
 
 /// How far a run goes: the most symbols of each alphabet.
 struct Extent {
@@ -72,20 +72,16 @@ type Ask = fn(&mut Comparison, &[u8]);
 
 /// Runs a part of the comparison and says how many texts it had, how many of them are answered 39, and how long it took.
 fn section(comparison: &mut Comparison, name: &str, ask: Ask, part: impl FnOnce(&mut dyn FnMut(&[u8]))) {
-    let start = Instant::now();
-    let reversed_before = comparison.reversed();
-    let mut count = 0u64;
-    part(&mut |text| {
-        ask(comparison, text);
-        count += 1;
+    section::run(name, || {
+        let reversed_before = comparison.reversed();
+        let count = section::ask_all(part, |text| ask(comparison, text));
+        format!("{count} texts, {} answered 39", comparison.reversed() - reversed_before)
     });
-    let reversed = comparison.reversed() - reversed_before;
-    println!("{name}: {count} texts, {reversed} answered 39, {:.1} s", start.elapsed().as_secs_f64());
 }
 
 fn all_texts(comparison: &mut Comparison, name: &str, ask: Ask, symbols: &[&[u8]], most: usize, form: &Form) {
     let name = format!("{name}, {}, up to {most}", form.name);
-    section(comparison, &name, ask, |visit| exhaustive::texts(symbols, most, form, visit));
+    section(comparison, &name, ask, |visit| texts(symbols, most, form, visit));
 }
 
 fn patterns(comparison: &mut Comparison, extent: &Extent) {
@@ -133,16 +129,9 @@ fn literals(comparison: &mut Comparison, extent: &Extent) {
     section(comparison, &name, ask, |visit| random_texts(extent, grammar::literal, visit));
 }
 
-/// By the grammar, every other one damaged.
 fn random_texts(extent: &Extent, make: fn(&mut Random) -> Vec<u8>, visit: &mut dyn FnMut(&[u8])) {
-    let mut random = Random(extent.seed);
-    for turn in 0..extent.random {
-        let mut text = make(&mut random);
-        if turn % 2 == 1 {
-            grammar::damage(&mut random, &mut text);
-        }
-        visit(&text);
-    }
+    let grammar = Grammar { make, damage: grammar::damage };
+    random::texts(&mut Random::new(extent.seed), extent.random, grammar, visit);
 }
 
 fn compare(extent: &Extent) -> ExitCode {
@@ -153,43 +142,15 @@ fn compare(extent: &Extent) -> ExitCode {
     ExitCode::from(u8::from(comparison.has_failed()))
 }
 
-fn compare_with_real_lua(seed: u64, count: u64) -> ExitCode {
-    match real::run(seed, count) {
-        Ok(tallies) => {
-            tallies.iter().for_each(|tally| println!("{tally}"));
-            ExitCode::from(u8::from(tallies.iter().any(real::Tally::has_failed)))
-        }
-        Err(error) => {
-            eprintln!("{error}");
-            ExitCode::from(2)
-        }
-    }
-}
-
-/// SEED and COUNT, each with its default.
-fn numbers(words: &[&str], default_count: u64) -> Option<(u64, u64)> {
-    match *words {
-        [] => Some((DEFAULT_SEED, default_count)),
-        [seed] => Some((seed.parse().ok()?, default_count)),
-        [seed, count] => Some((seed.parse().ok()?, count.parse().ok()?)),
-        _ => None,
-    }
-}
-
 fn run(words: &[&str]) -> Option<ExitCode> {
     match *words {
         ["short"] => Some(compare(&short_extent())),
         ["long", ref words @ ..] => numbers(words, 5_000_000).map(|(seed, count)| compare(&long_extent(seed, count))),
-        ["real", ref words @ ..] => numbers(words, 50_000).map(|(seed, count)| compare_with_real_lua(seed, count)),
+        ["real", ref words @ ..] => numbers(words, 50_000).map(|(seed, count)| real::run(seed, count)),
         _ => None,
     }
 }
 
 fn main() -> ExitCode {
-    let words: Vec<String> = env::args().skip(1).collect();
-    let words: Vec<&str> = words.iter().map(String::as_str).collect();
-    run(&words).unwrap_or_else(|| {
-        eprintln!("{USAGE}");
-        ExitCode::from(2)
-    })
+    words::run(USAGE, run)
 }

@@ -2,13 +2,14 @@
 //! that the plain program reads.
 
 use std::fmt;
-use std::io::{self, Write};
-use std::process::{Command, Stdio};
+use std::io;
+use std::process::ExitCode;
 
 use library::c;
 use ranges::grammar::{self, Direction};
 use ranges::plain::{Element, REVERSED, Set};
-use ranges::random::Random;
+use texts::random::Random;
+use texts::real_lua;
 
 const SCRIPT: &str = include_str!("sets.lua");
 /// What the script writes for a set that Lua refuses.
@@ -123,7 +124,7 @@ fn pairs() -> Vec<Question> {
 
 /// Random sets, of which many have reversed ranges.
 fn random_sets(seed: u64, count: u64) -> Vec<Question> {
-    let mut random = Random(seed);
+    let mut random = Random::new(seed);
     let sets = (0..count).map(|_| {
         let mut set = Vec::new();
         grammar::set(&mut random, Direction::Any, &mut set);
@@ -135,18 +136,10 @@ fn random_sets(seed: u64, count: u64) -> Vec<Question> {
 impl Lua {
     /// What it leaves for each set, or none where it refuses one.
     fn left(&self, questions: &[&Question]) -> io::Result<Vec<Option<Vec<u8>>>> {
-        // In one word: by itself, a script that starts with a comment looks like an option.
-        let script = format!("-e{SCRIPT}");
-        let mut child = Command::new(self.program).arg(script).stdin(Stdio::piped()).stdout(Stdio::piped()).spawn()?;
         let asked: Vec<u8> = questions.iter().flat_map(|question| with_length(&question.set)).collect();
-        // Dropped at the end of this line, so that the input has an end.
-        child.stdin.take().expect("standard input is piped").write_all(&asked)?;
-        let output = child.wait_with_output()?;
-        let answers = output.stdout.strip_prefix(format!("{}\n", self.name).as_bytes()).and_then(answers);
-        match answers {
-            Some(answers) if output.status.success() && answers.len() == questions.len() => Ok(answers),
-            _ => Err(io::Error::other("not an answer to each set")),
-        }
+        let written = real_lua::answer(self.program, self.name, SCRIPT, &asked)?;
+        let answers = written.as_deref().and_then(answers).filter(|answers| answers.len() == questions.len());
+        answers.ok_or_else(|| io::Error::other("not an answer to each set"))
     }
 }
 
@@ -172,7 +165,7 @@ fn answers(mut rest: &[u8]) -> Option<Vec<Option<Vec<u8>>>> {
 }
 
 /// What one Lua answered.
-pub struct Tally {
+struct Tally {
     lua: &'static Lua,
     /// Sets of one reversed range, and complements of such.
     pairs: u64,
@@ -184,11 +177,12 @@ pub struct Tally {
     differing: u64,
 }
 
-/// Asks each Lua. An error says which.
-pub fn run(seed: u64, count: u64) -> Result<Vec<Tally>, String> {
+/// Asks each Lua and reports. An error says which.
+pub fn run(seed: u64, count: u64) -> ExitCode {
     let (pairs, random) = (pairs(), random_sets(seed, count));
     let ask = |lua: &'static Lua| Tally::of(lua, &pairs, &random);
-    LUAS.iter().map(|lua| ask(lua).map_err(|error| format!("{}: {error}", lua.program))).collect()
+    let tallies = LUAS.iter().map(|lua| ask(lua).map_err(|error| format!("{}: {error}", lua.program))).collect();
+    real_lua::report(tallies, Tally::has_failed)
 }
 
 impl Tally {
@@ -254,7 +248,7 @@ impl Tally {
     }
 
     /// Whether anything differs, or a run that asked for nothing would look like this.
-    pub const fn has_failed(&self) -> bool {
+    const fn has_failed(&self) -> bool {
         self.differing > 0 || self.pairs == 0 || self.forward == 0 || self.reversed == 0 || self.without == 0
     }
 }

@@ -4,14 +4,15 @@
 mod real;
 mod store;
 
-use std::env;
 use std::path::Path;
 use std::process::ExitCode;
 
+use texts::exhaustive::{self, Form};
+use texts::random::Random;
+use texts::words::{self, DEFAULT_SEED};
 use trials::plain;
 
 const USAGE: &str = "usage: trials short | trials long [SEED] [COUNT] | trials real FILE | trials store DATA DIR";
-const DEFAULT_SEED: u64 = 20_240_501;
 const DEFAULT_COUNT: u64 = 5_000_000;
 /// What the output holds before a trial, and on both sides of it.
 const FILL: u8 = 0xA5;
@@ -21,6 +22,7 @@ const SHOWN: u64 = 20;
 
 /// The bytes of which every short pattern is made.
 const HOSTILE: &[u8] = b"a(%)[]^-*+?.$1bfwA\x00";
+const RAW: Form = Form::new("by themselves", b"", b"");
 const SUBJECTS: [&[u8]; 5] = [b"", b"a", b"ab1", b"aab(a)", b"]-%aa\x00"];
 const REPLACEMENTS: [&[u8]; 4] = [b"x", b"<%0>%1", b"%2", b"%a%"];
 const PATTERN_PARTS: [&[u8]; 58] = [
@@ -87,33 +89,16 @@ const SUBJECT_PARTS: [&[u8]; 18] =
     [b"a", b"a", b"aa", b"b", b"c", b"ab", b"1", b"_", b" ", b"(", b")", b"%", b"]", b"-", b"A", b"\x00", b"\xC3\xA9", b"\n"];
 const REPLACEMENT_PARTS: [&[u8]; 12] = [b"x", b"yz", b"%0", b"%1", b"%2", b"%3", b"%9", b"%%", b"%", b"%a", b"%\x00", b"\x00"];
 
-/// splitmix64, so that a run can be repeated from its seed.
-struct Random(u64);
+fn text(random: &mut Random, parts: &[&[u8]], most: usize) -> Vec<u8> {
+    (0..random.below(most + 1)).flat_map(|_| random.pick(parts).iter().copied()).collect()
+}
 
-impl Random {
-    fn next(&mut self) -> u64 {
-        self.0 = self.0.wrapping_add(0x9E37_79B9_7F4A_7C15);
-        let mut z = self.0;
-        z = (z ^ (z >> 30)).wrapping_mul(0xBF58_476D_1CE4_E5B9);
-        z = (z ^ (z >> 27)).wrapping_mul(0x94D0_49BB_1331_11EB);
-        z ^ (z >> 31)
+/// One in four is of any bytes.
+fn subject(random: &mut Random) -> Vec<u8> {
+    if random.below(4) > 0 {
+        return text(random, &SUBJECT_PARTS, 14);
     }
-
-    fn below(&mut self, bound: usize) -> usize {
-        usize::try_from(self.next() % bound as u64).unwrap()
-    }
-
-    fn text(&mut self, parts: &[&[u8]], most: usize) -> Vec<u8> {
-        (0..self.below(most + 1)).flat_map(|_| parts[self.below(parts.len())].iter().copied()).collect()
-    }
-
-    /// One in four is of any bytes.
-    fn subject(&mut self) -> Vec<u8> {
-        if self.below(4) > 0 {
-            return self.text(&SUBJECT_PARTS, 14);
-        }
-        (0..self.below(15)).map(|_| u8::try_from(self.below(256)).unwrap()).collect()
-    }
+    (0..random.below(15)).map(|_| u8::try_from(random.below(256)).unwrap()).collect()
 }
 
 #[derive(Default)]
@@ -157,16 +142,8 @@ impl Tally {
 
     /// Every pattern of up to `most` bytes.
     fn exhaustive(&mut self, most: usize) {
-        for length in 0..=most {
-            let mut digits = vec![0; length];
-            loop {
-                let pattern: Vec<u8> = digits.iter().map(|&digit| HOSTILE[digit]).collect();
-                self.short_pattern(&pattern);
-                let Some(place) = digits.iter().rposition(|&digit| digit + 1 < HOSTILE.len()) else { break };
-                digits[place] += 1;
-                digits[place + 1..].fill(0);
-            }
-        }
+        let symbols: Vec<&[u8]> = HOSTILE.chunks(1).collect();
+        exhaustive::texts(&symbols, most, &RAW, &mut |pattern| self.short_pattern(pattern));
     }
 
     fn short_pattern(&mut self, pattern: &[u8]) {
@@ -194,9 +171,9 @@ impl Tally {
     fn random(&mut self, random: &mut Random, count: u64) {
         for _ in 0..count {
             let version = u32::try_from(random.below(8)).unwrap();
-            let pattern = random.text(&PATTERN_PARTS, 8);
-            let replacement = random.text(&REPLACEMENT_PARTS, 4);
-            let subject = random.subject();
+            let pattern = text(random, &PATTERN_PARTS, 8);
+            let replacement = text(random, &REPLACEMENT_PARTS, 4);
+            let subject = subject(random);
             let budget = [u32::try_from(random.below(30)).unwrap(), 2_000][random.below(2)];
             let room = [random.below(12), 200][random.below(2)];
             self.trial(version, &pattern, &replacement, &subject, budget, room);
@@ -252,26 +229,25 @@ fn stored(data: &Path, folder: &Path) -> ExitCode {
     }
 }
 
-fn main() -> ExitCode {
-    let words: Vec<String> = env::args().skip(1).collect();
-    let words: Vec<&str> = words.iter().map(String::as_str).collect();
-    let (most, seed, count) = match *words.as_slice() {
-        ["real", file] => return replay(file),
-        ["store", data, folder] => return stored(Path::new(data), Path::new(folder)),
+fn run(words: &[&str]) -> Option<ExitCode> {
+    let (most, seed, count) = match *words {
+        ["real", file] => return Some(replay(file)),
+        ["store", data, folder] => return Some(stored(Path::new(data), Path::new(folder))),
         ["short"] => (3, DEFAULT_SEED, 500_000),
         ["long"] => (4, DEFAULT_SEED, DEFAULT_COUNT),
         ["long", seed] => (4, seed.parse().unwrap_or(DEFAULT_SEED), DEFAULT_COUNT),
         ["long", seed, count] => (4, seed.parse().unwrap_or(DEFAULT_SEED), count.parse().unwrap_or(DEFAULT_COUNT)),
-        _ => {
-            eprintln!("{USAGE}");
-            return ExitCode::from(2);
-        }
+        _ => return None,
     };
+    Some(compare(most, seed, count))
+}
+
+fn compare(most: usize, seed: u64, count: u64) -> ExitCode {
     let mut tally = Tally::default();
     tally.limits();
     tally.classes();
     tally.exhaustive(most);
-    tally.random(&mut Random(seed), count);
+    tally.random(&mut Random::new(seed), count);
     println!("{} trials, {} differ", tally.trials, tally.differing);
     for (number, count) in tally.numbers.iter().enumerate().filter(|(_, count)| **count > 0) {
         println!("  number {number}: {count}");
@@ -280,4 +256,8 @@ fn main() -> ExitCode {
         println!("  kind {kind}: {count}");
     }
     ExitCode::from(u8::from(tally.differing > 0))
+}
+
+fn main() -> ExitCode {
+    words::run(USAGE, run)
 }

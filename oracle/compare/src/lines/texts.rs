@@ -61,7 +61,7 @@ impl Lines {
         let mut body = match random.below(8) {
             0 => self.picked[random.below(self.picked.len())].clone(),
             1 | 2 => picked::hostile(random, kind),
-            3 | 4 if kind == Kind::Pattern => ranges::grammar::pattern(&mut ranges::random::Random(random.next())),
+            3 | 4 if kind == Kind::Pattern => ranges::grammar::pattern(&mut Random::new(random.next())),
             _ => {
                 let mut body = Vec::new();
                 bodies::body(random, kind, &mut body);

@@ -3,8 +3,13 @@
 use super::{Extent, Run};
 use crate::kind::Kind;
 use crate::texts::exhaustive::{self, QUOTED, QUOTED_SET, RAW};
+use crate::texts::random::{self, Grammar, Random};
 use crate::texts::symbols::{self, ALPHABETS};
 use crate::texts::{bodies, body_edges, grammar};
+
+/// With ranges in both directions.
+const PATTERNS: Grammar = Grammar { make: ranges::grammar::pattern, damage: ranges::grammar::damage };
+const LITERALS: Grammar = Grammar { make: ranges::grammar::literal, damage: ranges::grammar::damage };
 
 impl Run {
     pub fn checks(&mut self, extent: &Extent) {
@@ -105,26 +110,18 @@ impl Run {
                 *count += 1;
             });
         });
-        let mut random = ranges::random::Random(extent.seed);
+        let mut random = Random::new(extent.seed);
         self.section(&format!("Pattern, ranges, random, seed {}", extent.seed), |comparison, _, count| {
-            while *count < extent.random_bodies {
-                comparison.body(Kind::Pattern, &any_ranges(&mut random, *count, ranges::grammar::pattern));
+            random::texts(&mut random, extent.random_bodies, PATTERNS, &mut |text| {
+                comparison.body(Kind::Pattern, text);
                 *count += 1;
-            }
+            });
         });
         self.section(&format!("literals checked, ranges, random, seed {}", extent.seed), |comparison, _, count| {
-            while *count < extent.random_bodies / 4 {
-                comparison.literal(&any_ranges(&mut random, *count, ranges::grammar::literal));
+            random::texts(&mut random, extent.random_bodies / 4, LITERALS, &mut |text| {
+                comparison.literal(text);
                 *count += 1;
-            }
+            });
         });
     }
-}
-
-fn any_ranges(random: &mut ranges::random::Random, turn: u64, make: fn(&mut ranges::random::Random) -> Vec<u8>) -> Vec<u8> {
-    let mut text = make(random);
-    if turn % 2 == 1 {
-        ranges::grammar::damage(random, &mut text);
-    }
-    text
 }

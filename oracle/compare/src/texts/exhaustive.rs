@@ -1,5 +1,7 @@
 //! Every text of some kind, shortest first.
 
+pub use ::texts::exhaustive::{Form, texts};
+
 use crate::texts::random::Random;
 
 /// What a literal is made of and what breaks one: quotes, escapes and their parts, digits, line breaks, brackets,
@@ -41,44 +43,13 @@ pub const UTF8_EDGES: [&[u8]; 25] = [
     b"\xE1", b"\xEC", b"\xED", b"\xEE", b"\xEF", b"\xF0", b"\xF1", b"\xF3", b"\xF4", b"\xF5", b"\xFF",
 ];
 
-/// What is put around a text.
-pub struct Form {
-    pub name: &'static str,
-    open: &'static [u8],
-    close: &'static [u8],
-}
-
-pub const RAW: Form = Form { name: "raw", open: b"", close: b"" };
-pub const QUOTED: Form = Form { name: "quoted", open: b"\"", close: b"\"" };
-pub const SET: Form = Form { name: "in [ ]", open: b"[", close: b"]" };
-pub const QUOTED_SET: Form = Form { name: "in \"[ ]\"", open: b"\"[", close: b"]\"" };
-pub const PERCENT: Form = Form { name: "behind %", open: b"%", close: b"" };
-pub const LONG: Form = Form { name: "in [[ ]]", open: b"[[", close: b"]]" };
-pub const LONG_LEVEL_1: Form = Form { name: "in [=[ ]=]", open: b"[=[", close: b"]=]" };
-
-/// Every text of up to `most` symbols, in the form.
-pub fn texts(symbols: &[&[u8]], most: usize, form: &Form, visit: &mut dyn FnMut(&[u8])) {
-    for count in 0..=most {
-        texts_of(symbols, count, form, visit);
-    }
-}
-
-/// Counts through the texts of `count` symbols as an odometer does.
-fn texts_of(symbols: &[&[u8]], count: usize, form: &Form, visit: &mut dyn FnMut(&[u8])) {
-    let mut digits = vec![0; count];
-    let mut text = Vec::new();
-    loop {
-        text.clear();
-        text.extend_from_slice(form.open);
-        digits.iter().for_each(|&digit: &usize| text.extend_from_slice(symbols[digit]));
-        text.extend_from_slice(form.close);
-        visit(&text);
-
-        let Some(turning) = digits.iter().rposition(|&digit| digit + 1 < symbols.len()) else { return };
-        digits[turning] += 1;
-        digits[turning + 1..].fill(0);
-    }
-}
+pub const RAW: Form = Form::new("raw", b"", b"");
+pub const QUOTED: Form = Form::new("quoted", b"\"", b"\"");
+pub const SET: Form = Form::new("in [ ]", b"[", b"]");
+pub const QUOTED_SET: Form = Form::new("in \"[ ]\"", b"\"[", b"]\"");
+pub const PERCENT: Form = Form::new("behind %", b"%", b"");
+pub const LONG: Form = Form::new("in [[ ]]", b"[[", b"]]");
+pub const LONG_LEVEL_1: Form = Form::new("in [=[ ]=]", b"[=[", b"]=]");
 
 /// Every text of three bytes.
 pub fn three_bytes(visit: &mut dyn FnMut(&[u8])) {

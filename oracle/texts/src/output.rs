@@ -1,9 +1,10 @@
 //! An output to lend: filled with a pattern, between two guards, so that any byte written outside the value shows.
 
-use crate::texts::random::Random;
+use crate::random::Random;
 
 const GUARD: usize = 16;
 
+#[derive(Default)]
 pub struct Output {
     /// What every byte is before the call.
     pattern: Vec<u8>,
@@ -11,10 +12,6 @@ pub struct Output {
 }
 
 impl Output {
-    pub fn new() -> Self {
-        Self { pattern: Vec::new(), bytes: Vec::new() }
-    }
-
     /// An output of this room, holding the pattern.
     pub fn lend(&mut self, room: usize) -> &mut [u8] {
         let length = GUARD + room + GUARD;
