@@ -36,7 +36,7 @@ static const char *const help_text[] = {
     "           replacements, steps and how it ended to standard error. It goes by the rules of 5.4 in every version: 5.1\n"
     "           and 5.2 themselves also replace an empty match right after a match, and in 5.1 `%g` is the letter g\n"
     "           (docs/DIFFERENCES.md); in a replacement 5.1 takes `%` before any byte here too. A range that holds no byte,\n"
-    "           as in [z-a], is run, as by Lua, and a note names it; `check` refuses it (39)\n"
+    "           as in [z-a], is run, as by Lua; a note names the first where `check` refuses the pattern for it (39)\n"
     "  lines    a file of bodies, one a line (standard input without FILE, or for -): kind letter, version digit,\n"
     "           two columns of captures (0 to 32, set right, only for G; blank: unknown), a space, the body.\n"
     "           Each refused line is explained. A line is at most 4,005 bytes; its newline is not counted.\n"

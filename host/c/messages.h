@@ -335,12 +335,19 @@ static message of_shape(const question *asked)
     }
 }
 
+/* Whether a byte of a literal's value would end the literal if it were written there as it is. */
+static bool is_quote_of_literal(const question *asked, uint8_t byte)
+{
+    return asked->of == A_VALUE && (byte == '"' || byte == '\'') && asked->source_len > 0 && asked->source[0] == byte;
+}
+
 /* Refusal 39. */
 static message of_range(const question *asked, const luck_answer *refused)
 {
     static const message inside = {
         "reversed range `$<-$>`, from the last byte of `$w`: it holds no byte, so nothing matches it",
         "a set holds bytes: a character of several can't be an end of a range; write `%-` for the character `-`"};
+    static const char other_way_round[] = "write its two ends the other way round; write `%-` for the character `-`";
     message found = message_by_number(LUCK_REVERSED_RANGE);
     switch (range_at(asked->version, asked->text, refused->offset)) {
     case INSIDE_CHARACTER:
@@ -361,13 +368,19 @@ static message of_range(const question *asked, const luck_answer *refused)
         found.advice = "write `$>-$<` behind another member, since a `^` that comes first means all other bytes;\n"
                        "  write `%-` for the character `-`";
         break;
+    case TO_CARET_UNSHOWN:
+        found.advice = "write its two ends the other way round behind another member, since a `^` that comes first means all\n"
+                       "  other bytes; write `%-` for the character `-`";
+        break;
     case FROM_BACKSLASH:
         found.advice = "write `%-` for the character `-`: the escape of a pattern is `%`, and `\\` is a byte like others";
         break;
     case NOT_PLAIN:
-        found.advice = "write its two ends the other way round; write `%-` for the character `-`";
+        found.advice = other_way_round;
         break;
     default:
+        if (is_quote_of_literal(asked, asked->text[refused->offset]) || is_quote_of_literal(asked, asked->text[refused->offset + 2]))
+            found.advice = other_way_round;
         break;
     }
     return found;

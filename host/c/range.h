@@ -16,6 +16,7 @@ enum range_shape {
     TO_HYPHEN,        /* a `-` on the left could be the middle of a range from the member before it */
     FROM_BRACKET,     /* a `]` on the right would close the set */
     TO_CARET,         /* a `^` on the left, in the first place of the set, would mean all other bytes */
+    TO_CARET_UNSHOWN, /* the same, and the left end is not shown as it is written in a script */
     NOT_PLAIN         /* an end is not shown as it is written in a script */
 };
 
@@ -47,7 +48,7 @@ static enum range_shape range_at(uint32_t version, const uint8_t *text, size_t p
     if (left == ']')
         return FROM_BRACKET;
     if (right == '^' && is_first_in_set(version, text, place))
-        return TO_CARET;
+        return is_plain(left) ? TO_CARET : TO_CARET_UNSHOWN;
     if (left == '\\')
         return FROM_BACKSLASH;
     if (!is_plain(left) || !is_plain(right))

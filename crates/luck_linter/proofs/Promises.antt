@@ -13,7 +13,7 @@ use lib.ListN.{length}
 use lib.Dec.{eqb, leb}
 use borrow.Author.Tests.{leb-true, eqb-true}
 use Rattle.luck_text.specs.Bytes.{if_then_else_, byteAt, among}
-use Rattle.luck_text.proofs.Cases.{by-test, and-left, and-right}
+use Rattle.luck_text.proofs.Cases.{by-test, if-true, if-false, and-left, and-right}
 use Rattle.luck_utf8.specs.Utf8.{illFormed, isChar, utf8Bytes}
 use Rattle.luck_utf8.proofs.Parts.{between-ascii}
 use Rattle.luck_utf8.proofs.Promises.{first-ill-formed}
@@ -24,7 +24,7 @@ use Rattle.luck_answer.specs.Answer.{Answer, accepted, refused, checkText}
 use Rattle.luck_answer.proofs.Texts.{text-fine, text-ill-formed}
 use Rattle.luck_replacement.proofs.Promises.{UnknownOrFromNine, walk-accepts}
 use Rattle.luck_linter.specs.Computed.{computed}
-use Rattle.luck_linter.specs.Checks.{Check, replacement, checkOf, walkOf, answer}
+use Rattle.luck_linter.specs.Checks.{Check, replacement, checkOf, withoutRanges, walkOf, answer}
 use Rattle.luck_linter.specs.StringLiteral.{LiteralAnswer, hasNumericEscape, hasBackslash, literalCheck, skippedAnswer, unspanned, withSpan, bodyOf, checkBody, checkShort, checkNamedLiteral, checkLiteral}
 use Rattle.luck_linter.proofs.Checked.{whole-check}
 use Rattle.luck_linter.proofs.Reversed.{reversed-body}
@@ -34,9 +34,12 @@ use Rattle.luck_linter.proofs.StringLiterals as literals
 abbrev pub SkippedExactly : LiteralAnswer → List ℕ → Type 0
 SkippedExactly a text = a .skipped ≡ (not (isShort text) || hasNumericEscape (bodyOf text))
 
--- the answer of a literal that is not skipped is that of the check on its body, without the test of ranges if a backslash stands there
+-- the answer of a literal that is not skipped is that of the check on its body; where a backslash stands there, of the check without its test of ranges
 abbrev pub AnswersBody : Check → ℕ → LiteralAnswer → List ℕ → Type 0
-AnswersBody check version a text = a .skipped ≡ false → a .answer ≡ answer (literalCheck check (bodyOf text)) version (bodyOf text)
+AnswersBody check version a text =
+    a .skipped ≡ false
+    → (hasBackslash (bodyOf text) ≡ false → a .answer ≡ answer check version (bodyOf text))
+    × (hasBackslash (bodyOf text) ≡ true → a .answer ≡ answer (withoutRanges check) version (bodyOf text))
 
 -- accepted if it is not skipped; `literal-accepted` promises it of a replacement of 5.1 with captures unknown, or known to be 9 or more (F-6)
 abbrev pub SkippedOrAccepted : LiteralAnswer → Type 0
@@ -111,13 +114,20 @@ module _ (kind version : ℕ) (captures : Option ℕ) (start : ℕ) (text : List
       let p = passed (isShort text) (hasNumericEscape (bodyOf text)) walked (ap (λ l. l .skipped) (sym checked) ∙ h) in
       (p .0, checked ∙ p .1)
 
-  pub literal-answers : AnswersBody check version literal text
-  literal-answers h =
+  body-answers : literal .skipped ≡ false → literal .answer ≡ answer body-check version (bodyOf text)
+  body-answers h =
       let p = kept h in
       let q = quotes-low text (p .0) in
       let plain = between-ascii text (q .0) (q .1) (q .2) (sym utf8) in
       ap (λ l. l .answer) (p .1) ∙ span-keeps start (bodyOf text) (walkOf body-check (rulesOf version) (bodyOf text)) .1
       ∙ text-fine version (bodyOf text) (walkOf body-check (rulesOf version) (bodyOf text)) known plain ∙ sym (whole-check body-check version (bodyOf text))
+
+  pub literal-answers : AnswersBody check version literal text
+  unfolding literalCheck
+  literal-answers h = (
+    λ b. body-answers h ∙ ap (λ c. answer c version (bodyOf text)) (if-false _ _ _ b),
+    λ b. body-answers h ∙ ap (λ c. answer c version (bodyOf text)) (if-true _ _ _ b),
+  )
 
   -- a literal that is answered 39 is not skipped
   shown : (short numeric : Bool) (a : LiteralAnswer) → skipping short numeric a .answer .number ≡ 39 → skipping short numeric a ≡ a

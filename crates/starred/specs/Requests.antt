@@ -178,6 +178,7 @@ ranges =
     -- bytes of characters
     (ascii "[" ++ é ++ ascii "-a]", (39, 2)) ∷
     (ascii "[a-" ++ é ++ ascii "]", (0, 0)) ∷
+    (ascii "[" ++ (0xE2 ∷ 0x82 ∷ 0xAC ∷ []) ++ ascii "-" ++ é ++ ascii "]", (0, 0)) ∷
     (ascii "[" ++ é ++ ascii "-" ++ é ++ ascii "]", (0, 0)) ∷
     (ascii "[z-a]" ++ (0xFF ∷ []), (23, 5)) ∷ []
 
@@ -201,6 +202,10 @@ rangesElsewhere =
     case every (literal (code "P") none 10 (ascii "'[z-a]'")) (reversedAt 1 12 13)
     ∷ case every (literal (code "P") none 10 (ascii "'[" ++ é ++ ascii "-a]'")) (reversedAt 2 13 14)
     ∷ case every (literal (code "P") none 0xFFFF_FFFE (ascii "'[z-a]'")) (reversedAt 1 0xFFFF_FFFF 0xFFFF_FFFF)
+    ∷ case every (literal (code "P") none 10 (ascii "\"[z-%a]\"")) (reversedAt 1 12 13)
+    ∷ case every (literal (code "P") none 10 (ascii "'[\"z-a]'")) (reversedAt 2 13 14)
+    ∷ case every (literal (code "P") none 10 (ascii "'[z-a]\\'"))
+    (unspanned (record { number = 0; offset = 0; first = 0; second = 0; count = 0 }))
     ∷ case every (literal (code "P") none 10 (ascii "'[z-a]\\n'"))
     (unspanned (record { number = 0; offset = 0; first = 0; second = 0; count = 0 }))
     ∷ case every (literal (code "P") none 10 (ascii "'\\n([z-a]'"))
