@@ -94,7 +94,7 @@ def foreign(text):
 
 
 def renamed(text, names, fields, kept):
-    out, last = [], 0
+    out, last, aliases = [], 0, {m.group(3) for m in USE.finditer(text) if m.group(3) and own(m.group(1))}
     for m in TOKEN.finditer(text):
         word, start = m.group(0), m.start()
         if word in kept or word not in names:
@@ -104,7 +104,7 @@ def renamed(text, names, fields, kept):
             continue
         if start and text[start - 1] == ".":
             before = re.search(r"([^\s(){},;.\[\]]+)\.$", text[:start][-80:])
-            if not (before and before.group(1)[0].isupper()) and word not in fields:
+            if not (before and (before.group(1)[0].isupper() or before.group(1) in aliases)) and word not in fields:
                 continue
         out.append(text[last:start] + to)
         last = m.end()

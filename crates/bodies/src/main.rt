@@ -1,5 +1,7 @@
 // Reads lines from standard input and writes a row for each, what the checks answer for its body, and then the totals. The work is luck_lines';
 // this is the reading and the writing, with two buffers and a `State` and nothing else kept, so that the input may be of any length.
+#![tactic(auto)]
+
 ghost use Rattle.std.specs.Prelude.{◌≡◌, false, ◌+◌, ◌≤◌, ◌<◌, length, drop};
 ghost use Rattle.luck_text.specs.Bytes.{part};
 ghost use Rattle.luck_line.specs.Line.{longest};
@@ -11,7 +13,7 @@ use luck_lines::stream::State;
 use luck_lines::{buffer, stream};
 
 // The bytes of the input buffer that are not taken yet, from `at` to `end`; what the next call is handed; and whether there is more to do.
-#[derive(Drop)]
+#[derive(Clone, Copy)]
 struct Held {
     at: usize,
     end: usize,

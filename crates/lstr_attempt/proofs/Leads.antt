@@ -35,7 +35,7 @@ none_kept kept len = record { few = omega arith; room = omega arith; each = λ i
 pub bare_match : (r : Attempt) (e u : ℕ) (kept : List ℕ) (len : ℕ) (whole : Outcome) → MatchesAs r e 0 u → e ≤ len → matched e [] u ≡ whole
     → (outcome_of r kept ≡ whole) × AttemptIn r kept len
 unfolding captures_in
-bare_match r e u kept len whole w h g = repeats.kept-matched r e 0 u kept len [] whole w h (none_kept kept len) refl g
+bare_match r e u kept len whole w h g = repeats.kept_matched r e 0 u kept len [] whole w h (none_kept kept len) refl g
 
 -- ---- The first capture
 
@@ -129,11 +129,11 @@ module _ (in_class : ℕ → ℕ → Bool) (sub : List ℕ) (budget : ℕ) where
         × (max_expand (reach in_class sub budget x (length sub - (s + 1)) (s + 1) (u + 1)) ending shortest 1 cs
         ≡ match in_class sub budget (items pat p) s 1 cs u)
     unfolding repeat_width
-    last_greedy once g l t = absurd (turns.false-true g)
-    last_greedy optional g l t = absurd (turns.false-true g)
+    last_greedy once g l t = absurd (turns.false_true g)
+    last_greedy optional g l t = absurd (turns.false_true g)
     last_greedy star g l t = (s, omega arith, repeats.star_on in_class sub budget x ending s 1 cs (u + 1) _ refl ∙ rest_ends star (e + 1) l t)
     last_greedy plus g l t = (s + 1, omega arith, repeats.plus_on in_class sub budget x ending s 1 cs (u + 1) _ refl ∙ rest_ends plus (e + 1) l t)
-    last_greedy minus g l t = absurd (turns.false-true g)
+    last_greedy minus g l t = absurd (turns.false_true g)
 
 -- ---- The first test
 
@@ -145,9 +145,9 @@ module _ (pat : List ℕ) where
         record {
           single = λ z. (sure z).single;
           fails = λ z n. sure z;
-          skips = λ e. absurd (turns.false-true e);
-          goes = λ e. absurd (turns.false-true e);
-          last = λ e. absurd (turns.false-true e);
+          skips = λ e. absurd (turns.false_true e);
+          goes = λ e. absurd (turns.false_true e);
+          last = λ e. absurd (turns.false_true e);
           captured = start;
         }
 
@@ -161,7 +161,7 @@ module _ (pat : List ℕ) where
     pub position_leads : (q : ℕ) → Then pat 0 position_capture q → SingleAhead pat q 2 a → LeadIn pat (lead_by a false)
     position_leads q t b =
         opening false (sure_two 0 false pat 0 0 a position_capture q (opens_position 0 false (omega arith)) (omega arith) t b)
-        (λ z e. absurd (turns.false-true e))
+        (λ z e. absurd (turns.false_true e))
 
   -- the single stands first
   module _ (x : Single) (e : ℕ) (k : Repeat) (at : Then pat 0 (single x k) (e + repeat_width k)) where
@@ -176,7 +176,7 @@ module _ (pat : List ℕ) where
     pub first_skipped : has_to_fit k ≡ false → GoesOn pat x false (e + 1) 0
     first_skipped r =
         record {
-          inside = (turns.behind_repeat pat 0 e x k at (turns.passed-repeats k r)).1;
+          inside = (turns.behind_repeat pat 0 e x k at (turns.passed_repeats k r)).1;
           on = λ in_class sub budget s t u z h f.
               let y : t ≡ s = omega arith in
               ap (λ (n : ℕ). match in_class sub budget (items pat (e + 1)) n 1 [] (u + 1)) y ∙ turns.unfit_passed in_class sub pat budget 0 s 1 [] u h e x k at r f;
@@ -200,4 +200,4 @@ none_sound s captures z = record { few = omega arith; each = λ i h. absurd (ome
 pub fails_first : (in_class : ℕ → ℕ → Bool) (sub pat : List ℕ) (budget s u : ℕ) (a : Ahead) → Sure pat 0 0 0 false a → u + a.steps ≤ budget
     → fits_at in_class sub (single_of pat a.at a.suffix) s ≡ false → failed (u + a.steps) ≡ match in_class sub budget (items pat 0) s 1 [] u
 fails_first in_class sub pat budget s u a sure h f =
-    sure.fails in_class sub budget s [] u (omega arith) (λ e. absurd (turns.false-true e)) h f ∙ turns.level_opens 0 u _ (omega arith)
+    sure.fails in_class sub budget s [] u (omega arith) (λ e. absurd (turns.false_true e)) h f ∙ turns.level_opens 0 u _ (omega arith)

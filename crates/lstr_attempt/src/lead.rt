@@ -8,7 +8,7 @@ use lstr_item::item::Item;
 use lstr_item::{ahead, item};
 
 // What every attempt of a pattern tests first, and how an attempt goes on from that test.
-#[derive(Drop)]
+#[derive(Clone, Copy)]
 pub struct Lead {
     // the single that is tested first, and the steps until it has failed, which ends the attempt unless it is skipped; no steps where nothing is known
     pub first: Ahead,

@@ -30,7 +30,7 @@ pub fn same_bytes(subject: &[u8], count: usize, from: usize, other: usize) -> bo
 }
 
 // A place, or none: of the subject here, of a set's closing `]` where a pattern is read.
-#[derive(Drop)]
+#[derive(Clone, Copy)]
 pub enum Found {
     At(usize),
     Nothing,

@@ -14,7 +14,7 @@ use luck_token::version;
 
 // luck_trial of include/luck.h. Number 0 is done; a kind from 1 to 10 goes with 29, and 0 with every other number.
 #[repr(C)]
-#[derive(Drop)]
+#[derive(Clone, Copy)]
 pub struct Trial {
     pub number: u32,
     pub kind: u32,

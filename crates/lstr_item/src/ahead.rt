@@ -13,7 +13,7 @@ const LAST_BUT_ONE: u32 = 199;
 
 // The single from `at` up to its suffix fails the rest of a pattern where it does not fit, after so many steps; with no steps nothing is known. Neighbours are of
 // different widths, as in Attempt.
-#[derive(Drop)]
+#[derive(Clone, Copy)]
 pub struct Ahead {
     pub at: usize,
     pub steps: u32,

@@ -12,20 +12,20 @@ pub const UNFINISHED: usize = 0xFFFF_FFFF_FFFF_FFFF;
 
 pub const POSITION: usize = 0xFFFF_FFFF_FFFF_FFFE;
 
-#[derive(Drop)]
+#[derive(Clone, Copy)]
 pub struct Pair {
     pub start: usize,
     pub len: usize,
 }
 
-#[derive(Drop)]
+#[derive(Clone, Copy)]
 pub struct Captures {
     pub count: usize,
     pub pairs: [Pair; 32],
 }
 
 // capture_to_close: the latest open capture.
-#[derive(Drop)]
+#[derive(Clone, Copy)]
 pub enum Close {
     Capture(usize),
     Nothing,
@@ -47,7 +47,7 @@ pub fn capture_to_close(captures: Captures) -> Close
 }
 
 // What a back-reference finds at a place of the subject.
-#[derive(Drop)]
+#[derive(Clone, Copy)]
 pub enum Held {
     // no such capture, or one that is open
     Bad,

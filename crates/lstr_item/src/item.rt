@@ -18,7 +18,7 @@ pub const MISSING_SET: u8 = 3;
 pub const MISSING_ARGUMENTS: u8 = 4;
 
 // What stands after a single: nothing, `?`, `*`, `+` or `-`.
-#[derive(Drop)]
+#[derive(Clone, Copy)]
 pub enum Repeat {
     Once,
     Optional,
@@ -28,7 +28,7 @@ pub enum Repeat {
 }
 
 // What stands at a place of a pattern, with the place after it.
-#[derive(Drop)]
+#[derive(Clone, Copy)]
 pub enum Item {
     End,
     EndAnchor,

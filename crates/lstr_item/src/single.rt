@@ -114,7 +114,7 @@ pub fn is_frontier(
 }
 
 // Where a repeat's tests end, and the steps used then; or that no step was left for one.
-#[derive(Drop)]
+#[derive(Clone, Copy)]
 pub struct Reached {
     pub is_spent: bool,
     pub end: usize,

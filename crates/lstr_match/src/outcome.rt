@@ -22,7 +22,7 @@ pub const TOO_MANY_CAPTURES: u8 = 8;
 
 // By its number: a match has its end and the count of its captures, an error its kind; what an end does not have is 0. Neighbours are of
 // different widths: two of one width are copied as one, which waits for both to be written.
-#[derive(Drop)]
+#[derive(Clone, Copy)]
 pub struct Attempt {
     pub end: usize,
     pub steps: u32,

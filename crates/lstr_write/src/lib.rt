@@ -1,2 +1,4 @@
 // What gsub writes for a match, into a lent output.
+#![tactic(auto)]
+
 pub mod replace;

@@ -8,7 +8,7 @@ ghost use Rattle.lstr_write.specs.Inner.{WroteAs};
 use lstr_item::capture;
 
 // Up to where the output is written now, and 0; or what ended the writing, by number and kind.
-#[derive(Drop)]
+#[derive(Clone, Copy)]
 pub struct Wrote {
     pub at: usize,
     pub number: u8,

@@ -1,5 +1,7 @@
 // The library for hosts, by the names and structs of include/luck.h. A function takes any bytes and any numbers, keeps no state, and
 // writes nothing but the output that decoding and the trial are lent.
+#![tactic(auto)]
+
 ghost use Rattle.std.specs.Prelude.{◌≡◌, true, false, length};
 ghost use Rattle.luck_token.specs.Decode.{decode_string, decoding_of, output_of};
 ghost use Rattle.luck_answer.specs.Answer.{check_answer};

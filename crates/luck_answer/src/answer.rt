@@ -6,7 +6,7 @@ use crate::format_pattern::{Checked, PatternError, Walked};
 
 // luck_answer of include/luck.h.
 #[repr(C)]
-#[derive(Drop)]
+#[derive(Clone, Copy)]
 pub struct Answer {
     pub number: u32,
     pub first: u32,

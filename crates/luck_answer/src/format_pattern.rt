@@ -7,7 +7,7 @@ use luck_utf8::utf8;
 use luck_utf8::utf8::Utf8;
 
 // luck's PatternError. Each `offset` is a byte index into the text, each character a code point.
-#[derive(Drop)]
+#[derive(Clone, Copy)]
 pub enum PatternError {
     TruncatedSpecifier {
         offset: usize,
@@ -107,13 +107,13 @@ pub enum PatternError {
 }
 
 // What the walk over a text finds.
-#[derive(Drop)]
+#[derive(Clone, Copy)]
 pub enum Walked {
     Accepted(usize),
     Refused(PatternError),
 }
 
-#[derive(Drop)]
+#[derive(Clone, Copy)]
 pub enum Checked {
     Accepted(usize),
     Refused(PatternError),
@@ -122,7 +122,7 @@ pub enum Checked {
 }
 
 // Whether a check may walk over a text: a version that is known, and UTF-8.
-#[derive(Drop)]
+#[derive(Clone, Copy)]
 pub enum Text {
     Fine,
     NotUtf8(usize),

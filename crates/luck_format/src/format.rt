@@ -13,14 +13,14 @@ use luck_token::version::Rules;
 use luck_utf8::utf8;
 
 // The place after the modifiers, or a fault in them.
-#[derive(Drop)]
+#[derive(Clone, Copy)]
 pub enum Modifiers {
     EndAt(usize),
     Fault(PatternError),
 }
 
 // What follows: the specifier's width and whether it counts, or a fault.
-#[derive(Drop)]
+#[derive(Clone, Copy)]
 pub enum Specifier {
     Counted { width: usize },
     Literal { width: usize },

@@ -19,7 +19,7 @@ pub const LONGEST: usize = 4005;
 const HEAD: usize = 5;
 
 // The two columns of captures of a replacement.
-#[derive(Drop)]
+#[derive(Clone, Copy)]
 pub enum Columns {
     Unknown,
     Count(usize),

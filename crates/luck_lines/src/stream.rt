@@ -16,7 +16,7 @@ use luck_text::blocks;
 
 // What a call hands on to the next one. `long`: the line that goes on is too long already. How many lines were read and refused so far,
 // up to the most that the totals show.
-#[derive(Drop)]
+#[derive(Clone, Copy)]
 pub struct State {
     pub long: bool,
     pub read: u32,
@@ -24,7 +24,7 @@ pub struct State {
 }
 
 // `used` bytes of the input were taken and `wrote` bytes of the output written.
-#[derive(Drop)]
+#[derive(Clone, Copy)]
 pub struct Fed {
     pub used: usize,
     pub wrote: usize,

@@ -14,7 +14,7 @@ use luck_replacement::replacement::Captures;
 use luck_token::version;
 use luck_token::version::Rules;
 
-#[derive(Drop)]
+#[derive(Clone, Copy)]
 pub enum Check {
     Format,
     // whether its ranges are tested
@@ -26,7 +26,7 @@ pub enum Check {
 }
 
 // What a byte names.
-#[derive(Drop)]
+#[derive(Clone, Copy)]
 pub enum Named {
     Check(Check),
     Nothing,

@@ -22,18 +22,18 @@ use Rattle.luck_pack.specs.declared.pack.Turn.TheVariants as packturn
 
 -- what the code keeps of an option: its size, or the maximum alignment that it sets
 unfoldable pub kept_as : pack.KOption → pack.PackOption → PackOption
-kept_as pack.Kint o = option.Sized (pack.luckSize o)
-kept_as pack.Kuint o = option.Sized (pack.luckSize o)
-kept_as pack.Kfloat o = option.Sized (pack.luckSize o)
-kept_as pack.Knumber o = option.Sized (pack.luckSize o)
-kept_as pack.Kdouble o = option.Sized (pack.luckSize o)
+kept_as pack.Kint o = option.Sized (pack.luck_size o)
+kept_as pack.Kuint o = option.Sized (pack.luck_size o)
+kept_as pack.Kfloat o = option.Sized (pack.luck_size o)
+kept_as pack.Knumber o = option.Sized (pack.luck_size o)
+kept_as pack.Kdouble o = option.Sized (pack.luck_size o)
 kept_as pack.Kchar o = option.FixedString
-kept_as pack.Kstring o = option.Counted (pack.luckSize o)
+kept_as pack.Kstring o = option.Counted (pack.luck_size o)
 kept_as pack.Kzstr o = option.ZeroTerminated
 kept_as pack.Kpadding o = option.Padding
 kept_as pack.Kpaddalign o = option.AlignToNext
 kept_as pack.Knop o =
-    if eqb o.letter (code "!") then option.SetMaxAlignment (pack.numberOr 8 o.number) else option.Control
+    if eqb o.letter (code "!") then option.SetMaxAlignment (pack.number_or 8 o.number) else option.Control
 
 unfoldable pub kept : pack.PackOption → PackOption
 kept o = kept_as (pack.kind_of o.letter) o
@@ -59,23 +59,23 @@ kept_alignment (option.SetMaxAlignment n) = none
 kept_alignment option.Control = none
 
 unfoldable pub kept_turn : Bool → List ℕ → ℕ → pack.PackState → Kept → Turn pack.PackState Answer
-kept_turn packsize text p s (keeps (option.Sized n) width) = pack.aligned p width n s (pack.oneMore s)
+kept_turn packsize text p s (keeps (option.Sized n) width) = pack.aligned p width n s (pack.one_more s)
 kept_turn packsize text p s (keeps (option.Counted n) width) =
-    pack.variable packsize text p (pack.aligned p width n s (pack.oneMore s))
+    pack.variable packsize text p (pack.aligned p width n s (pack.one_more s))
 kept_turn packsize text p s (keeps option.ZeroTerminated width) =
-    pack.variable packsize text p (goes width (pack.oneMore s))
-kept_turn packsize text p s (keeps option.FixedString width) = goes width (pack.oneMore s)
+    pack.variable packsize text p (goes width (pack.one_more s))
+kept_turn packsize text p s (keeps option.FixedString width) = goes width (pack.one_more s)
 kept_turn packsize text p s (keeps option.Padding width) = goes width s
 kept_turn packsize text p s (keeps option.AlignToNext width) =
-    pack.align_to_next pack.luckSize text p s (pack.getoption text (p + 1))
-kept_turn packsize text p s (keeps (option.SetMaxAlignment n) width) = goes width (pack.packState s.values n)
+    pack.align_to_next pack.luck_size text p s (pack.getoption text (p + 1))
+kept_turn packsize text p s (keeps (option.SetMaxAlignment n) width) = goes width (pack.pack_state s.values n)
 kept_turn packsize text p s (keeps option.Control width) = goes width s
 kept_turn packsize text p s (faults answer) = stop answer
 
 -- a size for an option that is made from it: the options of a letter with each number, the default standing for none
 abbrev pub Makes : (ℕ → PackOption) → ℕ → ℕ → Type 0
 Makes make default letter =
-    (number : Option ℕ) → make (pack.numberOr default number) ≡ kept (pack.packOption letter number)
+    (number : Option ℕ) → make (pack.number_or default number) ≡ kept (pack.pack_option letter number)
 
 abbrev pub size_read : (ℕ → PackOption) → Size → Kept
 size_read make (size.Of n width) = keeps (make n) width
@@ -88,7 +88,7 @@ SizeIn (size.Fault e) p len = Unit {0}
 
 -- a letter without a number
 unfoldable pub kept_plain : ℕ → Option PackOption
-kept_plain letter = if among letter pack.bareLetters then some (kept (pack.packOption letter none)) else none
+kept_plain letter = if among letter pack.bare_letters then some (kept (pack.pack_option letter none)) else none
 
 abbrev pub plain_read : Plain → Option PackOption
 plain_read (plain.Of o) = some o
@@ -108,8 +108,8 @@ alignment_read alignment.Refused = none
 
 -- the state after an option with or without a value
 abbrev pub with_value : Bool → ℕ → ℕ → pack.PackState
-with_value true values largest = pack.packState (values + 1) largest
-with_value false values largest = pack.packState values largest
+with_value true values largest = pack.pack_state (values + 1) largest
+with_value false values largest = pack.pack_state values largest
 
 abbrev pub pack_turn_of : ℕ → PackTurn → Turn pack.PackState Answer
 pack_turn_of values (packturn.Goes width has largest) = goes width (with_value has values largest)

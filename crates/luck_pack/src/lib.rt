@@ -1,2 +1,4 @@
 // The check of pack formats, after luck's format_pattern.rs.
+#![tactic(auto)]
+
 pub mod pack;

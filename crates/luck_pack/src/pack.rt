@@ -11,7 +11,7 @@ use luck_text::scan;
 use luck_text::scan::Class;
 use luck_utf8::utf8;
 
-#[derive(Drop)]
+#[derive(Clone, Copy)]
 pub enum PackOption {
     // a number of this many bytes
     Sized(u32),
@@ -32,14 +32,14 @@ pub enum PackOption {
 }
 
 // An option and its width in bytes, or a fault.
-#[derive(Drop)]
+#[derive(Clone, Copy)]
 pub enum Read {
     Option { option: PackOption, width: usize },
     Fault(PatternError),
 }
 
 // A size and the width of its option in bytes, or a fault.
-#[derive(Drop)]
+#[derive(Clone, Copy)]
 pub enum Size {
     Of { size: u32, width: usize },
     Fault(PatternError),
@@ -86,7 +86,7 @@ fn scan_fixed_string(text: &[u8], at: usize) -> Read
 }
 
 // An option of one byte, if the byte is one.
-#[derive(Drop)]
+#[derive(Clone, Copy)]
 pub enum Plain {
     Of(PackOption),
     Other,
@@ -206,7 +206,7 @@ fn is_misaligned(size: u32, alignment: u32) -> bool
 }
 
 // A turn of the walk: the width of what was read, whether it takes a value, and the maximum alignment after it; or a fault.
-#[derive(Drop)]
+#[derive(Clone, Copy)]
 pub enum Turn {
     Goes {
         width: usize,
@@ -231,7 +231,7 @@ fn aligned(at: usize, width: usize, size: u32, alignment: u32, has_value: bool) 
 }
 
 // What `X` may stand before, with its size.
-#[derive(Drop)]
+#[derive(Clone, Copy)]
 pub enum Alignment {
     To(u32),
     Refused,

@@ -11,7 +11,7 @@ use luck_answer::format_pattern;
 use luck_answer::format_pattern::{Checked, PatternError, Text, Walked};
 
 // The place after an escape or a set, or its fault.
-#[derive(Drop)]
+#[derive(Clone, Copy)]
 pub enum Scan {
     Past(usize),
     Fault(PatternError),
@@ -113,7 +113,7 @@ fn opened(count: u32, word: u32) -> u32
 }
 
 // The word after its latest open capture, its highest bit, is closed.
-#[derive(Drop)]
+#[derive(Clone, Copy)]
 pub enum Closing {
     Open(u32),
     Unmatched,

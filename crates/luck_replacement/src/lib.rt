@@ -1,2 +1,4 @@
 // The check of a gsub replacement, after luck's format_pattern.rs.
+#![tactic(auto)]
+
 pub mod replacement;

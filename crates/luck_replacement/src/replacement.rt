@@ -12,7 +12,7 @@ use luck_text::{blocks, scan};
 use luck_token::version;
 
 // How many captures the pattern has, where that is known.
-#[derive(Drop)]
+#[derive(Clone, Copy)]
 pub enum Captures {
     Known(usize),
     Unknown,

@@ -7,7 +7,7 @@ use luck_token::string;
 
 // luck_decoded
 #[repr(C)]
-#[derive(Drop)]
+#[derive(Clone, Copy)]
 pub struct Decoded {
     pub number: u32,
     pub offset: usize,

@@ -4,7 +4,7 @@ ghost use Rattle.luck_text.specs.Bytes.{byte_at, between, part, among, is_digit,
 ghost use Rattle.luck_text.specs.Scan.{in_class, most, grown};
 
 // What a run is made of.
-#[derive(Drop)]
+#[derive(Clone, Copy)]
 pub enum Class {
     Digit,
     HexDigit,
@@ -172,7 +172,7 @@ pub fn numeral(text: &[u8], from: usize, to: usize, base: u32) -> u32
 }
 
 // Digits in a row: how many they are, and the number that they spell, or 80000000 (hexadecimal) where it is larger.
-#[derive(Drop)]
+#[derive(Clone, Copy)]
 pub struct Number {
     pub count: usize,
     pub value: u32,

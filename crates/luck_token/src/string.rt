@@ -17,7 +17,7 @@ use luck_utf8::utf8;
 use luck_utf8::utf8::Utf8;
 
 // Where the text between a quoted literal's quotes stands. Any other text has none.
-#[derive(Drop)]
+#[derive(Clone, Copy)]
 pub enum ShortString {
     Body { start: usize, end: usize },
     Other,
@@ -53,7 +53,7 @@ pub fn short_string_body(raw: &[u8]) -> ShortString
 }
 
 // What the byte after a backslash begins.
-#[derive(Drop)]
+#[derive(Clone, Copy)]
 pub enum Escape {
     // one byte behind the backslash, for one byte: `\n`, `\"`
     Simple,
@@ -72,7 +72,7 @@ pub enum Escape {
 }
 
 // A piece of the text, its width, and what it stands for.
-#[derive(Drop)]
+#[derive(Clone, Copy)]
 pub enum Piece {
     // the byte behind the backslash: what it stands for is looked up where it is written, so that a reading that only
     // measures does not branch on it
@@ -362,7 +362,7 @@ fn has_special(body: &[u8], long: bool) -> bool
     blocks::has_byte(body, b'\\')
 }
 
-#[derive(Drop)]
+#[derive(Clone, Copy)]
 pub enum Size {
     Length(usize),
     Malformed,
@@ -433,7 +433,7 @@ fn write(body: &[u8], long: bool, rules: Rules, output: &mut [u8]) -> Size
 }
 
 // The value's length, with its bytes at the front of the output, or a refusal, with the output untouched.
-#[derive(Drop)]
+#[derive(Clone, Copy)]
 pub enum Decoded {
     Value(usize),
     UnknownVersion,

@@ -4,7 +4,7 @@ ghost use Rattle.luck_token.specs.Version.{is_version, rules_of};
 
 // A row of the table, one entry per rule, by luck's names without `has_`.
 #[repr(C)]
-#[derive(Drop)]
+#[derive(Clone, Copy)]
 pub struct Rules {
     pub strict_escapes: bool,
     // `\x` and, with luck's has_whitespace_escape, `\z`

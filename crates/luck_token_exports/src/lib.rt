@@ -1,5 +1,7 @@
 // What luck_token has in common with luck's Rust, and the UTF-8 test, as C functions, so that the two can be compared in one process.
 // The decoding is a function of the library for hosts.
+#![tactic(auto)]
+
 ghost use Rattle.std.specs.Prelude.{◌≡◌, length};
 ghost use Rattle.luck_text.specs.Bytes.{is_lua_whitespace};
 ghost use Rattle.luck_token.specs.Literal.{short_string_body};
@@ -60,7 +62,7 @@ pub extern "C" fn luck_token_strip_line_break(version: u32, text: &[u8]) -> usiz
 
 // Where the text between a quoted literal's quotes stands; zeros where the text is no such literal.
 #[repr(C)]
-#[derive(Drop)]
+#[derive(Clone, Copy)]
 pub struct Body {
     pub is_short: bool,
     pub start: usize,

@@ -8,21 +8,21 @@ ghost use Rattle.luck_utf8.specs.Utf8.{sequence as sequenceOf};
 
 use luck_text::scan;
 
-#[derive(Drop)]
+#[derive(Clone, Copy)]
 pub enum Utf8 {
     Valid,
     IllFormed(usize),
 }
 
 #[repr(C)]
-#[derive(Drop)]
+#[derive(Clone, Copy)]
 pub struct Char {
     pub code: u32,
     pub width: usize,
 }
 
 // The range of the second byte of a sequence. The bytes after it are 80 to BF.
-#[derive(Drop)]
+#[derive(Clone, Copy)]
 struct Second {
     low: u8,
     high: u8,

@@ -10,7 +10,7 @@ use stored_questions::{question, real_lua};
 use stored_records::tally::Turn;
 
 // Whose answers stand behind the questions.
-#[derive(Drop)]
+#[derive(Clone, Copy)]
 pub enum Answers {
     Checks,
     LiteralChecks,

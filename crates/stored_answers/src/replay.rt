@@ -12,7 +12,7 @@ use stored_records::tally::{Replay, Turn};
 use stored_trials::trials;
 
 // What the records of a file are.
-#[derive(Drop)]
+#[derive(Clone, Copy)]
 pub enum Format {
     Literals,
     Checks,

@@ -2,7 +2,7 @@
 ghost use Rattle.std.specs.Prelude.{length};
 ghost use Rattle.stored_files.specs.Loads.{Loads};
 
-#[derive(Drop)]
+#[derive(Clone, Copy)]
 pub enum Loaded {
     Length(usize),
     Missing,

@@ -1,2 +1,4 @@
 // Stored answers of decode_string, replayed one record at a time.
+#![tactic(auto)]
+
 pub mod literals;

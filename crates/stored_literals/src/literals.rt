@@ -10,14 +10,14 @@ use stored_records::tally::Turn;
 use stored_records::{bytes, output};
 
 // An answer in numbers: a refusal's number and offset, or 0, 0 and how many bytes the value has.
-#[derive(Drop)]
+#[derive(Clone, Copy)]
 struct Answer {
     number: u32,
     offset: usize,
     written: usize,
 }
 
-#[derive(Drop)]
+#[derive(Clone, Copy)]
 struct Record {
     version: u32,
     room: usize,
@@ -30,7 +30,7 @@ struct Record {
     next: usize,
 }
 
-#[derive(Drop)]
+#[derive(Clone, Copy)]
 enum Read {
     Whole(Record),
     Bad,

@@ -11,7 +11,7 @@ use luck_linter::rules::format_string::Literal;
 use luck_replacement::replacement::Captures;
 use stored_records::bytes;
 
-#[derive(Drop)]
+#[derive(Clone, Copy)]
 pub struct Question {
     pub kind: u8,
     pub version: u32,
@@ -22,7 +22,7 @@ pub struct Question {
     pub next: usize,
 }
 
-#[derive(Drop)]
+#[derive(Clone, Copy)]
 pub enum Asked {
     Whole(Question),
     Bad,

@@ -1,4 +1,6 @@
 // What every kind of stored file has: its numbers and runs of bytes, the output that is written to, and how many of its records ran and differ.
+#![tactic(auto)]
+
 pub mod bytes;
 pub mod output;
 pub mod tally;

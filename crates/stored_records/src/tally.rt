@@ -2,7 +2,7 @@
 ghost use Rattle.std.specs.Prelude.{◌≡◌, ◌+◌, ◌<◌, ◌≤◌};
 ghost use Rattle.stored_records.specs.Tally.{differing, first_differing, first_after};
 
-#[derive(Drop)]
+#[derive(Clone, Copy)]
 pub struct Tally {
     pub ran: usize,
     pub differ: usize,
@@ -11,14 +11,14 @@ pub struct Tally {
 }
 
 // A record that was replayed, and the place of the next one.
-#[derive(Drop)]
+#[derive(Clone, Copy)]
 pub enum Turn {
     Record { agrees: bool, next: usize },
     // cut off, or in contradiction to itself
     Bad,
 }
 
-#[derive(Drop)]
+#[derive(Clone, Copy)]
 pub enum Replay {
     Whole(Tally),
     BadFile,

@@ -1,2 +1,4 @@
 // Stored trials of gsub, replayed one record at a time.
+#![tactic(auto)]
+
 pub mod trials;

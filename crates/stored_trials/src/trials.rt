@@ -12,7 +12,7 @@ use stored_records::tally::Turn;
 use stored_records::{bytes, output};
 
 // The places of the three texts; the third ends at the answer.
-#[derive(Drop)]
+#[derive(Clone, Copy)]
 struct Texts {
     pattern: usize,
     replacement: usize,
@@ -20,7 +20,7 @@ struct Texts {
     answer: usize,
 }
 
-#[derive(Drop)]
+#[derive(Clone, Copy)]
 struct Answer {
     number: u32,
     kind: u32,
@@ -29,7 +29,7 @@ struct Answer {
     written: usize,
 }
 
-#[derive(Drop)]
+#[derive(Clone, Copy)]
 struct Record {
     versions: u32,
     known: u32,
@@ -42,7 +42,7 @@ struct Record {
     next: usize,
 }
 
-#[derive(Drop)]
+#[derive(Clone, Copy)]
 enum Read {
     Whole(Record),
     Bad,

@@ -1,5 +1,7 @@
 // Replays stored answers, one file for each kind, and prints how many ran and how many differ. Each line is compared with
 // what `stdout` holds, so a file that is short of records is noticed as well as an answer that differs.
+#![tactic(auto)]
+
 use stored_answers::replay;
 use stored_answers::replay::Format;
 

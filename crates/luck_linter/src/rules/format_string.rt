@@ -38,7 +38,7 @@ use luck_utf8::utf8;
 
 // luck_literal of include/luck.h.
 #[repr(C)]
-#[derive(Drop)]
+#[derive(Clone, Copy)]
 pub struct Literal {
     pub number: u32,
     pub first: u32,
@@ -114,7 +114,7 @@ fn is_numeric_escape(byte: u8) -> bool
 }
 
 // A body's backslashes: none; some, but no escape that spells a byte by its number; such an escape.
-#[derive(Drop)]
+#[derive(Clone, Copy)]
 pub enum Escapes {
     Nothing,
     Plain,

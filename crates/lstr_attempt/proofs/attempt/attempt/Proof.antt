@@ -79,13 +79,13 @@ returns c = repeats.ended _ _ _ _ _ c.spent.ensures (turns.steps_spent _ _ c.bef
 returns_2 : tie.Need-returns-2 invariant-items decreases-items
 returns_2 c =
     let d = c.before.before.before in
-    leads.bare-match _ _ _ _ _ _ c.matched.ensures (turn d).items.invariant.2
+    leads.bare_match _ _ _ _ _ _ c.matched.ensures (turn d).items.invariant.2
     (turns.at_end _ _ _ _ _ _ _ _ _ (paid d) (item d _ c.before.enum_told.given.1) ∙ (turn d).items.invariant.0)
 
 returns_3 : tie.Need-returns-3 invariant-items decreases-items
 returns_3 c =
     let d = c.before.before.before.before in
-    leads.bare-match _ _ _ _ _ _ c.matched2.ensures (turn d).items.invariant.2
+    leads.bare_match _ _ _ _ _ _ c.matched2.ensures (turn d).items.invariant.2
     (turns.at_anchor _ _ _ _ _ _ _ _ _ (paid d) (item d _ c.before.before.enum-told2.given.1) c.before.if2.true ∙ (turn d).items.invariant.0)
 
 returns_4 : tie.Need-returns-4 invariant-items decreases-items
@@ -105,7 +105,7 @@ returns_5 c =
     ∙ (turn (read f)).items.inv.0)
 
 passed_over : (c : tie.Else4 invariant-items decreases-items) → Behind c.before.before.before
-passed_over c = behind_repeat c.before.before.before (turns.passed-repeats (kind c.before.before.before) (sym c.before.has-to-fit.ensures ∙ c.if4.false))
+passed_over c = behind_repeat c.before.before.before (turns.passed_repeats (kind c.before.before.before) (sym c.before.has-to-fit.ensures ∙ c.if4.false))
 
 add_at : tie.Need-overflow-add-at invariant-items decreases-items
 add_at c = omega (arith, passed_over c)

@@ -48,7 +48,7 @@ returns_3 c =
     let h = c.before.before.before.before.before.if2.true in
     let f = sym c.before.before.before.before.fits2.ensures ∙ c.before.before.before.if3.false in
     repeats.ended _ _ _ _ _ c.failed.ensures
-    (leads.fails-first (class_in a.classes.now) a.subject.now a.pattern.now a.budget a.place a.steps a.lead.first (q.0.fails z c.before.before.if4.false) (omega (arith, q.2)) f)
+    (leads.fails_first (class_in a.classes.now) a.subject.now a.pattern.now a.budget a.place a.steps a.lead.first (q.0.fails z c.before.before.if4.false) (omega (arith, q.2)) f)
 
 returns_4 : tie.Need-returns-4
 returns_4 c = repeats.answered _ _ _ _ _ _ c.answer3.ensures c.before.attempt-from2.ensures refl

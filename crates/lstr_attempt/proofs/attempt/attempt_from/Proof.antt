@@ -12,7 +12,7 @@ use Rattle.lstr_attempt.proofs.attempt.attempt_from.Tie as tie
 returns : tie.Need-returns
 returns c =
     let a = c.before.before.before.before.before.args in
-    leads.bare-match _ _ _ _ _ _ c.matched.ensures c.before.before.before.before.before.requires.1
+    leads.bare_match _ _ _ _ _ _ c.matched.ensures c.before.before.before.before.before.requires.1
     (turns.at_end (class_in a.classes.now) a.subject.now a.pattern.now a.budget a.at a.place 1 _ a.steps c.before.if2.true (items_end a.pattern.now a.at c.before.before.if1.true))
 
 returns_2 : tie.Need-returns-2

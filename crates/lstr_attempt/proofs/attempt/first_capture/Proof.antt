@@ -17,7 +17,7 @@ returns : tie.Need-returns
 returns c =
     let a = c.before.before.before.before.before.before.args in
     repeats.answered _ _ _ _ _ _ c.answer.ensures c.before.do-match.ensures
-    (leads.first-starts _ _ c.before.before.before.one-capture.ensures.0 (match (class_in a.classes.now) a.subject.now a.budget (items a.pattern.now a.next)) a.place a.steps)
+    (leads.first_starts _ _ c.before.before.before.one-capture.ensures.0 (match (class_in a.classes.now) a.subject.now a.budget (items a.pattern.now a.next)) a.place a.steps)
 
 pub first_capture_spec : {M : Type 1} → statement M
 first_capture_spec =

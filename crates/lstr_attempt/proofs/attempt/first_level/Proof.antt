@@ -11,7 +11,7 @@ use Rattle.lstr_attempt.proofs.attempt.first_level.Tie as tie
 do_match_requires : tie.Need-do-match-requires
 do_match_requires c κs =
     let q = c.before.before.before.before.requires in
-    (q.0, q.1, leads.none-sound _ _ c.before.no-captures.ensures)
+    (q.0, q.1, leads.none_sound _ _ c.before.no-captures.ensures)
 
 returns : tie.Need-returns
 returns c =
@@ -19,7 +19,7 @@ returns c =
     let n = c.before.before.before.no-captures in
     let r = c.before.do-match.ensures in
     repeats.answered _ _ _ _ _ _ c.answer.ensures
-    (leads.first-level (class_in a.classes.now) a.subject.now a.budget (items a.pattern.now a.at) a.place a.steps n.result n.ensures _ r.0, r.1) refl
+    (leads.first_level (class_in a.classes.now) a.subject.now a.budget (items a.pattern.now a.at) a.place a.steps n.result n.ensures _ r.0, r.1) refl
 
 pub first_level_spec : {M : Type 1} → statement M
 first_level_spec =

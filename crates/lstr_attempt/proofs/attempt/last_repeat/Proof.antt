@@ -26,7 +26,7 @@ returns_3 c kept shortest h =
     let a = c.before.before.before.before.before.before.before.before.args in
     let r = c.before.before.before.before.before.reach in
     let g : shortest ≤ r.result.end = omega (arith, h, r.ensures.1) in
-    leads.bare-match _ _ _ _ _ _ c.matched.ensures r.ensures.1.1 (leads.end_paid (class_in a.classes.now) a.subject.now a.budget _ _ _ r.result r.ensures.0 shortest _ c.before.before.before.before.if1.false g c.before.before.if2.false)
+    leads.bare_match _ _ _ _ _ _ c.matched.ensures r.ensures.1.1 (leads.end_paid (class_in a.classes.now) a.subject.now a.budget _ _ _ r.result r.ensures.0 shortest _ c.before.before.before.before.if1.false g c.before.before.if2.false)
 
 pub last_repeat_spec : {M : Type 1} → statement M
 last_repeat_spec =

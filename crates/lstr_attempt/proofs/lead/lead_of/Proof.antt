@@ -31,8 +31,8 @@ returns c =
       goes = λ o. leads.first_passed a.pattern.now _ _ k it.on (sym c.before.is-once.ensures ∙ o);
       last = λ e.
           ⊎_elim (λ w. leads.only_greedy a.pattern.now _ _ k it.on (sym c.before.before.before.is-greedy.ensures ∙ w.0.taken) (leb-true _ _ (sym w.1 ∙ e)))
-          (λ w. absurd (turns.false-true (sym w.1 ∙ e))) c.before.before.if1.branch;
-      captured = λ h e. absurd (turns.false-true e);
+          (λ w. absurd (turns.false_true (sym w.1 ∙ e))) c.before.before.if1.branch;
+      captured = λ h e. absurd (turns.false_true e);
     }
 
 returns_2 : tie.Need-returns-2

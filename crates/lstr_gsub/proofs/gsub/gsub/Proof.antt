@@ -23,7 +23,7 @@ returns_2 c =
     let a = c.before.before.before.before.before.before.before.before.before.before.before.before.before.before.args in
     let q = c.before.before.run-rounds.ensures in
     let e = rounds.gsub_free a.version a.pattern.now a.replacement.now a.subject.now a.budget (length a.output.now) (sym c.before.before.before.before.before.before.before.before.before.is-version.ensures ∙ c.before.before.before.before.before.before.before.before.if1.true) _ c.before.before.before.before.before.before.rules-of.ensures _ c.before.before.before.before.before.before.before.classes.ensures
-    (⊎_elim (λ x. x.2.left) (λ x. rounds.first-none a.pattern.now x.left) c.before.before.before.before.before.if2.branch) in
+    (⊎_elim (λ x. x.2.left) (λ x. rounds.first_none a.pattern.now x.left) c.before.before.before.before.before.if2.branch) in
     (q.is ∙ ap report e, q.output ∙ ap (output_after a.output.now) e)
 
 returns_3 : tie.Need-returns-3

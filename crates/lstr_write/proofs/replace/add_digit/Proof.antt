@@ -37,14 +37,14 @@ add-capture-requires : tie.Need-add-capture-requires
 add-capture-requires c κs =
     let a = c.before.before.before.before.before.before.before.before.args in
     let q = c.before.before.before.before.before.before.before.before.requires in
-    (q.0, replaced.pair-kept (length a.subject.now) a.count a.kept.now (a.digit - 1) q.4 c.before.before.before.before.if2.true)
+    (q.0, replaced.pair_kept (length a.subject.now) a.count a.kept.now (a.digit - 1) q.4 c.before.before.before.before.if2.true)
 
 returns_2 : tie.Need-returns-2
 returns_2 c =
     let a = c.before.before.before.before.before.before.before.before.before.before.before.args in
     let few = c.before.before.before.before.before.before.before.before.before.before.before.requires.4.few in
     outputs.known_as _ _ _ _ _ _ c.before.before.add-capture.ensures
-    (replaced.digit-kept a.subject.now (length a.output.now) a.place a.end a.count a.kept.now a.digit (take a.at a.output.now) (omega (arith, few, c.before.before.before.before.before.before.slots.given)) c.before.before.before.before.before.before.before.before.if1.false c.before.before.before.before.before.before.before.if2.true)
+    (replaced.digit_kept a.subject.now (length a.output.now) a.place a.end a.count a.kept.now a.digit (take a.at a.output.now) (omega (arith, few, c.before.before.before.before.before.before.slots.given)) c.before.before.before.before.before.before.before.before.if1.false c.before.before.before.before.before.before.before.if2.true)
 
 sub-append-2 : tie.Need-overflow-sub-append-2
 sub-append-2 c = c.before.before.before.before.before.before.requires.1
@@ -64,7 +64,7 @@ returns_3 c =
     let few = c.before.before.before.before.before.before.before.before.before.before.requires.4.few in
     outputs.known_as _ _ _ _ _ _ c.before.before.append2.ensures
     (replaced.digit_whole a.subject.now (length a.output.now) a.place a.end (captures_in a.count a.kept.now) a.digit (take a.at a.output.now) c.before.before.before.before.before.before.before.if1.false
-    (omega (arith, few, c.before.before.before.before.before.before.if2.false, replaced.captures-few a.count a.kept.now)) (omega (arith, c.before.before.before.before.before.before.before.if1.false)))
+    (omega (arith, few, c.before.before.before.before.before.before.if2.false, replaced.captures_few a.count a.kept.now)) (omega (arith, c.before.before.before.before.before.before.before.if1.false)))
 
 returns_4 : tie.Need-returns-4
 returns_4 c =
@@ -72,7 +72,7 @@ returns_4 c =
     let few = c.before.before.before.before.before.requires.4.few in
     outputs.raises a.at a.output.now 29 10 _ c.before.before.before.before.before.requires.0 (λ e. omega arith)
     (replaced.digit_none a.subject.now (length a.output.now) a.place a.end (captures_in a.count a.kept.now) a.digit (take a.at a.output.now) c.before.before.if1.false
-    (omega (arith, few, c.before.if2.false, replaced.captures-few a.count a.kept.now)) (λ e. c.if3.false (omega arith)))
+    (omega (arith, few, c.before.if2.false, replaced.captures_few a.count a.kept.now)) (λ e. c.if3.false (omega arith)))
 
 pub add_digit_spec : {M : Type 1} → statement M
 add_digit_spec =

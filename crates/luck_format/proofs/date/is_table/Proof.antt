@@ -19,7 +19,7 @@ unfolding is_table
 returns_2 c = c.is-star-t2.ensures ∙ sym (if_false _ _ _ (ne_eqb (byte_at c.before.before.before.before.before.args.text.now 0) 33 c.before.if2.false))
 
 returns_3 : tie.Need-returns-3
-returns_3 c = laws.empty-no-table c.before.before.args.text.now c.if1.false
+returns_3 c = laws.empty_no_table c.before.before.args.text.now c.if1.false
 
 pub is_table_spec : {M : Type 1} → statement M
 is_table_spec =

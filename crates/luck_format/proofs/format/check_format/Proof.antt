@@ -20,7 +20,7 @@ flags-in c =
 no_zero : (c : tie.Joined2) → byte_at c.before.before.before.before.args.text.now (c.before.before.before.before.args.at + c.before.flags-run.result) ≡ 48 → ⊥
 no_zero c =
     let a = c.before.before.before.before.args in
-    ⊎_elim (λ w. w.2.left) (λ w. formats.none-there a.text.now (a.at + c.before.flags-run.result) 48 (omega arith) w.left) c.if2.branch
+    ⊎_elim (λ w. w.2.left) (λ w. formats.none_there a.text.now (a.at + c.before.flags-run.result) 48 (omega arith) w.left) c.if2.branch
 
 -- a width behind them
 widened : (c : tie.After-after-two-digits) → formats.Widened c.before.before.before.before.before.args.conversion c.before.before.before.before.before.args.text.now c.before.before.before.before.before.args.at c.after-two-digits.result
@@ -59,7 +59,7 @@ returns_6 : tie.Need-returns-6
 returns_6 c = formats.no_dot (widened c.before.before.before) c.if5.false
 
 returns_7 : tie.Need-returns-7
-returns_7 c = formats.no_dot (widened c.before) (formats.none-there c.before.before.before.before.before.before.args.text.now c.before.after-two-digits.result 46 (omega arith) c.if4.false)
+returns_7 c = formats.no_dot (widened c.before) (formats.none_there c.before.before.before.before.before.before.args.text.now c.before.after-two-digits.result 46 (omega arith) c.if4.false)
 
 pub check_format_spec : {M : Type 1} → statement M
 check_format_spec =

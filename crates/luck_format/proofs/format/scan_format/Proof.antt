@@ -33,7 +33,7 @@ returns_2 c =
     let a = c.before.before.before.before.before.args in
     let n = c.before.before.run_in in (
       c.scan_width_lem.ensures.0 ∙ formats.few_flags a.text.now a.at n.result n.ensures c.before.if1.false,
-      formats.from-earlier c.scan_width_lem.result a.at (a.at + n.result) _ (omega arith) c.scan_width_lem.ensures.1,
+      formats.from_earlier c.scan_width_lem.result a.at (a.at + n.result) _ (omega arith) c.scan_width_lem.ensures.1,
     )
 
 pub scan_format_spec : {M : Type 1} → statement M

@@ -19,7 +19,7 @@ returns_2 c =
     let a = c.before.before.before.before.before.before.before.args in
     let n = c.before.before.before.before.before.run in (
       c.scan_precision_lem.ensures.0 ∙ formats.width_and_dot a.text.now a.at n.result n.ensures c.before.before.before.before.if1.false c.before.if3.true,
-      formats.from-earlier c.scan_precision_lem.result a.at (a.at + n.result) _ (omega arith) c.scan_precision_lem.ensures.1,
+      formats.from_earlier c.scan_precision_lem.result a.at (a.at + n.result) _ (omega arith) c.scan_precision_lem.ensures.1,
     )
 
 returns_3 : tie.Need-returns-3
@@ -34,7 +34,7 @@ returns_4 : tie.Need-returns-4
 returns_4 c =
     let a = c.before.before.before.before.args in
     let n = c.before.before.run in (
-      formats.width_alone a.text.now a.at n.result n.ensures c.before.if1.false (formats.none-there a.text.now (a.at + n.result) 46 (omega arith) c.if2.false),
+      formats.width_alone a.text.now a.at n.result n.ensures c.before.if1.false (formats.none_there a.text.now (a.at + n.result) 46 (omega arith) c.if2.false),
       (omega arith, formats.inside a.text.now a.at n.result is_digit n.ensures (omega arith)),
     )
 

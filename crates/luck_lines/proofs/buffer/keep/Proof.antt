@@ -22,7 +22,7 @@ loop_holds c = (omega arith, omega arith, omega arith, refl, refl, refl)
 returns : tie.Need-returns invariant-loop decreases-loop
 returns c = let a = c.before.before.before.args in
     let l = c.before.before.loop in
-    buffers.kept a.buffer.now l.buffer a.at l.to l.invariant.3 l.invariant.4 l.invariant.5 a.end l.invariant.2 (buffers.buffer-ends a.buffer.now a.at l.to a.end l.invariant.1 (omega (arith, l.invariant.0, l.invariant.3, c.if1.true)))
+    buffers.kept a.buffer.now l.buffer a.at l.to l.invariant.3 l.invariant.4 l.invariant.5 a.end l.invariant.2 (buffers.buffer_ends a.buffer.now a.at l.to a.end l.invariant.1 (omega (arith, l.invariant.0, l.invariant.3, c.if1.true)))
 
 loop_again : tie.Need-loop-preserved invariant-loop decreases-loop
 loop_again c = let a = c.before.before.before.before.args in

@@ -6,10 +6,10 @@ use Rattle.luck_lines.proofs.stream.answer_after.Statement.{statement}
 use Rattle.luck_lines.proofs.stream.answer_after.Tie as tie
 
 returns : tie.Need-returns
-returns c = c.refused.ensures ∙ streams.of-long _ _ c.before.if1.true
+returns c = c.refused.ensures ∙ streams.of_long _ _ c.before.if1.true
 
 returns_2 : tie.Need-returns-2
-returns_2 c = c.check-line.ensures ∙ streams.of-short _ _ c.before.if1.false
+returns_2 c = c.check-line.ensures ∙ streams.of_short _ _ c.before.if1.false
 
 pub answer_after_spec : {M : Type 1} → statement M
 answer_after_spec = tie.close (tie.spec (λ c κs. search rules) returns (λ c κs. search rules) returns_2)

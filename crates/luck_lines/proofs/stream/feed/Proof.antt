@@ -34,10 +34,10 @@ returns_2 c = let a = c.before.before.before.before.before.before.before.args in
     (streams.no_room a.input.now (length a.output.now) l.used (take l.wrote l.output) l.so_far c.before.before.before.loop-test.true (λ e. c.before.if1.false (c.before.before.line-end.ensures ∙ e)) (omega (arith, c.if2.true, length-take-le l.wrote l.output l.invariant.1, l.invariant.2)))
 
 part-put-row-end : tie.Need-slice-bounds-put-row-end invariant-loop decreases-loop
-part-put-row-end c = omega (arith, c.before.before.line-end.ensures, streams.line-inside c.before.before.before.before.before.before.before.args.input.now c.before.before.before.before.loop.used c.before.before.before.before.loop.invariant.0)
+part-put-row-end c = omega (arith, c.before.before.line-end.ensures, streams.line_inside c.before.before.before.before.before.before.before.args.input.now c.before.before.before.before.loop.used c.before.before.before.before.loop.invariant.0)
 
 add-used : tie.Need-overflow-add-used invariant-loop decreases-loop
-add-used c = omega (arith, c.before.before.before.before.before.before.before.before.line-end.ensures, streams.line-inside c.before.before.before.before.before.before.before.before.before.before.before.before.before.args.input.now c.before.before.before.before.before.before.before.before.before.before.loop.used c.before.before.before.before.before.before.before.before.before.before.loop.invariant.0)
+add-used c = omega (arith, c.before.before.before.before.before.before.before.before.line-end.ensures, streams.line_inside c.before.before.before.before.before.before.before.before.before.before.before.before.before.args.input.now c.before.before.before.before.before.before.before.before.before.before.loop.used c.before.before.before.before.before.before.before.before.before.before.loop.invariant.0)
 
 loop_again : tie.Need-loop-preserved invariant-loop decreases-loop
 loop_again c = let a = c.before.before.before.before.before.before.before.before.before.before.before.before.before.args in
@@ -46,7 +46,7 @@ loop_again c = let a = c.before.before.before.before.before.before.before.before
     let put = c.before.before.before.put-row in
     let turn_on = streams.line_on a.input.now a.output.now l.output l.used l.wrote a.state l.so_far l.invariant.0 l.invariant.1 l.invariant.2 l.invariant.3 l.invariant.4 end.result end.ensures c.before.before.before.before.before.before.before.before.before.loop-test.true c.before.before.before.before.before.before.before.if1.false (omega (arith, c.before.before.before.before.before.before.if2.false)) put.new.1.0 put.ensures.1 put.result c.counted.result put.ensures.0 c.counted.ensures in
     let turn_kept = streams.line_kept a.input.now a.output.now l.output l.used l.wrote a.state l.so_far l.invariant.0 l.invariant.1 l.invariant.2 l.invariant.3 l.invariant.4 end.result end.ensures c.before.before.before.before.before.before.before.before.before.loop-test.true c.before.before.before.before.before.before.before.if1.false (omega (arith, c.before.before.before.before.before.before.if2.false)) put.new.1.0 put.ensures.1 in
-    let inside = streams.line-inside a.input.now l.used l.invariant.0 in
+    let inside = streams.line_inside a.input.now l.used l.invariant.0 in
     (omega (arith, inside, end.ensures, c.before.before.before.before.before.before.before.if1.false), search rules, search rules, turn_kept, turn_on)
 
 returns_3 : tie.Need-returns-3 invariant-loop decreases-loop

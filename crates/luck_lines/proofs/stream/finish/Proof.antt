@@ -27,7 +27,7 @@ returns_3 c =
     let a = c.before.before.before.before.before.before.before.before.before.args in
     let h = c.before.before.before.before.before.before.if1.false in
     let e = streams.finish_empty a.state a.left.now (length a.output.now) h c.before.before.before.before.before.if2.false c.before.before.before.before.if3.true in
-    let f = streams.bytes-front 15 _ _ a.output.now _ e (totals_length a.state.read a.state.refused) c.before.before.put-totals.ensures in
+    let f = streams.bytes_front 15 _ _ a.output.now _ e (totals_length a.state.read a.state.refused) c.before.before.put-totals.ensures in
     (f.0, (f.1, omega arith))
 
 returns_4 : tie.Need-returns-4

@@ -18,7 +18,7 @@ decreases-loop input at end₀ end = length input - end
 loop_holds : tie.Need-loop-init invariant-loop decreases-loop
 loop_holds c =
     let e = c.blocks-end.ensures in
-    (e.0, e.1, streams.blocks-passed c.before.before.args.input.now c.before.before.args.at c.blocks-end.result e.0 e.1 e.2)
+    (e.0, e.1, streams.blocks_passed c.before.before.args.input.now c.before.before.args.at c.blocks-end.result e.0 e.1 e.2)
 
 returns : tie.Need-returns invariant-loop decreases-loop
 returns c = omega (arith, c.before.before.before.loop.invariant.2, streams.line_ends c.before.before.before.before.before.before.args.input.now c.before.before.before.loop.end c.before.before.loop-test.true c.if1.true)

@@ -12,7 +12,7 @@ returns c =
     let all = c.before.before.before.counted in
     let behind = c.before.before.put-totals in (
       refl,
-      streams.last-put a.state all.result put.result a.left.now a.output.now put.new.1.0 behind.new.0 (search rules) put.ensures.0 all.ensures put.ensures.1 behind.ensures,
+      streams.last_put a.state all.result put.result a.left.now a.output.now put.new.1.0 behind.new.0 (search rules) put.ensures.0 all.ensures put.ensures.1 behind.ensures,
     )
 
 pub put_last_spec : {M : Type 1} → statement M

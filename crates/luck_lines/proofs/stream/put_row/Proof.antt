@@ -14,7 +14,7 @@ returns c =
     let told = c.before.before.before.before.before.before.answer-after.ensures in
     let made = c.before.before.before.before.before.of-answer in (
       ap (λ (x : Answer). x.number) told,
-      streams.bytes-put 19 made.result _ a.output.now _ (made.ensures ∙ ap answer_row told) (streams.answer-length (answer_after a.long a.line.now)) c.before.before.copy.ensures.1,
+      streams.bytes_put 19 made.result _ a.output.now _ (made.ensures ∙ ap answer_row told) (streams.answer_length (answer_after a.long a.line.now)) c.before.before.copy.ensures.1,
     )
 
 pub put_row_spec : {M : Type 1} → statement M

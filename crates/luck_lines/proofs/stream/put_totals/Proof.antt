@@ -9,7 +9,7 @@ returns : tie.Need-returns
 returns c =
     let a = c.before.before.before.before.before.before.before.args in
     let made = c.before.before.before.before.before.of-totals in
-    streams.bytes-put 15 made.result _ a.output.now _ made.ensures (totals_length a.state.read a.state.refused) c.before.before.copy.ensures.1
+    streams.bytes_put 15 made.result _ a.output.now _ made.ensures (totals_length a.state.read a.state.refused) c.before.before.copy.ensures.1
 
 pub put_totals_spec : {M : Type 1} → statement M
 put_totals_spec =

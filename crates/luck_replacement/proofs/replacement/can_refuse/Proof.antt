@@ -15,7 +15,7 @@ returns c = ap (λ strict. strict || not (allows_digit (some c.before.args.limit
 returns_2 : tie.Need-returns-2
 unfolding can_refuse
 returns_2 c =
-    laws.below-nine c.before.args.limit
+    laws.below_nine c.before.args.limit
     ∙ ap (λ strict. strict || not (allows_digit (some c.before.args.limit) 9)) (sym c.if1.false)
 
 pub can_refuse_spec : {M : Type 1} → statement M

@@ -11,7 +11,7 @@ returns c = absurd (values.long_value c.before.before.before.before.before.befor
 
 returns_2 : tie.Need-returns-2
 returns_2 c =
-    let size = (values.has-size (value_of c.before.before.before.before.before.before.before.before.before.args.long c.before.before.before.before.before.before.before.before.before.args.rules c.before.before.before.before.before.before.before.before.before.args.body.now) c.before.size.given.0.0 (sym c.before.size.given.1 ∙ c.before.before.before.before.before.write.ensures.0)) in
+    let size = (values.has_size (value_of c.before.before.before.before.before.before.before.before.before.args.long c.before.before.before.before.before.before.before.before.before.args.rules c.before.before.before.before.before.before.before.before.before.args.body.now) c.before.size.given.0.0 (sym c.before.size.given.1 ∙ c.before.before.before.before.before.write.ensures.0)) in
     let room = (values.in_room c.before.size.given.0.0 c.before.before.before.before.before.write.result c.before.size.given.1 c.before.before.before.before.before.write.ensures.1.0 c.before.before.before.before.before.before.before.before.before.requires.1) in (
       values.fits (value_of c.before.before.before.before.before.before.before.before.before.args.long c.before.before.before.before.before.before.before.before.before.args.rules c.before.before.before.before.before.before.before.before.before.args.body.now) c.before.before.before.before.before.before.before.before.before.args.output.now c.before.size.given.0.0 size room,
       values.written_value (value_of c.before.before.before.before.before.before.before.before.before.args.long c.before.before.before.before.before.before.before.before.before.args.rules c.before.before.before.before.before.before.before.before.before.args.body.now) c.before.before.before.before.before.before.before.before.before.args.output.now c.before.size.given.0.0 size _ c.before.before.before.before.before.write.ensures.1.1 room,

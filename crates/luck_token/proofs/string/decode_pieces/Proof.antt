@@ -12,7 +12,7 @@ returns c =
     let a = c.before.before.before.before.before.before.before.before.before.args in
     let o = value_of a.long a.rules a.body.now in
     let g = c.before.before.size.given in
-    values.too_short o a.output.now g.0.0 (values.has-size o g.0.0 (sym g.1 ∙ c.before.before.before.before.before.write.ensures.0)) c.if1.true
+    values.too_short o a.output.now g.0.0 (values.has_size o g.0.0 (sym g.1 ∙ c.before.before.before.before.before.write.ensures.0)) c.if1.true
 
 copy-requires : tie.Need-copy-requires
 copy-requires c κs = (omega arith, omega arith, omega arith)
@@ -23,7 +23,7 @@ returns_2 c =
     let w = c.before.before.before.before.before.before.before.before.before.before.before.write in
     let g = c.before.before.before.before.before.before.before.before.size.given in
     let o = value_of a.long a.rules a.body.now in
-    let size = values.has-size o g.0.0 (sym g.1 ∙ w.ensures.0) in
+    let size = values.has_size o g.0.0 (sym g.1 ∙ w.ensures.0) in
     let room = c.before.before.before.before.before.before.if1.false in (
       values.fits o a.output.now g.0.0 size room,
       c.before.before.copy.ensures ∙ values.copied_value o a.output.now g.0.0 size _ _ w.ensures.1.1 (omega (arith, c.before.before.before.before.before.if2.true)) room,
@@ -40,7 +40,7 @@ returns_4 c =
     let a = c.before.before.before.before.before.before.before.before.before.before.before.before.before.before.args in
     let g = c.before.before.before.before.before.before.before.size.given in
     let o = value_of a.long a.rules a.body.now in
-    let size = values.has-size o g.0.0 (sym g.1 ∙ c.before.before.before.before.before.before.before.before.before.before.write.ensures.0) in
+    let size = values.has_size o g.0.0 (sym g.1 ∙ c.before.before.before.before.before.before.before.before.before.before.write.ensures.0) in
     let room = c.before.before.before.before.before.if1.false in
     (values.fits o a.output.now g.0.0 size room, values.written_value o a.output.now g.0.0 size _ c.before.before.write2.ensures.1.1 room)
 

@@ -19,16 +19,16 @@ module _ (c : tie.After-byte-at) where
   here = byte_at c.before.before.before.before.args.text.now c.before.before.before.before.args.at
 
 mul-cr-lf : tie.Need-overflow-mul-cr-lf
-mul-cr-lf c = omega (arith, breaks.bit-of-both (eqb (here c) 13) (eqb c.byte_at_lem.result 10))
+mul-cr-lf c = omega (arith, breaks.bit_of_both (eqb (here c) 13) (eqb c.byte_at_lem.result 10))
 
 add-result : tie.Need-overflow-add-result
 add-result c = omega (arith, bit (eqb (here c.before) 13), bit (eqb (here c.before) 10))
 
 add-result-2 : tie.Need-overflow-add-result-2
-add-result-2 c = omega (arith, bit (eqb (here c.before) 13), bit (eqb (here c.before) 10), breaks.bit-of-both (eqb (here c.before) 13) (eqb c.before.byte_at_lem.result 10))
+add-result-2 c = omega (arith, bit (eqb (here c.before) 13), bit (eqb (here c.before) 10), breaks.bit_of_both (eqb (here c.before) 13) (eqb c.before.byte_at_lem.result 10))
 
 mul-result : tie.Need-overflow-mul-result
-mul-result c = omega (arith, breaks.bit-of-both (eqb (here c.before) 10) (eqb c.before.byte_at_lem.result 13))
+mul-result c = omega (arith, breaks.bit_of_both (eqb (here c.before) 10) (eqb c.before.byte_at_lem.result 13))
 
 add-result-3 : tie.Need-overflow-add-result-3
 add-result-3 c =
@@ -36,8 +36,8 @@ add-result-3 c =
       arith,
       bit (eqb (here c.before) 13),
       bit (eqb (here c.before) 10),
-      breaks.bit-of-both (eqb (here c.before) 13) (eqb c.before.byte_at_lem.result 10),
-      breaks.bit-of-both (eqb (here c.before) 10) (eqb c.before.byte_at_lem.result 13),
+      breaks.bit_of_both (eqb (here c.before) 13) (eqb c.before.byte_at_lem.result 10),
+      breaks.bit_of_both (eqb (here c.before) 10) (eqb c.before.byte_at_lem.result 13),
     )
 
 returns_2 : tie.Need-returns-2
@@ -46,10 +46,10 @@ returns_2 c =
     rw c.before.byte_at_lem.ensures (breaks.sum_with a.lfcr a.text.now a.at c.if2.true)
 
 add-result-4 : tie.Need-overflow-add-result-4
-add-result-4 c = omega (arith, bit (eqb (here c.before) 10), breaks.bit-of-both (eqb (here c.before) 13) (eqb c.before.byte_at_lem.result 10))
+add-result-4 c = omega (arith, bit (eqb (here c.before) 10), breaks.bit_of_both (eqb (here c.before) 13) (eqb c.before.byte_at_lem.result 10))
 
 add-result-5 : tie.Need-overflow-add-result-5
-add-result-5 c = omega (arith, bit (eqb (here c.before) 10), breaks.bit-of-both (eqb (here c.before) 13) (eqb c.before.byte_at_lem.result 10))
+add-result-5 c = omega (arith, bit (eqb (here c.before) 10), breaks.bit_of_both (eqb (here c.before) 13) (eqb c.before.byte_at_lem.result 10))
 
 returns_3 : tie.Need-returns-3
 returns_3 c =

@@ -139,7 +139,7 @@ module _ (t : ℕ) where
   returns_3 c =
       let d = c.before.before.before.before.before.before in
       let k = c.before.before.keep.ensures in
-      repeats.kept-matched _ _ _ _ _ _ _ _ c.matched.ensures (inside d) (kept_later _ _ _ _ (inside d) (k.1 _ (sound d))) k.0
+      repeats.kept_matched _ _ _ _ _ _ _ _ c.matched.ensures (inside d) (kept_later _ _ _ _ (inside d) (k.1 _ (sound d))) k.0
       (turns.at_end _ _ _ _ _ _ _ _ _ (paid d) (item d _ c.before.before.before.before.enum_told.given.1) ∙ so_far d)
 
   keep_requires_2 : lts.Need-keep-requires-2 (E t) (do_match_at t) do-match.Post Inv μ
@@ -152,7 +152,7 @@ module _ (t : ℕ) where
   returns_4 c =
       let d = c.before.before.before.before.before.before.before in
       let k = c.before.before.keep2.ensures in
-      repeats.kept-matched _ _ _ _ _ _ _ _ c.matched2.ensures (inside d) (kept_later _ _ _ _ (inside d) (k.1 _ (sound d))) k.0
+      repeats.kept_matched _ _ _ _ _ _ _ _ c.matched2.ensures (inside d) (kept_later _ _ _ _ (inside d) (k.1 _ (sound d))) k.0
       (turns.at_anchor _ _ _ _ _ _ _ _ _ (paid d) (item d _ c.before.before.before.before.before.enum-told2.given.1) c.before.before.before.before.if3.true ∙ so_far d)
 
   returns_5 : lts.Need-returns-5 (E t) (do_match_at t) do-match.Post Inv μ
@@ -307,21 +307,21 @@ module _ (t : ℕ) where
   add_at c =
       let d = c.before.before.before.before.before.before.before in
       let i = item d _ c.before.before.before.before.before.item8.given.1 in
-      let b = turns.behind_repeat _ _ _ _ (kind c.before.before.before) i.on (turns.passed-repeats (kind c.before.before.before) (sym c.before.has-to-fit.ensures ∙ c.if6.false)) in
+      let b = turns.behind_repeat _ _ _ _ (kind c.before.before.before) i.on (turns.passed_repeats (kind c.before.before.before) (sym c.before.has-to-fit.ensures ∙ c.if6.false)) in
       omega (arith, b)
 
   items_less_4 : lts.Need-items-smaller-4 (E t) (do_match_at t) do-match.Post Inv μ
   items_less_4 c =
       let d = c.before.before.before.before.before.before.before in
       let i = item d _ c.before.before.before.before.before.item8.given.1 in
-      let b = turns.behind_repeat _ _ _ _ (kind c.before.before.before) i.on (turns.passed-repeats (kind c.before.before.before) (sym c.before.has-to-fit.ensures ∙ c.if6.false)) in
+      let b = turns.behind_repeat _ _ _ _ (kind c.before.before.before) i.on (turns.passed_repeats (kind c.before.before.before) (sym c.before.has-to-fit.ensures ∙ c.if6.false)) in
       omega (arith, b)
 
   items_again_4 : lts.Need-items-preserved-4 (E t) (do_match_at t) do-match.Post Inv μ
   items_again_4 c =
       let d = c.before.before.before.before.before.before.before in
       let i = item d _ c.before.before.before.before.before.item8.given.1 in
-      let b = turns.behind_repeat _ _ _ _ (kind c.before.before.before) i.on (turns.passed-repeats (kind c.before.before.before) (sym c.before.has-to-fit.ensures ∙ c.if6.false)) in
+      let b = turns.behind_repeat _ _ _ _ (kind c.before.before.before) i.on (turns.passed_repeats (kind c.before.before.before) (sym c.before.has-to-fit.ensures ∙ c.if6.false)) in
       again d _ _ _ b.0 b.1 (omega arith) (inside d) (turns.unfit_passed _ _ _ _ _ _ _ _ _ (paid d) _ _ (kind c.before.before.before) i.on (sym c.before.has-to-fit.ensures ∙ c.if6.false) (sym c.before.before.before.fits2.ensures ∙ not-true _ c.before.before.if5.true))
 
   add_place_2 : lts.Need-overflow-add-place-2 (E t) (do_match_at t) do-match.Post Inv μ

@@ -92,7 +92,7 @@ module _ (t : ℕ) where
       → c.if2.is_open ≡ true → capture_to_close (captures_of c.before.before.before.before.before.args.t11) ≡ none → ⊥
   opened c o n =
       ⊎_elim
-      (λ w. tests.latest-open _ _ w.0.taken (sym w.1 ∙ o) n)
+      (λ w. tests.latest_open _ _ w.0.taken (sym w.1 ∙ o) n)
       (λ w. let z : ◌≡◌ {A = ℕ} 0 1 = cc in omega arith) c.if2.branch
 
   -- the place is passed, by the single ahead or by a call
@@ -106,9 +106,9 @@ module _ (t : ℕ) where
       let test = c.before.before.before.first-test in
       ⊎_elim
       (λ w.
-      tests.passed-sure (class_in a.classes.now) a.subject.now a.pattern.now a.budget (a.suffix + 1) at.tried a.level (captures_of a.t11) at.steps c.if3.steps c.before.before.before.before.if2.is_open test.result
+      tests.passed_sure (class_in a.classes.now) a.subject.now a.pattern.now a.budget (a.suffix + 1) at.tried a.level (captures_of a.t11) at.steps c.if3.steps c.before.before.before.before.if2.is_open test.result
       (c.before.fails-at.ensures w.0.taken) test.ensures (opened c.before.before.before.before) w.3)
-      (λ w. tests.passed-tried _ _ _ c.if3.steps w.2.ensures.0 w.4.left w.6) c.if3.branch
+      (λ w. tests.passed_tried _ _ _ c.if3.steps w.2.ensures.0 w.4.left w.6) c.if3.branch
 
   returns_3 : lts.Need-returns-3 (E t) (max_expand_at t) max-expand.Post Inv μ
   returns_3 c =

@@ -50,7 +50,7 @@ module _ (t : ℕ) where
       → c.if1.is_open ≡ true → capture_to_close (captures_of c.before.before.before.args.t10) ≡ none → ⊥
   opened c o n =
       ⊎_elim
-      (λ w. tests.latest-open _ _ w.0.taken (sym w.1 ∙ o) n)
+      (λ w. tests.latest_open _ _ w.0.taken (sym w.1 ∙ o) n)
       (λ w. let z : ◌≡◌ {A = ℕ} 0 1 = cc in omega arith) c.if1.branch
 
   loop_holds : lts.Need-loop-init (E t) (min_expand_at t) min-expand.Post Inv μ
@@ -87,9 +87,9 @@ module _ (t : ℕ) where
       let test = c.before.before.before.first-test in
       ⊎_elim
       (λ w.
-      tests.passed-sure (class_in a.classes.now) a.subject.now a.pattern.now a.budget (a.suffix + 1) here.tried a.level (captures_of a.t10) here.steps c.if2.steps c.before.before.before.before.if1.is_open test.result
+      tests.passed_sure (class_in a.classes.now) a.subject.now a.pattern.now a.budget (a.suffix + 1) here.tried a.level (captures_of a.t10) here.steps c.if2.steps c.before.before.before.before.if1.is_open test.result
       (c.before.fails-at.ensures w.0.taken) test.ensures (opened c.before.before.before.before) w.3)
-      (λ w. tests.passed-tried _ _ _ c.if2.steps w.2.ensures.0 w.4.left w.6) c.if2.branch
+      (λ w. tests.passed_tried _ _ _ c.if2.steps w.2.ensures.0 w.4.left w.6) c.if2.branch
 
   returns_2 : lts.Need-returns-2 (E t) (min_expand_at t) min-expand.Post Inv μ
   returns_2 c =

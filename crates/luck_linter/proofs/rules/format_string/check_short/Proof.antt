@@ -8,13 +8,13 @@ use Rattle.luck_linter.proofs.rules.format_string.check_short.Statement.{stateme
 use Rattle.luck_linter.proofs.rules.format_string.check_short.Tie as tie
 
 sub-check-body : tie.Need-overflow-sub-check-body
-sub-check-body c = omega (arith, laws.places-in _ _ _ (sym (ap places_of c.before.found.given.1) ∙ c.before.before.before.short-string-body.ensures))
+sub-check-body c = omega (arith, laws.places_in _ _ _ (sym (ap places_of c.before.found.given.1) ∙ c.before.before.before.short-string-body.ensures))
 
 part-check-body-start : tie.Need-slice-bounds-check-body-start
-part-check-body-start c = omega (arith, laws.places-in _ _ _ (sym (ap places_of c.before.found.given.1) ∙ c.before.before.before.short-string-body.ensures))
+part-check-body-start c = omega (arith, laws.places_in _ _ _ (sym (ap places_of c.before.found.given.1) ∙ c.before.before.before.short-string-body.ensures))
 
 part-check-body-end : tie.Need-slice-bounds-check-body-end
-part-check-body-end c = omega (arith, laws.places-in _ _ _ (sym (ap places_of c.before.found.given.1) ∙ c.before.before.before.short-string-body.ensures))
+part-check-body-end c = omega (arith, laws.places_in _ _ _ (sym (ap places_of c.before.found.given.1) ∙ c.before.before.before.short-string-body.ensures))
 
 returns : tie.Need-returns
 returns c = c.check-body.ensures ∙ laws.short _ _ _ _ _ _ (sym (ap places_of c.before.before.before.found.given.1) ∙ c.before.before.before.before.before.short-string-body.ensures)
