@@ -102,7 +102,7 @@ fn put_row(line: &[u8], output: &mut [u8], long: bool) -> u32
 {
     let answer = answer_after(line, long);
     let bytes = row::of_answer(answer);
-    bytes::copy(&bytes, output);
+    output[0..ROW].copy_from_slice(&bytes);
     answer.number
 }
 
@@ -169,7 +169,7 @@ fn put_totals(output: &mut [u8], state: State)
     ensures { output.new ≡ totals_of state ++ drop totals_length output.old }
 {
     let bytes = row::of_totals(state.read, state.refused);
-    bytes::copy(&bytes, output);
+    output[0..TOTALS].copy_from_slice(&bytes);
 }
 
 // The last line, which lacks its newline, and the totals.

@@ -1,0 +1,32 @@
+-- `lstr_gsub::gsub::gsub` meets its contract. Assumes nothing.
+use mathlib.Core.Path.{sym, ap, ◌∙◌}
+use mathlib.Core.Logic.{⊎_elim}
+use lib.ListN.{length}
+use Rattle.lstr_gsub.specs.Gsub.{output_after, report}
+use Rattle.lstr_gsub.proofs.Rounds as rounds
+use borrow.Author.Rules.{rules}
+use Rattle.lstr_gsub.proofs.gsub.gsub.Goals as goal
+
+pub run_anchored-requires : goal.run_anchored-requires
+run_anchored-requires c = c.if-pattern-gt0.true
+
+pub returns-then-pattern-eq94 : goal.returns-then-pattern-eq94
+returns-then-pattern-eq94 c =
+    let a = c.args in
+    let q = c.run_anchored.ensures in
+    let e = rounds.gsub_anchored a.version a.pattern.now a.replacement.now a.subject.now a.budget (length a.output.now) (sym c.is_version.ensures ∙ c.if-is_version.true) _ c.rules_of-rules.ensures _ c.classes-classes.ensures c.if-pattern-eq94.true in
+    record { answer = q.is ∙ ap report e; output = q.output ∙ ap (output_after a.output.now) e }
+
+pub returns-then-is_version : goal.returns-then-is_version
+returns-then-is_version c =
+    let a = c.args in
+    let q = c.run_rounds.ensures in
+    let e = rounds.gsub_free a.version a.pattern.now a.replacement.now a.subject.now a.budget (length a.output.now) (sym c.is_version.ensures ∙ c.if-is_version.true) _ c.rules_of-rules.ensures _ c.classes-classes.ensures
+    (⊎_elim (λ x. x.2.left) (λ x. rounds.first_none a.pattern.now x.left) c.if-pattern-gt0.branch) in
+    record { answer = q.is ∙ ap report e; output = q.output ∙ ap (output_after a.output.now) e }
+
+pub returns : goal.returns
+returns c =
+    let a = c.args in
+    let e = rounds.no_version a.version a.pattern.now a.replacement.now a.subject.now a.budget (length a.output.now) (sym c.is_version.ensures ∙ c.if-is_version.false) in
+    record { answer = ap report e; output = ap (output_after a.output.now) e }

@@ -1,0 +1,77 @@
+-- `lstr_item::item::set_end` meets its contract. The loop's invariant: the members from `at` on end where the set ends.
+-- Assumes nothing.
+use mathlib.Core.Path.{◌≡◌, ◌∙◌}
+use mathlib.Core.Logic.{⊎_elim}
+use Prim.Native.Nat.{◌+◌, ◌-◌, ◌≤◌, ◌<◌}
+use native.Mathlib.Omega.{arith}
+use lib.Dec.{eqb}
+use lib.ListN.{length}
+use Rattle.luck_pattern.specs.Reading.{first_member, set_end}
+use Rattle.luck_pattern.proofs.Patterns.{members, set_begins, set_first, set_escaped, set_plain}
+use Rattle.luck_pattern.proofs.Places.{first_behind}
+use Rattle.lstr_item.proofs.Reading.{after_caret, after_bracket, after_last, closes_nowhere, closes_here, closes_cut}
+use Rattle.lstr_item.proofs.item.set_end.Goals as goal
+
+pub members-init : goal.members-init
+members-init c =
+    let a = c.args in
+    let pattern = a.pattern.now in
+    let first = c.if-at-pattern.at in
+    let is : first ≡ first_member pattern a.opening =
+    ⊎_elim (λ w. let two : first ≡ a.opening + 2 = omega (arith, w.3) in two ∙ after_caret pattern a.opening w.2.taken)
+    (⊎_elim (λ w. w.3 ∙ after_bracket pattern a.opening w.2.left) (λ w. w.1 ∙ after_last pattern a.opening w.0.left)) c.if-at-pattern.branch in
+    let inside : first ≤ length pattern =
+    ⊎_elim (λ w. omega (arith, w.0.taken, w.3)) (⊎_elim (λ w. omega (arith, w.0.taken, w.3)) (λ w. omega (arith, w.1, c.requires))) c.if-at-pattern.branch in
+    let behind : a.opening < first = omega (arith, is, first_behind pattern a.opening) in
+    (omega arith, inside, behind, set_begins pattern a.opening first is)
+
+pub returns-then-pattern-at : goal.returns-then-pattern-at
+returns-then-pattern-at c =
+    let l = c.members in
+    let a = c.args in
+    let first = c.if-at-pattern.at in
+    (closes_nowhere a.pattern.now a.opening first l.at l.invariant.3 c.if-pattern-at.true, tt)
+
+pub members-smaller-in-93 : goal.members-smaller-in-93
+members-smaller-in-93 c = omega arith
+
+pub members-preserved-in-93 : goal.members-preserved-in-93
+members-preserved-in-93 c =
+    let l = c.members in
+    let a = c.args in
+    let first = c.if-at-pattern.at in
+    (omega arith, omega arith, l.invariant.2, set_first a.pattern.now a.opening first l.at l.invariant.3 c.if-pattern-at.false l.invariant.0 c.in-93.is (omega (arith, c.if-first-at.false)))
+
+pub returns-then-pattern-at-eq1 : goal.returns-then-pattern-at-eq1
+returns-then-pattern-at-eq1 c =
+    let l = c.members in
+    let a = c.args in
+    let first = c.if-at-pattern.at in
+    (closes_cut a.pattern.now a.opening first l.at l.invariant.3 c.if-pattern-at.false c.in-37.is c.if-pattern-at-eq1.true, tt)
+
+pub members-smaller-in-37 : goal.members-smaller-in-37
+members-smaller-in-37 c = omega arith
+
+pub members-preserved-in-37 : goal.members-preserved-in-37
+members-preserved-in-37 c =
+    let l = c.members in
+    let a = c.args in
+    let first = c.if-at-pattern.at in
+    (omega arith, omega arith, l.invariant.2, set_escaped a.pattern.now a.opening first l.at l.invariant.3 c.if-pattern-at.false l.invariant.0 c.in-37.is c.if-pattern-at-eq1.false)
+
+pub members-smaller : goal.members-smaller
+members-smaller c = omega arith
+
+pub members-preserved : goal.members-preserved
+members-preserved c =
+    let l = c.members in
+    let a = c.args in
+    let first = c.if-at-pattern.at in
+    (omega arith, omega arith, l.invariant.2, set_plain a.pattern.now a.opening first l.at l.invariant.3 c.if-pattern-at.false l.invariant.0 c.in_default.rest.0.1 c.in_default.rest.1)
+
+pub returns : goal.returns
+returns c =
+    let l = c.members in
+    let a = c.args in
+    let first = c.if-at-pattern.at in
+    (closes_here a.pattern.now a.opening first l.at l.invariant.3 c.if-pattern-at.false c.in-93.is c.if-first-at.true, (omega (arith, l.invariant.2, l.invariant.0), c.if-pattern-at.false))

@@ -1,0 +1,62 @@
+-- `lstr_item::single::is_any_of` meets its contract. The loop's invariant: the elements from here on give the whole answer.
+-- Assumes nothing.
+use Prim.Native.Nat.{◌+◌, ◌-◌}
+use native.Mathlib.Omega.{arith}
+use mathlib.Core.Path.{◌≡◌, refl, sym, ◌∙◌}
+use mathlib.Core.Logic.{inl, inr, ⊎_elim}
+use mathlib.Core.Bool.{true, false}
+use borrow.Author.Tests.{eq-eqb, ne_eqb}
+use Rattle.luck_text.specs.Bytes.{byte_at}
+use Rattle.luck_text.proofs.Bytes.{within, below, above}
+use Rattle.luck_pattern.specs.Elements.{elements_of}
+use Rattle.lstr_item.specs.Single.{is_any_of}
+use Rattle.lstr_class.specs.Inner.{class_in}
+use Rattle.lstr_item.proofs.Sets.{any_end, any_escape, any_range, any_plain}
+use Rattle.lstr_item.proofs.single.is_any_of.Goals as goal
+
+pub elements-init : goal.elements-init
+elements-init c = refl
+
+pub returns-then-match_class : goal.returns-then-match_class
+returns-then-match_class c =
+    let a = c.args in
+    let l = c.elements in
+    sym (l.invariant ∙ any_escape a.pattern.now a.closing (class_in a.classes.now) a.byte l.at c.elements-test.true true c.if-element-eq37.true (sym c.match_class.ensures ∙ c.if-match_class.true))
+
+pub elements-preserved-then-element-eq37 : goal.elements-preserved-then-element-eq37
+elements-preserved-then-element-eq37 c =
+    let a = c.args in
+    let l = c.elements in
+    l.invariant ∙ any_escape a.pattern.now a.closing (class_in a.classes.now) a.byte l.at c.elements-test.true false c.if-element-eq37.true (sym c.match_class.ensures ∙ c.if-match_class.false)
+
+pub returns-then-byte-pattern : goal.returns-then-byte-pattern
+returns-then-byte-pattern c =
+    let a = c.args in
+    let l = c.elements in
+    sym (l.invariant ∙ any_range a.pattern.now a.closing (class_in a.classes.now) a.byte l.at c.elements-test.true true c.if-element-eq37.false c.if-pattern-next-eq45.true (omega (arith, c.if-closing-at-gt2.true)) (within (byte_at a.pattern.now l.at) (byte_at a.pattern.now (l.at + 2)) a.byte c.if-element-byte.true c.if-byte-pattern.true))
+
+pub elements-preserved-then-pattern-next-eq45 : goal.elements-preserved-then-pattern-next-eq45
+elements-preserved-then-pattern-next-eq45 c =
+    let a = c.args in
+    let l = c.elements in
+    let low = byte_at a.pattern.now l.at in
+    let high = byte_at a.pattern.now (l.at + 2) in
+    l.invariant ∙ any_range a.pattern.now a.closing (class_in a.classes.now) a.byte l.at c.elements-test.true false c.if-element-eq37.false c.if-pattern-next-eq45.true (omega (arith, c.if-closing-at-gt2.true)) (⊎_elim (λ w. above low high a.byte w.2.left) (λ w. below low high a.byte w.left) c.if-element-byte.branch)
+
+pub returns-then-element-byte-2 : goal.returns-then-element-byte-2
+returns-then-element-byte-2 c =
+    let a = c.args in
+    let l = c.elements in
+    sym (l.invariant ∙ any_plain a.pattern.now a.closing (class_in a.classes.now) a.byte l.at c.elements-test.true true c.if-element-eq37.false (⊎_elim (λ w. inl w.2.left) (λ w. inr (omega (arith, w.left))) c.if-closing-at-gt2.branch) (eq-eqb (byte_at a.pattern.now l.at) a.byte c.if-element-byte-2.true))
+
+pub elements-preserved : goal.elements-preserved
+elements-preserved c =
+    let a = c.args in
+    let l = c.elements in
+    l.invariant ∙ any_plain a.pattern.now a.closing (class_in a.classes.now) a.byte l.at c.elements-test.true false c.if-element-eq37.false (⊎_elim (λ w. inl w.2.left) (λ w. inr (omega (arith, w.left))) c.if-closing-at-gt2.branch) (ne_eqb (byte_at a.pattern.now l.at) a.byte c.if-element-byte-2.false)
+
+pub returns : goal.returns
+returns c =
+    let a = c.args in
+    let l = c.elements in
+    any_end a.pattern.now a.closing (class_in a.classes.now) a.byte l.at c.elements-test.false ∙ sym l.invariant

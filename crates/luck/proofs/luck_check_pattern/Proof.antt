@@ -1,9 +1,0 @@
--- `luck::luck_check_pattern` meets its contract. Assumes nothing.
-use mathlib.Core.Path.{◌∙◌}
-use borrow.Author.Rules.{rules}
-use Rattle.luck.proofs.luck_check_pattern.Statement.{statement}
-use Rattle.luck.proofs.luck_check_pattern.Tie as tie
-
-pub luck_check_pattern_spec : {M : Type 1} → statement M
-luck_check_pattern_spec =
-    tie.close (tie.spec (λ c κs. search rules) (λ c κs. search rules) (λ c. c.of-checked.ensures ∙ c.before.validate-lua-pattern.ensures))

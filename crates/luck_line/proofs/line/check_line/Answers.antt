@@ -1,0 +1,24 @@
+-- `luck_line::line::check_line` meets its contract. Assumes nothing.
+use mathlib.Core.Path.{sym, ◌∙◌}
+use mathlib.Core.Logic.{⊎_elim}
+use Rattle.luck_line.proofs.Heads as heads
+use Rattle.luck_line.proofs.line.check_line.Goals as goal
+
+pub returns-then-line-gt-LONGEST : goal.returns-then-line-gt-LONGEST
+returns-then-line-gt-LONGEST c = c.refused.ensures ∙ heads.too_long _ c.if-line-gt-LONGEST.true
+
+pub returns-then-line-lt-HEAD : goal.returns-then-line-lt-HEAD
+returns-then-line-lt-HEAD c = c.refused-then-line-lt-HEAD.ensures ∙ heads.too_short _ c.if-line-gt-LONGEST.false c.if-line-lt-HEAD.true
+
+pub returns-then-line-eq32 : goal.returns-then-line-eq32
+returns-then-line-eq32 c =
+    let short = c.if-line-gt-LONGEST.false in
+    let digit = sym c.is_in.ensures ∙ c.if-is_in.true in
+    heads.whole_head _ short digit c.if-line-eq32.true _ _ _
+    c.check_with-named.ensures c.digit.ensures c.check_body.ensures
+
+pub returns : goal.returns
+returns c =
+    let short = c.if-line-gt-LONGEST.false in
+    let digit = sym c.is_in.ensures in
+    c.refused-2.ensures ∙ ⊎_elim (λ w. heads.not_a_space _ short (digit ∙ w.0.taken) w.2.left) (λ w. heads.not_a_digit _ short (digit ∙ w.left)) c.if-is_in.branch

@@ -1,0 +1,16 @@
+-- `luck_token::string::decode_plain` meets its contract. Assumes nothing.
+use mathlib.Core.Path.{refl, ◌∙◌}
+use native.Mathlib.Omega.{arith}
+use mathlib.Core.Option.{some}
+use lib.ListN.{length}
+use Rattle.luck_token.proofs.Values as values
+use Rattle.luck_token.proofs.string.decode_plain.Goals as goal
+
+pub returns-then-output-n : goal.returns-then-output-n
+returns-then-output-n c = values.too_short (some c.args.body.now) c.args.output.now (length c.args.body.now) (c.args.body.now, refl, refl) c.if-output-n.true
+
+pub copy-requires : goal.copy-requires
+copy-requires c = (omega arith, omega arith, omega arith)
+
+pub returns : goal.returns
+returns c = record { answer = values.fits (some c.args.body.now) c.args.output.now (length c.args.body.now) (c.args.body.now, refl, refl) c.if-output-n.false; output = c.copy.ensures ∙ values.copied_value (some c.args.body.now) c.args.output.now (length c.args.body.now) (c.args.body.now, refl, refl) c.args.body.now c.args.body.now (values.whole c.args.body.now) (omega arith) c.if-output-n.false }

@@ -1,0 +1,26 @@
+-- `luck_token::string::is_plain` meets its contract. Assumes nothing.
+use mathlib.Core.Path.{sym, ap, ◌∙◌}
+use mathlib.Core.Bool.{Bool, not}
+use Prim.Native.Nat.{ℕ}
+use lib.Dec.{eqb}
+use borrow.Author.Tests.{not-true, not-false}
+use Rattle.luck_token.specs.Inner.{plain}
+use Rattle.luck_token.proofs.Literals.{plain_lf, plain_other}
+use Rattle.luck_token.proofs.string.is_plain.Goals as goal
+
+pub returns-then-not-long : goal.returns-then-not-long
+returns-then-not-long c =
+    let a = c.args in
+    ap (λ (l : Bool). plain l a.body.now a.at) (sym (c.if-not-long.true))
+
+pub returns-then-byte-eq10 : goal.returns-then-byte-eq10
+returns-then-byte-eq10 c =
+    let a = c.args in
+    ap (λ (b : ℕ). not (eqb b 13)) c.byte_at.ensures ∙ plain_lf a.body.now a.at c.if-byte-eq10.true
+    ∙ ap (λ (l : Bool). plain l a.body.now a.at) (sym (c.if-not-long.false))
+
+pub returns : goal.returns
+returns c =
+    let a = c.args in
+    plain_other a.body.now a.at c.if-byte-eq10.false
+    ∙ ap (λ (l : Bool). plain l a.body.now a.at) (sym (c.if-not-long.false))

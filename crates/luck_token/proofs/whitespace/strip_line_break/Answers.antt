@@ -1,0 +1,17 @@
+-- `luck_token::whitespace::strip_line_break` meets its contract. Assumes nothing.
+use mathlib.Core.Path.{ap, ◌∙◌}
+use native.Mathlib.Omega.{arith}
+use Rattle.luck_token.specs.Whitespace.{strip_line_break}
+use Rattle.luck_token.proofs.Breaks as breaks
+use Rattle.luck_token.proofs.Literals.{stripped}
+use borrow.Author.Rules.{rules}
+use Rattle.luck_token.proofs.whitespace.strip_line_break.Goals as goal
+
+pub slice_bounds-result-count : goal.slice_bounds-result-count
+slice_bounds-result-count c = omega (arith, c.line_break-width.ensures, breaks.break_inside c.rules_of-rules.result.lfcr_line_break c.args.text.now 0 (omega arith))
+
+pub slice_bounds-result-start : goal.slice_bounds-result-start
+slice_bounds-result-start c = omega (arith, c.line_break-width.ensures, breaks.break_inside c.rules_of-rules.result.lfcr_line_break c.args.text.now 0 (omega arith))
+
+pub returns : goal.returns
+returns c = stripped _ c.args.text.now c.line_break-width.result c.line_break-width.ensures ∙ ap (λ r. strip_line_break r.lfcr_line_break c.args.text.now) c.rules_of-rules.ensures

@@ -1,0 +1,14 @@
+-- `stored_records::bytes::fill` meets its contract. The invariant: the bytes passed are filled, and those behind are as they were. Assumes nothing.
+use Prim.Native.Nat.{ℕ, ◌≤◌, ◌-◌}
+use mathlib.Core.Path.{◌≡◌, ap, ◌∙◌}
+use mathlib.Core.List.{List, ◌++◌}
+use lib.ListN.{length, set, drop, replicate, length-set}
+use borrow.Author.Fill.{fill_more}
+use native.Mathlib.Omega.{arith}
+use Rattle.stored_records.proofs.bytes.fill.Given as goal
+
+abbrev pub invariant-loop-i : goal.invariant-loop-i
+invariant-loop-i l = (l.i ≤ l.to) × (length l.output ≡ length l.initial.output) × (l.output ≡ replicate l.i l.byte ++ drop l.i l.initial.output)
+
+abbrev pub decreases-loop-i : goal.decreases-loop-i
+decreases-loop-i l = l.to - l.i
