@@ -218,7 +218,7 @@ fn max_expand(
     requires { SingleIn pattern.now at suffix × (suffix < length pattern.now) × (place < length subject.now)
         × (place ≤ shortest) × (shortest ≤ place + 1) × Sound place captures }
     ensures { (outcome_of result kept.new ≡
-        maxExpand (reach (classIn classes.now) subject.now budget (singleOf pattern.now at suffix) (length subject.now - (place + 1)) (place + 1) steps) (match (classIn classes.now) subject.now budget (items pattern.now (suffix + 1))) shortest level (capturesOf captures))
+        max_expand (reach (class_in classes.now) subject.now budget (single_of pattern.now at suffix) (length subject.now - (place + 1)) (place + 1) steps) (match (class_in classes.now) subject.now budget (items pattern.now (suffix + 1))) shortest level (captures_of captures))
         × AttemptIn result kept.new (length subject.now) }
 {
     let reach = single::reach(
@@ -337,7 +337,7 @@ fn start_capture(
 ) -> Attempt
     requires { (next ≤ length pattern.now) × (place ≤ length subject.now) × (positional ≤ len) × Sound place captures }
     ensures { (outcome_of result kept.new ≡
-        startCapture (captureOf place len) (match (classIn classes.now) subject.now budget (items pattern.now next)) place level (capturesOf captures) steps)
+        do_start_capture (capture_of place len) (match (class_in classes.now) subject.now budget (items pattern.now next)) place level (captures_of captures) steps)
         × AttemptIn result kept.new (length subject.now) }
 {
     let count = captures.count;
@@ -369,7 +369,7 @@ fn end_capture(
 ) -> Attempt
     requires { (next ≤ length pattern.now) × (place ≤ length subject.now) × Sound place captures }
     ensures { (outcome_of result kept.new ≡
-        endCapture (captureToClose (capturesOf captures)) (match (classIn classes.now) subject.now budget (items pattern.now next)) place level (capturesOf captures) steps)
+        do_end_capture (capture_to_close (captures_of captures)) (match (class_in classes.now) subject.now budget (items pattern.now next)) place level (captures_of captures) steps)
         × AttemptIn result kept.new (length subject.now) }
 {
     let close = capture::capture_to_close(captures);
