@@ -28,8 +28,8 @@ returns-then-conversion-eq99 c =
     let f = c.flags_run in
     let no_zero : byte_at a.text.now (a.at + f.result) ≡ 48 → ⊥ =
     elim c.if-flags-text.branch [
-      then-flags-text+else-text-flags-eq48 w ↦ w.if-text-flags-eq48.false
-    | else-flags-text w ↦ formats.none_there a.text.now (a.at + f.result) 48 (omega arith) w.if-flags-text.false
+      | then-flags-text+else-text-flags-eq48 w ↦ w.if-text-flags-eq48.false
+      | else-flags-text w ↦ formats.none_there a.text.now (a.at + f.result) 48 (omega arith) w.if-flags-text.false
     ] in
     let widened = formats.no_zero a.conversion a.text.now a.at c.if-conversion-eq113.false f.result f.ensures no_zero c.after_two_digits-width.result c.after_two_digits-width.ensures in
     formats.dot_stays widened (formats.no_precision_c _ c.if-conversion-eq99.true)
@@ -40,8 +40,8 @@ returns-then-conversion-eq112 c =
     let f = c.flags_run in
     let no_zero : byte_at a.text.now (a.at + f.result) ≡ 48 → ⊥ =
     elim c.if-flags-text.branch [
-      then-flags-text+else-text-flags-eq48 w ↦ w.if-text-flags-eq48.false
-    | else-flags-text w ↦ formats.none_there a.text.now (a.at + f.result) 48 (omega arith) w.if-flags-text.false
+      | then-flags-text+else-text-flags-eq48 w ↦ w.if-text-flags-eq48.false
+      | else-flags-text w ↦ formats.none_there a.text.now (a.at + f.result) 48 (omega arith) w.if-flags-text.false
     ] in
     let widened = formats.no_zero a.conversion a.text.now a.at c.if-conversion-eq113.false f.result f.ensures no_zero c.after_two_digits-width.result c.after_two_digits-width.ensures in
     formats.dot_stays widened (formats.no_precision_p _ c.if-conversion-eq112.true)
@@ -52,8 +52,8 @@ returns-then-text-width-eq46 c =
     let f = c.flags_run in
     let no_zero : byte_at a.text.now (a.at + f.result) ≡ 48 → ⊥ =
     elim c.if-flags-text.branch [
-      then-flags-text+else-text-flags-eq48 w ↦ w.if-text-flags-eq48.false
-    | else-flags-text w ↦ formats.none_there a.text.now (a.at + f.result) 48 (omega arith) w.if-flags-text.false
+      | then-flags-text+else-text-flags-eq48 w ↦ w.if-text-flags-eq48.false
+      | else-flags-text w ↦ formats.none_there a.text.now (a.at + f.result) 48 (omega arith) w.if-flags-text.false
     ] in
     let widened = formats.no_zero a.conversion a.text.now a.at c.if-conversion-eq113.false f.result f.ensures no_zero c.after_two_digits-width.result c.after_two_digits-width.ensures in
     c.after_two_digits.ensures
@@ -65,8 +65,8 @@ returns-else-text-width-eq46 c =
     let f = c.flags_run in
     let no_zero : byte_at a.text.now (a.at + f.result) ≡ 48 → ⊥ =
     elim c.if-flags-text.branch [
-      then-flags-text+else-text-flags-eq48 w ↦ w.if-text-flags-eq48.false
-    | else-flags-text w ↦ formats.none_there a.text.now (a.at + f.result) 48 (omega arith) w.if-flags-text.false
+      | then-flags-text+else-text-flags-eq48 w ↦ w.if-text-flags-eq48.false
+      | else-flags-text w ↦ formats.none_there a.text.now (a.at + f.result) 48 (omega arith) w.if-flags-text.false
     ] in
     let widened = formats.no_zero a.conversion a.text.now a.at c.if-conversion-eq113.false f.result f.ensures no_zero c.after_two_digits-width.result c.after_two_digits-width.ensures in
     formats.no_dot widened c.if-text-width-eq46.false
@@ -77,8 +77,8 @@ returns-else-width-text c =
     let f = c.flags_run in
     let no_zero : byte_at a.text.now (a.at + f.result) ≡ 48 → ⊥ =
     elim c.if-flags-text.branch [
-      then-flags-text+else-text-flags-eq48 w ↦ w.if-text-flags-eq48.false
-    | else-flags-text w ↦ formats.none_there a.text.now (a.at + f.result) 48 (omega arith) w.if-flags-text.false
+      | then-flags-text+else-text-flags-eq48 w ↦ w.if-text-flags-eq48.false
+      | else-flags-text w ↦ formats.none_there a.text.now (a.at + f.result) 48 (omega arith) w.if-flags-text.false
     ] in
     let widened = formats.no_zero a.conversion a.text.now a.at c.if-conversion-eq113.false f.result f.ensures no_zero c.after_two_digits-width.result c.after_two_digits-width.ensures in
     formats.no_dot widened (formats.none_there a.text.now c.after_two_digits-width.result 46 (omega arith) c.if-width-text.false)

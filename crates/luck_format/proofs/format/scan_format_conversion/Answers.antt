@@ -35,9 +35,9 @@ returns-then-is_conversion c =
     let h = c.if-text-end.false in
     let k = sym c.is_conversion.ensures ∙ c.if-is_conversion.true in (
       λ count. elim c.if-rules.branch [
-            then-rules+else-good-end w ↦ formats.good_modifiers_lem a.rules a.text.now a.at a.end count h k w.check_format-good.result w.check_format-good.ensures w.if-rules.true w.if-good-end.false
-          | else-rules w ↦ formats.unchecked a.rules a.text.now a.at a.end count h k w.if-rules.false
-          ],
+        | then-rules+else-good-end w ↦ formats.good_modifiers_lem a.rules a.text.now a.at a.end count h k w.check_format-good.result w.check_format-good.ensures w.if-rules.true w.if-good-end.false
+        | else-rules w ↦ formats.unchecked a.rules a.text.now a.at a.end count h k w.if-rules.false
+      ],
       (omega arith, omega arith),
     )
 
