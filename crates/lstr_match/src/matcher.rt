@@ -280,7 +280,7 @@ fn min_expand(
 ) -> Attempt
     requires { SingleIn pattern.now at suffix × (suffix < length pattern.now) × (place < length subject.now) × Sound place captures }
     ensures { (outcome_of result kept.new ≡
-        expand (classIn classes.now) subject.now budget (singleOf pattern.now at suffix) minus (match (classIn classes.now) subject.now budget (items pattern.now (suffix + 1))) place level (capturesOf captures) steps)
+        expand (class_in classes.now) subject.now budget (single_of pattern.now at suffix) minus (match (class_in classes.now) subject.now budget (items pattern.now (suffix + 1))) place level (captures_of captures) steps)
         × AttemptIn result kept.new (length subject.now) }
 {
     let next = suffix + 1;
