@@ -32,8 +32,8 @@ struct Held {
 
 // Before the first read.
 fn first() -> Held
-    ensures held_within { HeldWithin result 0 }
-    ensures state_value { result.state ≡ start }
+    ensures within { HeldWithin result 0 }
+    ensures state { result.state ≡ start }
 {
     Held {
         at: 0,
@@ -45,8 +45,8 @@ fn first() -> Held
 
 // An error was said, or the input has ended. After an error no totals are written, by which a loader tells that the listing is not whole.
 fn stop() -> Held
-    ensures held_within { HeldWithin result 0 }
-    ensures more_value { result.more ≡ false }
+    ensures within { HeldWithin result 0 }
+    ensures more { result.more ≡ false }
 {
     Held {
         at: 0,
@@ -74,8 +74,8 @@ fn write_out(streams: Streams, rows: &[u8]) -> bool {
 
 // The input has ended, with a last line that lacks its newline, or with nothing: what is left to write ends with the totals.
 fn finish(streams: Streams, left: &[u8], output: &mut [u8], state: State)
-    requires left_value { line_length left.now ≡ length left.now }
-    requires totals_length_in_bounds { row_length + totals_length ≤ length output.old }
+    requires last_line { line_length left.now ≡ length left.now }
+    requires room { row_length + totals_length ≤ length output.old }
 {
     let wrote = stream::finish(left, output, state);
     write_out(streams, &output[0..wrote]);
@@ -91,9 +91,9 @@ fn read_more(
     state: State,
 ) -> Held
     requires unended { Unended (part input.old at end) (length input.old) }
-    requires totals_length_in_bounds { row_length + totals_length ≤ length output.old }
-    ensures held_within { HeldWithin result (length input.new) }
-    ensures held_goes_on { HeldGoesOn (part input.old at end) state result input.new }
+    requires room { row_length + totals_length ≤ length output.old }
+    ensures within { HeldWithin result (length input.new) }
+    ensures goes_on { HeldGoesOn (part input.old at end) state result input.new }
 {
     let kept = buffer::keep(input, at, end);
     let mut lines = streams.input;
@@ -117,11 +117,11 @@ fn read_more(
 
 // Takes what the output has room for, and reads more where nothing can be taken.
 fn list_some(streams: Streams, input: &mut [u8], output: &mut [u8], held: Held) -> Held
-    requires held_within { HeldWithin held (length input.old) }
-    requires longest_in_bounds { longest < length input.old }
-    requires totals_length_in_bounds { row_length + totals_length ≤ length output.old }
-    ensures held_within_2 { HeldWithin result (length input.new) }
-    ensures held_goes_on { HeldGoesOn (drop (feed (held_in held input.old) (length output.old) held.state).used (held_in held input.old))
+    requires held { HeldWithin held (length input.old) }
+    requires longest { longest < length input.old }
+    requires room { row_length + totals_length ≤ length output.old }
+    ensures within { HeldWithin result (length input.new) }
+    ensures goes_on { HeldGoesOn (drop (feed (held_in held input.old) (length output.old) held.state).used (held_in held input.old))
         (feed (held_in held input.old) (length output.old) held.state).state result input.new }
 {
     let at = held.at;
@@ -144,8 +144,8 @@ fn list_some(streams: Streams, input: &mut [u8], output: &mut [u8], held: Held) 
 
 // A proved loop has to end, and nothing says that an input does: it counts its turns down, from a number that no run uses up.
 fn list(streams: Streams, input: &mut [u8], output: &mut [u8])
-    requires longest_in_bounds { longest < length input.old }
-    requires totals_length_in_bounds { row_length + totals_length ≤ length output.old }
+    requires longest { longest < length input.old }
+    requires room { row_length + totals_length ≤ length output.old }
 {
     let mut held = first();
     let mut turns = u64::MAX;

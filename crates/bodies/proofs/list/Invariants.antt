@@ -1,11 +1,12 @@
--- `bodies::list` is safe and ends. Assumes nothing.
+-- `bodies::list` is safe and ends.
 use mathlib.Core.Path.{◌≡◌}
 use lib.ListN.{length}
 use Rattle.bodies.specs.Held.{HeldWithin}
 use Rattle.bodies.proofs.list.Given as goal
 
-abbrev invariant-loop : tie.invariant-loop
-invariant-loop input₀ output₀ held₀ turns₀ input output held turns = HeldWithin held (length input) × (length input ≡ length input₀) × (length output ≡ length output₀)
+abbrev pub invariant-loop-turns : goal.invariant-loop-turns
+invariant-loop-turns l =
+    HeldWithin l.held (length l.input) × (length l.input ≡ length l.initial.input) × (length l.output ≡ length l.initial.output)
 
-abbrev decreases-loop : tie.decreases-loop
-decreases-loop input₀ output₀ held₀ turns₀ input output held turns = turns
+abbrev pub decreases-loop-turns : goal.decreases-loop-turns
+decreases-loop-turns l = l.turns
