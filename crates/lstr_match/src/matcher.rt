@@ -18,7 +18,7 @@ pub const MAXCCALLS: u32 = 200;
 
 // do_match, at a new level: the 201st is 28. The items that go on at this level are turns of a loop, as lstrlib.c's `goto init`, so that the
 // pattern's length does not deepen the stack. The captures of a match are kept once, at its end.
-#[cycle(do_match_end_capture_max_expand_min_expand_start_capture)]
+#[cycle(circle)]
 pub fn do_match(
     classes: &[u8; 512],
     subject: &[u8],
@@ -200,7 +200,7 @@ pub fn do_match(
 
 // max_expand: the single that fitted at `place` is tested further, and the rest of the pattern tried at new levels, from the last byte that fitted down to
 // `shortest`, which is `place` or the place after it. No level is opened where what the rest tests first fails.
-#[cycle(do_match_end_capture_max_expand_min_expand_start_capture)]
+#[cycle(circle)]
 fn max_expand(
     classes: &[u8; 512],
     subject: &[u8],
@@ -264,7 +264,7 @@ fn max_expand(
 
 // min_expand: the rest of the pattern at new levels, after no byte, after the byte that fitted, and after each further one that fits; no level is opened
 // where what it tests first fails.
-#[cycle(do_match_end_capture_max_expand_min_expand_start_capture)]
+#[cycle(circle)]
 fn min_expand(
     classes: &[u8; 512],
     subject: &[u8],
@@ -321,7 +321,7 @@ fn min_expand(
 }
 
 // start_capture: one more capture, open or a position by its length, and the rest of the pattern at a new level.
-#[cycle(do_match_end_capture_max_expand_min_expand_start_capture)]
+#[cycle(circle)]
 fn start_capture(
     classes: &[u8; 512],
     subject: &[u8],
@@ -354,7 +354,7 @@ fn start_capture(
 }
 
 // end_capture: the latest open capture is closed, and the rest of the pattern goes on at a new level.
-#[cycle(do_match_end_capture_max_expand_min_expand_start_capture)]
+#[cycle(circle)]
 fn end_capture(
     classes: &[u8; 512],
     subject: &[u8],
