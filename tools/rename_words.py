@@ -129,7 +129,7 @@ def main():
                 falls[tuple(sorted(words))].add(path)
         if path.endswith(".rt"):
             lines = text.split("\n")
-            new = "\n".join(renamed(l, names, fields, kept) if re.search(r"ghost use|requires|ensures|ghost", l) or re.search(r"[≡→≤×λ]", l) else l for l in lines)
+            new = "\n".join(renamed(l, names, fields, kept) if re.search(r"ghost use|requires|ensures|ghost", l) or re.search(r"[≡→≤×λ]", l) or re.match(r"        \(.*[a-z][A-Z]|        [a-zA-Z]+ \(.*[a-z][A-Z]", l) else l for l in lines)
         else:
             new = renamed(text, names, fields, kept)
         if write and new != old:

@@ -8,9 +8,18 @@ ghost use Rattle.luck_line.specs.Line.{longest};
 ghost use Rattle.luck_lines.specs.Stream.{row_length, totals_length, line_length, start, feed};
 ghost use Rattle.bodies.specs.Held.{HeldWithin, Unended, held_in, HeldGoesOn};
 
-use libc::{STDIN_FILENO, STDOUT_FILENO};
 use luck_lines::stream::State;
 use luck_lines::{buffer, stream};
+use std::env::{Env, FillError};
+use std::io::{Eprint, Error, Print, Read, Stderr, Stdin, Stdout};
+
+// Where the lines come from, where the rows go, and where it is said what failed.
+#[derive(Clone, Copy)]
+struct Streams {
+    input: Stdin,
+    output: Stdout,
+    errors: Stderr,
+}
 
 // The bytes of the input buffer that are not taken yet, from `at` to `end`; what the next call is handed; and whether there is more to do.
 #[derive(Clone, Copy)]
@@ -23,8 +32,8 @@ struct Held {
 
 // Before the first read.
 fn first() -> Held
-    ensures held_within { HeldWithin result 0 }
-    ensures state_value { result.state ≡ start }
+    ensures within { HeldWithin result 0 }
+    ensures state { result.state ≡ start }
 {
     Held {
         at: 0,
@@ -36,8 +45,8 @@ fn first() -> Held
 
 // An error was said, or the input has ended. After an error no totals are written, by which a loader tells that the listing is not whole.
 fn stop() -> Held
-    ensures held_within { HeldWithin result 0 }
-    ensures more_value { result.more ≡ false }
+    ensures within { HeldWithin result 0 }
+    ensures more { result.more ≡ false }
 {
     Held {
         at: 0,
@@ -47,57 +56,73 @@ fn stop() -> Held
     }
 }
 
-fn write_out(rows: &[u8]) -> bool {
-    let is_written = io::write_all(STDOUT_FILENO, rows);
-    if !is_written {
-        os::fail(b"bodies: standard output");
+// What failed, and why. Where even that can't be said, nothing is left to do.
+fn say(errors: Stderr, what: &str, why: Error) {
+    let _ = errors.eprint(what);
+    let _ = errors.eprintln(why);
+}
+
+fn write_out(streams: Streams, rows: &[u8]) -> bool {
+    match streams.output.write_all(rows) {
+        Ok(()) => true,
+        Err(why) => {
+            say(streams.errors, "bodies: standard output: ", why);
+            false
+        }
     }
-    is_written
 }
 
 // The input has ended, with a last line that lacks its newline, or with nothing: what is left to write ends with the totals.
-fn finish(left: &[u8], output: &mut [u8], state: State)
-    requires left_value { line_length left.now ≡ length left.now }
-    requires totals_length_in_bounds { row_length + totals_length ≤ length output.old }
+fn finish(streams: Streams, left: &[u8], output: &mut [u8], state: State)
+    requires last_line { line_length left.now ≡ length left.now }
+    requires room { row_length + totals_length ≤ length output.old }
 {
     let wrote = stream::finish(left, output, state);
-    write_out(&output[0..wrote]);
+    write_out(streams, &output[0..wrote]);
 }
 
 // No whole line is left: what there is moves to the front, and more is read after it.
-fn read_more(input: &mut [u8], output: &mut [u8], at: usize, end: usize, state: State) -> Held
+fn read_more(
+    streams: Streams,
+    input: &mut [u8],
+    output: &mut [u8],
+    at: usize,
+    end: usize,
+    state: State,
+) -> Held
     requires unended { Unended (part input.old at end) (length input.old) }
-    requires totals_length_in_bounds { row_length + totals_length ≤ length output.old }
-    ensures held_within { HeldWithin result (length input.new) }
-    ensures held_goes_on { HeldGoesOn (part input.old at end) state result input.new }
+    requires room { row_length + totals_length ≤ length output.old }
+    ensures within { HeldWithin result (length input.new) }
+    ensures goes_on { HeldGoesOn (part input.old at end) state result input.new }
 {
     let kept = buffer::keep(input, at, end);
-    let got = libc::read(STDIN_FILENO, &mut input[kept..]);
-    if got < 0 {
-        os::fail(b"bodies: standard input");
-        return stop();
-    }
-    if got == 0 {
-        finish(&input[0..kept], output, state);
-        return stop();
-    }
-    let more = io::count(got, &input[kept..]);
-    Held {
-        at: 0,
-        end: kept + more,
-        state,
-        more: true,
+    let mut lines = streams.input;
+    match lines.read(&mut input[kept..]) {
+        Err(why) => {
+            say(streams.errors, "bodies: standard input: ", why);
+            stop()
+        }
+        Ok(0) => {
+            finish(streams, &input[0..kept], output, state);
+            stop()
+        }
+        Ok(more) => Held {
+            at: 0,
+            end: kept + more,
+            state,
+            more: true,
+        },
     }
 }
 
 // Takes what the output has room for, and reads more where nothing can be taken.
-fn list_some(input: &mut [u8], output: &mut [u8], held: Held) -> Held
-    requires held_within { HeldWithin held (length input.old) }
-    requires longest_in_bounds { longest < length input.old }
-    requires totals_length_in_bounds { row_length + totals_length ≤ length output.old }
-    ensures held_within_2 { HeldWithin result (length input.new) }
-    ensures held_goes_on { HeldGoesOn (drop (feed (held_in held input.old) (length output.old) held.state).used (held_in held input.old))
-        (feed (heldIn held input.old) (length output.old) held.state).state result input.new }
+fn list_some(streams: Streams, input: &mut [u8], output: &mut [u8], held: Held) -> Held
+    requires held { HeldWithin held (length input.old) }
+    requires longest { longest < length input.old }
+    requires room { row_length + totals_length ≤ length output.old }
+    ensures within { HeldWithin result (length input.new) }
+    ensures goes_on { HeldGoesOn (drop (feed (held_in held input.old) (length output.old) held.state).used (held_in held input.old))
+        (feed (held_in held input.old) (length output.old) held.state).state result input.new }
 {
     let at = held.at;
     let end = held.end;
@@ -106,7 +131,7 @@ fn list_some(input: &mut [u8], output: &mut [u8], held: Held) -> Held
     let left = at + fed.used;
     let state = fed.state;
     if 0 < wrote {
-        let is_written = write_out(&output[0..wrote]);
+        let is_written = write_out(streams, &output[0..wrote]);
         return Held {
             at: left,
             end,
@@ -114,18 +139,18 @@ fn list_some(input: &mut [u8], output: &mut [u8], held: Held) -> Held
             more: is_written,
         };
     }
-    read_more(input, output, left, end, state)
+    read_more(streams, input, output, left, end, state)
 }
 
 // A proved loop has to end, and nothing says that an input does: it counts its turns down, from a number that no run uses up.
-fn list(input: &mut [u8], output: &mut [u8])
-    requires longest_in_bounds { longest < length input.old }
-    requires totals_length_in_bounds { row_length + totals_length ≤ length output.old }
+fn list(streams: Streams, input: &mut [u8], output: &mut [u8])
+    requires longest { longest < length input.old }
+    requires room { row_length + totals_length ≤ length output.old }
 {
     let mut held = first();
     let mut turns = u64::MAX;
     while 0 < turns {
-        held = list_some(input, output, held);
+        held = list_some(streams, input, output, held);
         if !held.more {
             return;
         }
@@ -135,15 +160,25 @@ fn list(input: &mut [u8], output: &mut [u8])
 
 // A word after the program's name is a slip, mostly a file's name without its `<`: a listing of standard input would be that
 // of another input, and at a terminal the program would wait for one.
-fn main() {
-    if 1 < os::arg_count() {
-        io::write_all(
-            libc::STDERR_FILENO,
-            b"bodies: takes no arguments, and has read nothing; it lists standard input: bodies < FILE\n",
+fn main(rt: HostRuntime) {
+    if has_argument(&rt) {
+        let _ = rt.eprintln(
+            "bodies: takes no arguments, and has read nothing; it lists standard input: bodies < FILE",
         );
         return;
     }
-    let mut input = io::large_buffer();
-    let mut output = io::large_buffer();
-    list(&mut input, &mut output);
+    let streams = Streams {
+        input: rt.stdin(),
+        output: rt.stdout(),
+        errors: rt.stderr(),
+    };
+    let mut input = [0u8; 65536];
+    let mut output = [0u8; 65536];
+    list(streams, &mut input, &mut output);
+}
+
+// Whether a word follows the program's name.
+fn has_argument(words: &impl Env) -> bool {
+    let mut first = [0u8; 1];
+    !matches!(words.arg(1, &mut first), Err(FillError::NotPresent))
 }

@@ -79,7 +79,7 @@ fn first_capture(
 ) -> Attempt
     requires { (next ≤ length pattern.now) × (place ≤ length subject.now) × (positional ≤ len) }
     ensures { (outcome_of result kept.new ≡
-        startCapture (captureOf place len) (match (classIn classes.now) subject.now budget (items pattern.now next)) place 1 [] steps)
+        do_start_capture (capture_of place len) (match (class_in classes.now) subject.now budget (items pattern.now next)) place 1 [] steps)
         × AttemptIn result kept.new (length subject.now) }
 {
     let r = matcher::do_match(

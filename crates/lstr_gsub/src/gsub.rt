@@ -34,7 +34,7 @@ fn run_rounds(
     output: &mut [u8],
 ) -> Trial
     ensures { Reported result output.old output.new
-        (rounds (classIn classes.now) subject.now budget (length output.old) (writerBy is_strict replacement.now subject.now (length output.old)) (items pattern.now 0) 0 none [] 0 0) }
+        (rounds (class_in classes.now) subject.now budget (length output.old) (writer_by is_strict replacement.now subject.now (length output.old)) (items pattern.now 0) 0 none [] 0 0) }
 {
     let lead = lead::lead_of(pattern);
     let mut kept = [0usize; 64];
@@ -124,7 +124,7 @@ fn run_anchored(
 ) -> Trial
     requires { 1 ≤ length pattern.now }
     ensures { Reported result output.old output.new
-        (anchoredRound subject.now (length output.old) (writerBy is_strict replacement.now subject.now (length output.old)) (match (classIn classes.now) subject.now budget (items pattern.now 1) 0 1 [] 0)) }
+        (anchored_round subject.now (length output.old) (writer_by is_strict replacement.now subject.now (length output.old)) (match (class_in classes.now) subject.now budget (items pattern.now 1) 0 1 [] 0)) }
 {
     let mut kept = [0usize; 64];
     let attempt = attempt::attempt(classes, subject, pattern, 1, 0, budget, 0, &mut kept);

@@ -112,7 +112,7 @@ fn add_digit(
 ) -> Wrote
     requires { (at ≤ length output.old) × (place ≤ end) × (end ≤ length subject.now) × (digit < 10) × KeptIn (length subject.now) count kept.now }
     ensures { WroteAs result at output.old output.new
-        (addDigit subject.now (length output.old) place end (capturesIn count kept.now) digit (take at output.old)) }
+        (add_digit subject.now (length output.old) place end (captures_in count kept.now) digit (take at output.old)) }
 {
     if digit == 0 {
         return append(output, at, &subject[place..end]);
@@ -146,7 +146,7 @@ pub fn add_pieces(
 ) -> Wrote
     requires { (at ≤ length output.old) × (place ≤ end) × (end ≤ length subject.now) × KeptIn (length subject.now) count kept.now }
     ensures { WroteAs result at output.old output.new
-        (addPieces subject.now (length output.old) place end (capturesIn count kept.now) is_strict (pieces replacement.now) (take at output.old)) }
+        (add_pieces subject.now (length output.old) place end (captures_in count kept.now) is_strict (pieces replacement.now) (take at output.old)) }
 {
     let mut read = 0;
     let mut next = at;
@@ -210,7 +210,7 @@ fn add_escape(
 ) -> Wrote
     requires { (at ≤ length output.old) × (place ≤ end) × (end ≤ length subject.now) × KeptIn (length subject.now) count kept.now }
     ensures { WroteAs result at output.old output.new
-        (addPiece subject.now (length output.old) place end (capturesIn count kept.now) is_strict (escaped behind) (take at output.old)) }
+        (add_piece subject.now (length output.old) place end (captures_in count kept.now) is_strict (escaped behind) (take at output.old)) }
 {
     match behind {
         b'%' => append_byte(output, at, b'%'),

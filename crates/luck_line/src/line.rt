@@ -2,7 +2,7 @@
 ghost use Rattle.std.specs.Prelude.{◌≡◌};
 ghost use Rattle.luck_answer.specs.Answer.{check_answer};
 ghost use Rattle.luck_linter.specs.Checks.{check_named};
-ghost use Rattle.luck_line.specs.Line.{decimal_digit as digitOf, two_digits, capture_columns, check_with, body_answer, line_answer};
+ghost use Rattle.luck_line.specs.Line.{decimal_digit as digit_of, two_digits, capture_columns, check_with, body_answer, line_answer};
 ghost use Rattle.luck_line.specs.Inner.{columns_of};
 
 use luck_answer::answer;
@@ -27,7 +27,7 @@ pub enum Columns {
 }
 
 fn digit(byte: u8) -> u32
-    ensures { result ≡ digitOf byte }
+    ensures { result ≡ digit_of byte }
 {
     if byte < b'0' {
         return 0;

@@ -5,7 +5,7 @@ use Rattle.std.specs.Prelude.{ℕ, ◌≡◌, refl, Bool, true, false, ◌&&◌,
 use Prim.Native.Char.{code}
 use Rattle.luck_text.specs.Bytes.{ascii, if◌then◌else◌, among}
 use Rattle.luck_answer.specs.Answer.{refused}
-use Rattle.luck_linter.specs.Computed.{computed as checksComputed}
+use Rattle.luck_linter.specs.Computed.{computed as checks_computed}
 use Rattle.luck_line.specs.Line.{line_numbers, two_digits, capture_columns, check_with, head_check, body_answer, line_answer}
 use Rattle.luck_line.specs.Row.{newline, column, justified, four_columns, seven_columns, listing_row, totals_row}
 use Rattle.luck_lines.specs.Lines.{last_line, lines_from, lines, answers, rows, refused_count, listing}
@@ -14,7 +14,7 @@ use Rattle.luck_lines.specs.Lines.{is_empty, ends_in_14_columns, is_whole}
 -- what is computed
 unfoldable pub computed : Unit {0}
 unfolding
-    checksComputed two_digits capture_columns check_with head_check body_answer line_answer column justified four_columns
+    checks_computed two_digits capture_columns check_with head_check body_answer line_answer column justified four_columns
     seven_columns listing_row totals_row last_line lines_from lines answers rows refused_count listing
     is_empty ends_in_14_columns is_whole
 computed = tt

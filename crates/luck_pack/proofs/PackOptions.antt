@@ -202,7 +202,7 @@ module _ (text : List ℕ) where
   module _ (p : ℕ) (o : PackOption) (width : ℕ) (e : getoption text p ≡ option o width) where
     count_next : (kind : KOption) → kind_of o.letter ≡ kind → count false p ≡ values_of kind + count (is_paddalign kind) (p + width)
     unfolding values
-    count_next kind k = ap (values false) (options_next p o width e) ∙ ap (λ (x : KOption). values_of x + count (is_paddalign x) (p + width)) k
+    count_next _ k = ap (values false) (options_next p o width e) ∙ ap (λ (x : KOption). values_of x + count (is_paddalign x) (p + width)) k
 
     count_behind : count true p ≡ count false (p + width)
     unfolding values

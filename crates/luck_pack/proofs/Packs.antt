@@ -310,7 +310,7 @@ goes_in (packturn.Fault refusing) width p len e l h = tt
 -- ---- What the code does with what it keeps
 
 kept_alignment_lem : (k : KOption) (o : Given) → kept_alignment (kept_as k o) ≡ alignment_of luck_size k o
-unfolding kept_alignment kept_as alignment_of
+unfolding kept_as alignment_of
 kept_alignment_lem Kint o = refl
 kept_alignment_lem Kuint o = refl
 kept_alignment_lem Kfloat o = refl

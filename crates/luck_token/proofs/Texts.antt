@@ -26,7 +26,7 @@ module _ {A : Type 0} (refusal : ℕ → ℕ → A) (version : ℕ) (text : List
   unfolding after_text after_version
   text_unknown_version v = sym (if_false _ _ _ v)
 
--- the first ill_formed_lem sequence lies in the text
+-- the first ill-formed sequence lies in the text
 abbrev PlaceIn : ℕ → Option ℕ → Type 0
 PlaceIn len none = Unit {0}
 PlaceIn len (some p) = p < len

@@ -11,7 +11,7 @@ use Rattle.luck_token.specs.Version.{is_version}
 unfoldable pub after_version : {A : Type 0} → (ℕ → ℕ → A) → ℕ → A → A
 after_version refusal version answer = if is_version version then answer else refusal 25 0
 
--- 23 at the first ill_formed_lem sequence, if there is one
+-- 23 at the first ill-formed sequence, if there is one
 unfoldable pub after_utf8 : {A : Type 0} → (ℕ → ℕ → A) → Option ℕ → A → A
 after_utf8 refusal none answer = answer
 after_utf8 refusal (some place) answer = refusal 23 place

@@ -61,7 +61,7 @@ module _ (text body : List ℕ) (from end : ℕ) (inside : end ≤ length body)
         let i = (formed text (q + from) w e f).inside in
         by_row (omega arith) (tails_of rfc3629 (byte_at text (q + from))) refl
 
-  -- where no sequence of the text goes past the end, and all of them are well_formed, the body's walk comes to the end
+  -- where no sequence of the text goes past the end, and all of them are well-formed, the body's walk comes to the end
   module _ (within : end + from ≤ length text)
       (stops : (q w : ℕ) → q < end → Formed text (q + from) w → q + w ≤ end) where
     turn : (q : ℕ) → walk_at text (q + from) ≡ none

@@ -54,7 +54,7 @@ module _ (c : ℕ) where
       → char_at (before ++ utf8_bytes c ++ after) (length before) ≡ record { code = c; width = length (utf8_bytes c) }
   reads_back e before after = (read _ (length before) c e (stands before (utf8_bytes c) after)).char
 
-  -- Behind a well_formed text they make a well_formed text.
+  -- Behind a well-formed text they make a well-formed text.
   pub well_formed : is_char c ≡ true → (before : List ℕ) → ill_formed before ≡ none
       → ill_formed (before ++ utf8_bytes c) ≡ none
   unfolding ill_formed
@@ -69,12 +69,12 @@ module _ (c : ℕ) where
       ∙ walk_sequence text (length before) (length bytes) (sym w) (λ z. omega arith) s.inside
       ∙ ap (walk_at text) end ∙ at_end text
 
-  -- Any other code point, a surrogate or one above 10FFFF, is ill_formed_lem at each of its bytes.
+  -- Any other code point, a surrogate or one above 10FFFF, is ill-formed at each of its bytes.
   pub ill_formed_lem : is_char c ≡ false → (before after : List ℕ) (k : ℕ) → k < length (utf8_bytes c)
       → sequence (before ++ utf8_bytes c ++ after) (length before + k) ≡ 0
   ill_formed_lem e before after = refused _ (length before) c e (stands before (utf8_bytes c) after)
 
-  -- Behind a well_formed text its first byte is the first ill_formed_lem one.
+  -- Behind a well-formed text its first byte is the first ill-formed one.
   pub first_ill_formed : c ≤ last_code → is_char c ≡ false → (before after : List ℕ) → ill_formed before ≡ none
       → ill_formed (before ++ utf8_bytes c ++ after) ≡ some (length before)
   unfolding ill_formed

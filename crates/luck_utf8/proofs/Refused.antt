@@ -1,4 +1,4 @@
--- The bytes of a code point that has no character, where they stand in a text: a well_formed sequence begins at none.
+-- The bytes of a code point that has no character, where they stand in a text: a well-formed sequence begins at none.
 -- Assumes nothing.
 use mathlib.Core.Path.{◌≡◌, ap, ◌∙◌}
 use mathlib.Core.Bool.{false}

@@ -1,4 +1,4 @@
--- The laws of UTF-8: the row of a first byte, the bytes that follow it, what a well_formed sequence says of its bytes,
+-- The laws of UTF-8: the row of a first byte, the bytes that follow it, what a well-formed sequence says of its bytes,
 -- the walk at a sequence and over a run of ASCII bytes, and the character at a place.
 -- Assumes nothing.
 use mathlib.Core.Path.{◌≡◌, refl, sym, ap, ◌∙◌}
@@ -156,7 +156,7 @@ module _ {text : List ℕ} {p : ℕ} where
         left_in t h =
             record { whole = l.whole ∙ ap (λ (f : Bool). if f then n else 0) (follow_in text p k r ranges h (sym e ∙ not-false b t)) }
 
--- What a well_formed sequence says of its bytes.
+-- What a well-formed sequence says of its bytes.
 
 -- the least first byte that so many bytes follow
 abbrev pub least : ℕ → ℕ

@@ -1,4 +1,4 @@
--- UTF-8 as RFC 3629 has it: well_formed sequences, and the character at a place. The bytes of a code point, as RFC 2279
+-- UTF-8 as RFC 3629 has it: well-formed sequences, and the character at a place. The bytes of a code point, as RFC 2279
 -- has them: those of a character are the same in both.
 -- Assumes nothing.
 use Rattle.std.specs.Prelude.{ℕ, zero, suc, ◌+◌, ◌*◌, ◌-◌, ◌/◌, ◌%◌, Bool, true, ◌&&◌, ◌||◌, List, [], ◌∷◌, length, eqb, leb, ltb}
@@ -56,11 +56,11 @@ unfoldable pub width_by : List ℕ → ℕ → Option (List Range) → ℕ
 width_by text p none = 0
 width_by text p (some tails) = if follow text (p + 1) tails then suc (length tails) else 0
 
--- how many bytes the well_formed sequence at place p has; 0 where it is ill_formed_lem or the text ends there
+-- how many bytes the well-formed sequence at place p has; 0 where it is ill-formed or the text ends there
 unfoldable pub sequence : List ℕ → ℕ → ℕ
 sequence text p = if ltb p (length text) then width_by text p (tails_of rfc3629 (byte_at text p)) else 0
 
--- the place of the first ill_formed_lem sequence, none where the whole text is well_formed
+-- the place of the first ill-formed sequence, none where the whole text is well-formed
 unfoldable pub sequence_at : List ℕ → ℕ → Unit {0} → Turn (Unit {0}) (Option ℕ)
 sequence_at text p u = if eqb (sequence text p) 0 then stop (some p) else goes (sequence text p) tt
 
@@ -86,7 +86,7 @@ code_point text p width =
     else if eqb width 3 then ((b0 - 0xE0) * 0x40 + b1) * 0x40 + b2
     else (((b0 - 0xF0) * 0x40 + b1) * 0x40 + b2) * 0x40 + b3
 
--- the character at a place; at the end, inside a character and at an ill_formed_lem sequence U+FFFD of width 1, as in luck
+-- the character at a place; at the end, inside a character and at an ill-formed sequence U+FFFD of width 1, as in luck
 -- (peek_char, literal_error)
 unfoldable pub char_at : List ℕ → ℕ → Char
 char_at text p =

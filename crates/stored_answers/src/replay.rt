@@ -4,6 +4,8 @@ ghost use Rattle.stored_records.specs.Tally.{Passes};
 
 use crate::asked;
 use crate::asked::Answers;
+use std::io::Print;
+use std::rt::Files;
 use stored_files::reader::Loaded;
 use stored_files::{reader, report};
 use stored_literals::literals;
@@ -21,17 +23,17 @@ pub enum Format {
     Trials,
 }
 
-pub fn run(name: &[u8], path: &[u8], format: Format) {
+pub fn run<R: Files + Print>(rt: &R, name: &[u8], path: &[u8], format: Format) {
     let mut file = [0u8; 262144];
-    run_in(name, path, format, &mut file);
+    run_in(rt, name, path, format, &mut file);
 }
 
 // With a buffer that has to be larger than the file.
-fn run_in(name: &[u8], path: &[u8], format: Format, file: &mut [u8]) {
-    let loaded = reader::load(path, file);
+fn run_in<R: Files + Print>(rt: &R, name: &[u8], path: &[u8], format: Format, file: &mut [u8]) {
+    let loaded = reader::load(rt, path, file);
     match loaded {
-        Loaded::Length(n) => report::replayed(name, replay(format, &file[0..n])),
-        _ => report::not_read(name, loaded),
+        Loaded::Length(n) => report::replayed(rt, name, replay(format, &file[0..n])),
+        _ => report::not_read(rt, name, loaded),
     }
 }
 

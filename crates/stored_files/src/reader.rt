@@ -2,6 +2,11 @@
 ghost use Rattle.std.specs.Prelude.{length};
 ghost use Rattle.stored_files.specs.Loads.{Loads};
 
+use std::fs::File;
+use std::io::Read;
+use std::rt::Files;
+use std::str;
+
 #[derive(Clone, Copy)]
 pub enum Loaded {
     Length(usize),
@@ -11,33 +16,36 @@ pub enum Loaded {
     TooLarge,
 }
 
-pub fn load(path: &[u8], buffer: &mut [u8]) -> Loaded
+// A path is text: bytes that are no UTF-8 name no file.
+pub fn load(files: &impl Files, path: &[u8], buffer: &mut [u8]) -> Loaded
     ensures { Loads (length buffer.old) result }
 {
-    let fd = os::open_read(path);
-    if fd < 0 {
-        return Loaded::Missing;
+    match str::from_utf8(path) {
+        Ok(name) => load_named(files, name, buffer),
+        Err(_) => Loaded::Missing,
     }
-    let loaded = read_all(fd, buffer);
-    libc::close(fd);
-    loaded
+}
+
+fn load_named(files: &impl Files, name: &str, buffer: &mut [u8]) -> Loaded
+    ensures { Loads (length buffer.old) result }
+{
+    match File::open(files, name) {
+        Ok(mut file) => read_all(&mut file, buffer),
+        Err(_) => Loaded::Missing,
+    }
 }
 
 // A read may give less than what is left, so it goes on to one that gives nothing.
-fn read_all(fd: i32, buffer: &mut [u8]) -> Loaded
+fn read_all(file: &mut impl Read, buffer: &mut [u8]) -> Loaded
     ensures { Loads (length buffer.old) result }
 {
     let mut done = 0;
     while done < buffer.len() {
-        let got = libc::read(fd, &mut buffer[done..]);
-        if got < 0 {
-            return Loaded::Unreadable;
+        match file.read(&mut buffer[done..]) {
+            Err(_) => return Loaded::Unreadable,
+            Ok(0) => return Loaded::Length(done),
+            Ok(more) => done += more,
         }
-        let more = io::count(got, &buffer[done..]);
-        if more == 0 {
-            return Loaded::Length(done);
-        }
-        done += more;
     }
     Loaded::TooLarge
 }

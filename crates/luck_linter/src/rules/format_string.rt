@@ -6,19 +6,19 @@ ghost use Rattle.luck_replacement.specs.Replacement.{count_of};
 ghost use Rattle.std.proofs.Math.Option.{some};
 ghost use Rattle.luck_linter.specs.Checks.{walk_of, check_meant, check_named};
 ghost use Rattle.luck_linter.specs.StringLiteral.{
-  isNumericEscape,
-  hasNumericEscape,
-  hasBackslash,
-  literalAnswer,
-  skippedAnswer,
+  is_numeric_escape,
+  has_numeric_escape,
+  has_backslash,
+  literal_answer,
+  skipped_answer,
   unspanned,
-  spannedAnswer,
-  spanAt,
-  withSpan,
-  checkBody,
-  checkShort,
-  checkNamedLiteral,
-  checkLiteral,
+  spanned_answer,
+  span_at,
+  with_span,
+  check_body,
+  check_short,
+  check_named_literal,
+  check_literal,
 };
 ghost use Rattle.luck_linter.specs.Inner.{is_some, is_numeric};
 

@@ -1,20 +1,7 @@
 -- `lstr_class::subject::match_balance` meets its contract. Assumes nothing.
-use Prim.Native.Nat.{◌-◌, ◌<◌, ◌≤◌}
-use mathlib.Core.Path.{◌≡◌, sym, ◌∙◌}
+use mathlib.Core.Path.{sym, ◌∙◌}
 use native.Mathlib.Omega.{arith}
-use lib.ListN.{length}
-use Rattle.lstr_class.specs.Subject.{match_balance}
-use Rattle.lstr_class.proofs.Subjects.{
-  balance_from,
-  balance_none,
-  balance_ends,
-  balance_closes,
-  balance_opens,
-  balance_passes,
-  no_byte,
-  other_byte,
-  balance_starts,
-}
+use Rattle.lstr_class.proofs.Subjects.{balance_none, balance_ends, balance_closes, balance_opens, balance_passes, no_byte, other_byte, balance_starts}
 use Rattle.lstr_class.proofs.subject.match_balance.Goals as goal
 
 pub returns-then-subject-place : goal.returns-then-subject-place

@@ -1,20 +1,9 @@
 -- `lstr_class::subject::match_balance` meets its contract. Assumes nothing.
 use Prim.Native.Nat.{◌-◌, ◌<◌, ◌≤◌}
-use mathlib.Core.Path.{◌≡◌, sym, ◌∙◌}
-use native.Mathlib.Omega.{arith}
+use mathlib.Core.Path.{◌≡◌}
 use lib.ListN.{length}
 use Rattle.lstr_class.specs.Subject.{match_balance}
-use Rattle.lstr_class.proofs.Subjects.{
-  balance_from,
-  balance_none,
-  balance_ends,
-  balance_closes,
-  balance_opens,
-  balance_passes,
-  no_byte,
-  other_byte,
-  balance_starts,
-}
+use Rattle.lstr_class.proofs.Subjects.{balance_from}
 use Rattle.lstr_class.proofs.subject.match_balance.Given as goal
 
 -- from `at` on the bytes give the whole answer

@@ -1,9 +1,7 @@
 -- `lstr_class::subject::same_bytes` meets its contract. Assumes nothing.
 use Prim.Native.Nat.{◌+◌, ◌-◌, ◌≤◌}
-use mathlib.Core.Path.{◌≡◌, sym, ◌∙◌}
-use native.Mathlib.Omega.{arith}
+use mathlib.Core.Path.{◌≡◌}
 use Rattle.lstr_class.specs.Subject.{same_bytes}
-use Rattle.lstr_class.proofs.Subjects.{same_start, same_end, same_not, same_more}
 use Rattle.lstr_class.proofs.subject.same_bytes.Given as goal
 
 abbrev pub invariant-loop-i : goal.invariant-loop-i

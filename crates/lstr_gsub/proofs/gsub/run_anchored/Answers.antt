@@ -17,7 +17,7 @@ returns-then-attempt-gt1 c =
     let a = c.args in
     let o = c.attempt-attempt.ensures.0 in
     let u = outputs.begins 0 a.output.now (omega arith) in
-    rounds.reported a.output.now 0 a.output.now _ _ _ _ _ u (rounds.anchored_stops (class_in a.classes.now) a.subject.now a.budget a.is-strict a.replacement.now (items a.pattern.now 1) a.output.now c.attempt-attempt.result _ o c.if-attempt-gt1.true)
+    rounds.reported a.output.now 0 a.output.now _ _ _ _ _ u (rounds.anchored_stops (class_in a.classes.now) a.subject.now a.budget a.is_strict a.replacement.now (items a.pattern.now 1) a.output.now c.attempt-attempt.result _ o c.if-attempt-gt1.true)
 
 pub append-copied-requires : goal.append-copied-requires
 append-copied-requires c = omega arith
@@ -29,7 +29,7 @@ returns-then-attempt-eq1 c =
     let u = outputs.begins 0 a.output.now (omega arith) in
     let more = c.append-copied.ensures in
     rounds.reported a.output.now _ _ _ _ _ _ _ (outputs.goes_on 0 a.output.now 0 a.output.now u _ _ _ more (search rules))
-    (rounds.anchored_fails (class_in a.classes.now) a.subject.now a.budget a.is-strict a.replacement.now (items a.pattern.now 1) a.output.now c.attempt-attempt.result _ o c.if-attempt-eq1.true _ _ more)
+    (rounds.anchored_fails (class_in a.classes.now) a.subject.now a.budget a.is_strict a.replacement.now (items a.pattern.now 1) a.output.now c.attempt-attempt.result _ o c.if-attempt-eq1.true _ _ more)
 
 pub add_pieces-wrote-requires : goal.add_pieces-wrote-requires
 add_pieces-wrote-requires c =
@@ -44,7 +44,7 @@ returns-then-wrote-ne0 c =
     let more = c.add_pieces-wrote.ensures in
     let z : c.attempt-attempt.result.number ≡ 0 = omega (arith, c.if-attempt-eq1.false, c.if-attempt-gt1.false) in
     rounds.reported a.output.now _ _ _ _ _ _ _ (outputs.goes_on 0 a.output.now 0 a.output.now u _ _ _ more (search rules))
-    (rounds.anchored_ends (class_in a.classes.now) a.subject.now a.budget a.is-strict a.replacement.now (items a.pattern.now 1) a.output.now c.attempt-attempt.result _ o z _ _ more c.if-wrote-ne0.true)
+    (rounds.anchored_ends (class_in a.classes.now) a.subject.now a.budget a.is_strict a.replacement.now (items a.pattern.now 1) a.output.now c.attempt-attempt.result _ o z _ _ more c.if-wrote-ne0.true)
 
 pub slice_bounds-append-count : goal.slice_bounds-append-count
 slice_bounds-append-count c =
@@ -69,4 +69,4 @@ returns c =
     let z : c.attempt-attempt.result.number ≡ 0 = omega (arith, c.if-attempt-eq1.false, c.if-attempt-gt1.false) in
     let v = outputs.goes_on 0 a.output.now 0 a.output.now u _ _ _ more (search (rules, c.output-2-1.given)) in
     rounds.reported a.output.now _ _ _ _ _ _ _ (outputs.goes_on 0 a.output.now _ _ v _ _ _ rest (search rules))
-    (rounds.anchored_copies (class_in a.classes.now) a.subject.now a.budget a.is-strict a.replacement.now (items a.pattern.now 1) a.output.now c.attempt-attempt.result _ o z _ _ more c.if-wrote-ne0.false v.same _ _ rest)
+    (rounds.anchored_copies (class_in a.classes.now) a.subject.now a.budget a.is_strict a.replacement.now (items a.pattern.now 1) a.output.now c.attempt-attempt.result _ o z _ _ more c.if-wrote-ne0.false v.same _ _ rest)

@@ -11,7 +11,7 @@ use Rattle.lstr_gsub.proofs.gsub.run_rounds.Goals as goal
 pub rounds-init : goal.rounds-init
 rounds-init c =
     let a = c.args in
-    rounds.starts (class_in a.classes.now) a.subject.now a.budget a.is-strict a.replacement.now (items a.pattern.now 0) a.output.now
+    rounds.starts (class_in a.classes.now) a.subject.now a.budget a.is_strict a.replacement.now (items a.pattern.now 0) a.output.now
 
 pub attempt_at-attempt-requires : goal.attempt_at-attempt-requires
 attempt_at-attempt-requires c =
@@ -26,7 +26,7 @@ returns-then-attempt-gt1 c =
     let l = c.rounds in
     let a = c.args in
     let o = c.attempt_at-attempt.ensures.0 in
-    rounds.reported a.output.now l.written l.output _ _ _ _ _ l.invariant.upto (rounds.stopping (class_in a.classes.now) a.subject.now a.budget a.is-strict a.replacement.now (items a.pattern.now 0) a.output.now l.place l.after_last l.written l.replacements l.steps l.output l.invariant c.attempt_at-attempt.result _ o c.if-attempt-gt1.true)
+    rounds.reported a.output.now l.written l.output _ _ _ _ _ l.invariant.upto (rounds.stopping (class_in a.classes.now) a.subject.now a.budget a.is_strict a.replacement.now (items a.pattern.now 0) a.output.now l.place l.after_last l.written l.replacements l.steps l.output l.invariant c.attempt_at-attempt.result _ o c.if-attempt-gt1.true)
 
 pub overflow_add-end : goal.overflow_add-end
 overflow_add-end c = omega (arith, c.attempt_at-attempt.ensures.1.end c.if-attempt-eq0.true, c.well_formed.1.1.1.1.0.1)
@@ -41,7 +41,7 @@ add_pieces-wrote-requires c =
     let o = c.attempt_at-attempt.ensures.0 in
     let z = c.if-attempt-eq0.true in
     let u = l.invariant.upto in
-    (omega (arith, u.inside, u.same), rounds.ends_later (class_in a.classes.now) a.subject.now a.budget a.is-strict a.replacement.now (items a.pattern.now 0) a.output.now l.place l.after_last l.written l.replacements l.steps l.output l.invariant c.attempt_at-attempt.result _ o z, c.attempt_at-attempt.ensures.1.end z, c.attempt_at-attempt.ensures.1.captures z)
+    (omega (arith, u.inside, u.same), rounds.ends_later (class_in a.classes.now) a.subject.now a.budget a.is_strict a.replacement.now (items a.pattern.now 0) a.output.now l.place l.after_last l.written l.replacements l.steps l.output l.invariant c.attempt_at-attempt.result _ o z, c.attempt_at-attempt.ensures.1.end z, c.attempt_at-attempt.ensures.1.captures z)
 
 pub shape_of-output-then-wrote-ne0 : goal.shape_of-output-then-wrote-ne0
 shape_of-output-then-wrote-ne0 c = search (rules, c.rounds.invariant.upto.same)
@@ -51,7 +51,7 @@ returns-then-wrote-ne0 c =
     let l = c.rounds in
     let a = c.args in
     let o = c.attempt_at-attempt.ensures.0 in
-    rounds.reported a.output.now _ _ _ _ _ _ _ (rounds.goes_upto (class_in a.classes.now) a.subject.now a.budget a.is-strict a.replacement.now (items a.pattern.now 0) a.output.now l.place l.after_last l.written l.replacements l.steps l.output l.invariant c.attempt_at-attempt.result _ o c.if-attempt-eq0.true c.if-end-after_last.true _ _ c.add_pieces-wrote.ensures (search rules)) (rounds.replaced_ends (class_in a.classes.now) a.subject.now a.budget a.is-strict a.replacement.now (items a.pattern.now 0) a.output.now l.place l.after_last l.written l.replacements l.steps l.output l.invariant c.attempt_at-attempt.result _ o c.if-attempt-eq0.true c.if-end-after_last.true _ _ c.add_pieces-wrote.ensures (search rules) c.if-wrote-ne0.true)
+    rounds.reported a.output.now _ _ _ _ _ _ _ (rounds.goes_upto (class_in a.classes.now) a.subject.now a.budget a.is_strict a.replacement.now (items a.pattern.now 0) a.output.now l.place l.after_last l.written l.replacements l.steps l.output l.invariant c.attempt_at-attempt.result _ o c.if-attempt-eq0.true c.if-end-after_last.true _ _ c.add_pieces-wrote.ensures (search rules)) (rounds.replaced_ends (class_in a.classes.now) a.subject.now a.budget a.is_strict a.replacement.now (items a.pattern.now 0) a.output.now l.place l.after_last l.written l.replacements l.steps l.output l.invariant c.attempt_at-attempt.result _ o c.if-attempt-eq0.true c.if-end-after_last.true _ _ c.add_pieces-wrote.ensures (search rules) c.if-wrote-ne0.true)
 
 pub overflow_add-after_last : goal.overflow_add-after_last
 overflow_add-after_last c = omega (arith, c.attempt_at-attempt.ensures.1.end c.if-attempt-eq0.true, c.well_formed.1.1.1.1.0.1)
@@ -61,7 +61,7 @@ rounds-smaller-then-end-after_last c =
     let l = c.rounds in
     let a = c.args in
     let o = c.attempt_at-attempt.ensures.0 in
-    let t = rounds.takes_step (class_in a.classes.now) a.subject.now a.budget a.is-strict a.replacement.now (items a.pattern.now 0) a.output.now l.place l.after_last l.written l.replacements l.steps l.output l.invariant c.attempt_at-attempt.result _ o c.if-attempt-gt1.false in
+    let t = rounds.takes_step (class_in a.classes.now) a.subject.now a.budget a.is_strict a.replacement.now (items a.pattern.now 0) a.output.now l.place l.after_last l.written l.replacements l.steps l.output l.invariant c.attempt_at-attempt.result _ o c.if-attempt-gt1.false in
     omega (arith, t.0, t.1)
 
 pub rounds-preserved-then-end-after_last : goal.rounds-preserved-then-end-after_last
@@ -69,7 +69,7 @@ rounds-preserved-then-end-after_last c =
     let l = c.rounds in
     let a = c.args in
     let o = c.attempt_at-attempt.ensures.0 in
-    rounds.replaced_goes (class_in a.classes.now) a.subject.now a.budget a.is-strict a.replacement.now (items a.pattern.now 0) a.output.now l.place l.after_last l.written l.replacements l.steps l.output l.invariant c.attempt_at-attempt.result _ o c.if-attempt-eq0.true c.if-end-after_last.true _ _ c.add_pieces-wrote.ensures (search rules) c.if-wrote-ne0.false (c.attempt_at-attempt.ensures.1.end c.if-attempt-eq0.true)
+    rounds.replaced_goes (class_in a.classes.now) a.subject.now a.budget a.is_strict a.replacement.now (items a.pattern.now 0) a.output.now l.place l.after_last l.written l.replacements l.steps l.output l.invariant c.attempt_at-attempt.result _ o c.if-attempt-eq0.true c.if-end-after_last.true _ _ c.add_pieces-wrote.ensures (search rules) c.if-wrote-ne0.false (c.attempt_at-attempt.ensures.1.end c.if-attempt-eq0.true)
 
 pub shape_of-output-then-subject-place : goal.shape_of-output-then-subject-place
 shape_of-output-then-subject-place c = c.rounds.invariant.upto.same
@@ -79,7 +79,7 @@ returns-then-subject-place c =
     let l = c.rounds in
     let a = c.args in
     let o = c.attempt_at-attempt.ensures.0 in
-    rounds.reported a.output.now l.written l.output 0 0 _ _ _ l.invariant.upto (rounds.all_copied (class_in a.classes.now) a.subject.now a.budget a.is-strict a.replacement.now (items a.pattern.now 0) a.output.now l.place l.after_last l.written l.replacements l.steps l.output l.invariant c.attempt_at-attempt.result _ o c.if-attempt-gt1.false (⊎_elim (λ x. inr x.1.left) (λ x. inl x.left) c.if-attempt-eq0.branch) c.if-subject-place.true)
+    rounds.reported a.output.now l.written l.output 0 0 _ _ _ l.invariant.upto (rounds.all_copied (class_in a.classes.now) a.subject.now a.budget a.is_strict a.replacement.now (items a.pattern.now 0) a.output.now l.place l.after_last l.written l.replacements l.steps l.output l.invariant c.attempt_at-attempt.result _ o c.if-attempt-gt1.false (⊎_elim (λ x. inr x.1.left) (λ x. inl x.left) c.if-attempt-eq0.branch) c.if-subject-place.true)
 
 pub shape_of-output-then-output-written : goal.shape_of-output-then-output-written
 shape_of-output-then-output-written c = c.rounds.invariant.upto.same
@@ -89,7 +89,7 @@ returns-then-output-written c =
     let l = c.rounds in
     let a = c.args in
     let o = c.attempt_at-attempt.ensures.0 in
-    rounds.reported a.output.now l.written l.output 26 0 _ _ _ l.invariant.upto (rounds.copy_full (class_in a.classes.now) a.subject.now a.budget a.is-strict a.replacement.now (items a.pattern.now 0) a.output.now l.place l.after_last l.written l.replacements l.steps l.output l.invariant c.attempt_at-attempt.result _ o c.if-attempt-gt1.false (⊎_elim (λ x. inr x.1.left) (λ x. inl x.left) c.if-attempt-eq0.branch) c.if-subject-place.false (omega (arith, c.if-output-written.true, l.invariant.upto.same)))
+    rounds.reported a.output.now l.written l.output 26 0 _ _ _ l.invariant.upto (rounds.copy_full (class_in a.classes.now) a.subject.now a.budget a.is_strict a.replacement.now (items a.pattern.now 0) a.output.now l.place l.after_last l.written l.replacements l.steps l.output l.invariant c.attempt_at-attempt.result _ o c.if-attempt-gt1.false (⊎_elim (λ x. inr x.1.left) (λ x. inl x.left) c.if-attempt-eq0.branch) c.if-subject-place.false (omega (arith, c.if-output-written.true, l.invariant.upto.same)))
 
 pub overflow_add-written : goal.overflow_add-written
 overflow_add-written c = omega (arith, c.rounds.invariant.upto.same, c.if-output-written.false, c.well_formed.1.1.1.1.1.1.0.0)
@@ -102,7 +102,7 @@ rounds-smaller c =
     let l = c.rounds in
     let a = c.args in
     let o = c.attempt_at-attempt.ensures.0 in
-    let t = rounds.takes_step (class_in a.classes.now) a.subject.now a.budget a.is-strict a.replacement.now (items a.pattern.now 0) a.output.now l.place l.after_last l.written l.replacements l.steps l.output l.invariant c.attempt_at-attempt.result _ o c.if-attempt-gt1.false in
+    let t = rounds.takes_step (class_in a.classes.now) a.subject.now a.budget a.is_strict a.replacement.now (items a.pattern.now 0) a.output.now l.place l.after_last l.written l.replacements l.steps l.output l.invariant c.attempt_at-attempt.result _ o c.if-attempt-gt1.false in
     omega (arith, t.0, t.1)
 
 pub rounds-preserved : goal.rounds-preserved
@@ -110,4 +110,4 @@ rounds-preserved c =
     let l = c.rounds in
     let a = c.args in
     let o = c.attempt_at-attempt.ensures.0 in
-    rounds.copy_goes (class_in a.classes.now) a.subject.now a.budget a.is-strict a.replacement.now (items a.pattern.now 0) a.output.now l.place l.after_last l.written l.replacements l.steps l.output l.invariant c.attempt_at-attempt.result _ o c.if-attempt-gt1.false (⊎_elim (λ x. inr x.1.left) (λ x. inl x.left) c.if-attempt-eq0.branch) c.if-subject-place.false (omega (arith, c.if-output-written.false, l.invariant.upto.same))
+    rounds.copy_goes (class_in a.classes.now) a.subject.now a.budget a.is_strict a.replacement.now (items a.pattern.now 0) a.output.now l.place l.after_last l.written l.replacements l.steps l.output l.invariant c.attempt_at-attempt.result _ o c.if-attempt-gt1.false (⊎_elim (λ x. inr x.1.left) (λ x. inl x.left) c.if-attempt-eq0.branch) c.if-subject-place.false (omega (arith, c.if-output-written.false, l.invariant.upto.same))

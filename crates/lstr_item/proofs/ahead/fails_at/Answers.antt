@@ -20,4 +20,4 @@ fits-requires c =
 
 pub returns : goal.returns
 returns c = λ z.
-    record { known = omega arith; left = omega arith; unfit = sym c.fits2.ensures ∙ not-true _ z }
+    record { known = omega arith; left = omega arith; unfit = sym c.fits.ensures ∙ not-true _ z }

@@ -2,7 +2,7 @@
 use Prim.Native.Nat.{ℕ, ◌-◌, ◌≤◌}
 use mathlib.Core.Path.{◌≡◌, subst}
 use native.Mathlib.Omega.{arith}
-use Rattle.lstr_item.proofs.Captures.{Holds, holds_none, half_room, holds_more, all_pairs, kept_captures, kept_in}
+use Rattle.lstr_item.proofs.Captures.{Holds, holds_none, half_room, holds_more, kept_captures, kept_in}
 use Rattle.lstr_item.proofs.capture.keep.Goals as goal
 
 pub loop-i-init : goal.loop-i-init
@@ -46,6 +46,6 @@ loop-i-preserved c = (holds_more _ _ _ (omega arith) c.loop-i.invariant.0, omega
 
 pub returns : goal.returns
 returns c =
-    let e : c.loop-i.i ≡ c.args.t1.count = omega (arith, c.loop-i.invariant.1) in
-    let h = subst (λ (n : ℕ). Holds n c.args.t1.pairs c.loop-i.slots) e c.loop-i.invariant.0 in
-    (kept_captures _ _ c.requires h (all_pairs c.args.t1.pairs c.well_formed.0.1.1.1.0.1.0.1), kept_in _ _ c.requires h)
+    let e : c.loop-i.i ≡ c.args.captures.count = omega (arith, c.loop-i.invariant.1) in
+    let h = subst (λ (n : ℕ). Holds n c.args.captures.pairs c.loop-i.slots) e c.loop-i.invariant.0 in
+    (kept_captures _ _ c.requires h c.well_formed.0.1.1.1.0.1.0.1, kept_in _ _ c.requires h)

@@ -4,7 +4,6 @@ use mathlib.Core.Path.{sym, ◌∙◌}
 use native.Mathlib.Omega.{arith}
 use lib.ListN.{length}
 use Rattle.lstr_item.proofs.Captures.{
-  all_pairs,
   no_digit,
   no_capture,
   refers_open,
@@ -13,13 +12,7 @@ use Rattle.lstr_item.proofs.Captures.{
   other_bytes,
   equal_bytes,
 }
-use Rattle.lstr_item.proofs.capture.match_capture.Reads as reads
-use Rattle.lstr_class.proofs.subject.same_bytes.Reads as same_bytes
-use Rattle.lstr_item.proofs.capture.match_capture.Lts as lts
 use Rattle.lstr_item.proofs.capture.match_capture.Goals as goal
-
-wide : (c : lts.Start (same_bytes.Asked, same_bytes.Learnt) reads.Pre reads.Post) → c.args.t2.count ≤ length c.args.t2.pairs
-wide c = omega (arith, c.requires.1.few, all_pairs c.args.t2.pairs c.well_formed.1.0.1.1.1.0.1.0.1)
 
 pub returns-then-digit-eq0 : goal.returns-then-digit-eq0
 returns-then-digit-eq0 c = (λ rest l u. no_digit _ _ _ _ rest _ l u c.if-digit-eq0.true, tt)
@@ -31,7 +24,7 @@ pub overflow_cast-index : goal.overflow_cast-index
 overflow_cast-index c = omega arith
 
 pub returns-then-captures-index : goal.returns-then-captures-index
-returns-then-captures-index c = (λ rest l u. no_capture _ _ _ _ rest _ l u (wide c.before.before.before) c.if-digit-eq0.false c.if-captures-index.true, tt)
+returns-then-captures-index c = (λ rest l u. no_capture _ _ _ _ rest _ l u (omega (arith, c.well_formed.1.0.1.1.1.0.1.0.1, c.requires.1.few)) c.if-digit-eq0.false c.if-captures-index.true, tt)
 
 pub offset_bounds-captures-index : goal.offset_bounds-captures-index
 offset_bounds-captures-index c = omega arith
@@ -46,18 +39,18 @@ pub bounds-captures-index-2 : goal.bounds-captures-index-2
 bounds-captures-index-2 c = omega arith
 
 pub returns-then-len : goal.returns-then-len
-returns-then-len c = (λ rest l u. refers_open _ _ _ _ rest _ l u (wide c.before.before.before.before) c.if-digit-eq0.false c.if-captures-index.false c.if-len.true, tt)
+returns-then-len c = (λ rest l u. refers_open _ _ _ _ rest _ l u (omega (arith, c.well_formed.1.0.1.1.1.0.1.0.1, c.requires.1.few)) c.if-digit-eq0.false c.if-captures-index.false c.if-len.true, tt)
 
 pub returns-then-len-2 : goal.returns-then-len-2
 returns-then-len-2 c =
-    (λ rest l u. refers_position _ _ _ _ rest _ l u (wide c.before.before.before.before.before) c.if-digit-eq0.false c.if-captures-index.false c.if-len-2.true, tt)
+    (λ rest l u. refers_position _ _ _ _ rest _ l u (omega (arith, c.well_formed.1.0.1.1.1.0.1.0.1, c.requires.1.few)) c.if-digit-eq0.false c.if-captures-index.false c.if-len-2.true, tt)
 
 pub overflow_sub-subject : goal.overflow_sub-subject
 overflow_sub-subject c = omega arith
 
 pub returns-then-subject-place : goal.returns-then-subject-place
 returns-then-subject-place c =
-    (λ rest l u. too_long _ _ _ _ rest _ l u (wide c.before.before.before.before.before.before) c.if-digit-eq0.false c.if-captures-index.false c.if-len.false c.if-len-2.false c.if-subject-place.true, tt)
+    (λ rest l u. too_long _ _ _ _ rest _ l u (omega (arith, c.well_formed.1.0.1.1.1.0.1.0.1, c.requires.1.few)) c.if-digit-eq0.false c.if-captures-index.false c.if-len.false c.if-len-2.false c.if-subject-place.true, tt)
 
 pub same_bytes-requires : goal.same_bytes-requires
 same_bytes-requires c =
@@ -69,7 +62,7 @@ pub returns-then-same_bytes : goal.returns-then-same_bytes
 returns-then-same_bytes c =
     (
       λ rest l u.
-          equal_bytes _ _ _ _ rest _ l u (wide c.before.before.before.before.before.before.before.before) c.if-digit-eq0.false c.if-captures-index.false c.if-len.false c.if-len-2.false c.if-subject-place.false
+          equal_bytes _ _ _ _ rest _ l u (omega (arith, c.well_formed.1.0.1.1.1.0.1.0.1, c.requires.1.few)) c.if-digit-eq0.false c.if-captures-index.false c.if-len.false c.if-len-2.false c.if-subject-place.false
           (sym c.same_bytes.ensures ∙ c.if-same_bytes.true),
       omega arith,
     )
@@ -78,7 +71,7 @@ pub returns : goal.returns
 returns c =
     (
       λ rest l u.
-          other_bytes _ _ _ _ rest _ l u (wide c.before.before.before.before.before.before.before.before) c.if-digit-eq0.false c.if-captures-index.false c.if-len.false c.if-len-2.false
+          other_bytes _ _ _ _ rest _ l u (omega (arith, c.well_formed.1.0.1.1.1.0.1.0.1, c.requires.1.few)) c.if-digit-eq0.false c.if-captures-index.false c.if-len.false c.if-len-2.false
           (sym c.same_bytes.ensures ∙ c.if-same_bytes.false),
       tt,
     )

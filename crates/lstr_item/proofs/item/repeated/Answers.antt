@@ -1,4 +1,5 @@
 -- `lstr_item::item::repeated` meets its contract. Assumes nothing.
+use native.Mathlib.Omega.{arith}
 use mathlib.Core.Path.{ap}
 use Rattle.luck_text.specs.Bytes.{byte_at}
 use Rattle.lstr_item.specs.Inner.{repeat_read}
@@ -20,8 +21,7 @@ returns-in-45 c = let a = c.args in ap (repeat_read a.suffix) (of_minus (byte_at
 pub returns-in_default : goal.returns-in_default
 returns-in_default c =
     let a = c.args in
-    let n = c.in_default.rest in
-    ap (repeat_read a.suffix) (of_once (byte_at a.pattern.now a.suffix) n.0.0.0.1 n.0.0.1 n.0.1 n.1)
+    ap (repeat_read a.suffix) (of_once (byte_at a.pattern.now a.suffix) (λ e. omega arith) (λ e. omega arith) (λ e. omega arith) (λ e. omega arith))
 
 pub returns : goal.returns
 returns c = let a = c.args in ap (repeat_read a.suffix) (of_end a.pattern.now a.suffix c.if-suffix-pattern.false)

@@ -1,7 +1,6 @@
 -- `lstr_item::item::set_end` meets its contract. The loop's invariant: the members from `at` on end where the set ends.
 -- Assumes nothing.
 use mathlib.Core.Path.{◌≡◌, ◌∙◌}
-use mathlib.Core.Logic.{⊎_elim}
 use Prim.Native.Nat.{◌+◌, ◌-◌, ◌≤◌, ◌<◌}
 use native.Mathlib.Omega.{arith}
 use lib.Dec.{eqb}
@@ -11,6 +10,7 @@ use Rattle.luck_pattern.proofs.Patterns.{members, set_begins, set_first, set_esc
 use Rattle.luck_pattern.proofs.Places.{first_behind}
 use Rattle.lstr_item.proofs.Reading.{after_caret, after_bracket, after_last, closes_nowhere, closes_here, closes_cut}
 use Rattle.lstr_item.proofs.item.set_end.Goals as goal
+use Rattle.lstr_item.proofs.item.set_end.Goals.{then-at-pattern+then-pattern-at-eq94, then-at-pattern+else-pattern-at-eq94, else-at-pattern}
 
 pub members-init : goal.members-init
 members-init c =
@@ -18,10 +18,17 @@ members-init c =
     let pattern = a.pattern.now in
     let first = c.if-at-pattern.at in
     let is : first ≡ first_member pattern a.opening =
-    ⊎_elim (λ w. let two : first ≡ a.opening + 2 = omega (arith, w.3) in two ∙ after_caret pattern a.opening w.2.taken)
-    (⊎_elim (λ w. w.3 ∙ after_bracket pattern a.opening w.2.left) (λ w. w.1 ∙ after_last pattern a.opening w.0.left)) c.if-at-pattern.branch in
+    elim c.if-at-pattern.branch [
+      | then-at-pattern+then-pattern-at-eq94 w ↦ let two : first ≡ a.opening + 2 = omega (arith, w.at-is) in two ∙ after_caret pattern a.opening w.if-pattern-at-eq94.true
+      | then-at-pattern+else-pattern-at-eq94 w ↦ w.at-is ∙ after_bracket pattern a.opening w.if-pattern-at-eq94.false
+      | else-at-pattern w ↦ w.at-is ∙ after_last pattern a.opening w.if-at-pattern.false
+    ] in
     let inside : first ≤ length pattern =
-    ⊎_elim (λ w. omega (arith, w.0.taken, w.3)) (⊎_elim (λ w. omega (arith, w.0.taken, w.3)) (λ w. omega (arith, w.1, c.requires))) c.if-at-pattern.branch in
+    elim c.if-at-pattern.branch [
+      | then-at-pattern+then-pattern-at-eq94 w ↦ omega (arith, w.if-at-pattern.true, w.at-is)
+      | then-at-pattern+else-pattern-at-eq94 w ↦ omega (arith, w.if-at-pattern.true, w.at-is)
+      | else-at-pattern w ↦ omega (arith, w.at-is, c.requires)
+    ] in
     let behind : a.opening < first = omega (arith, is, first_behind pattern a.opening) in
     (omega arith, inside, behind, set_begins pattern a.opening first is)
 
@@ -67,7 +74,7 @@ members-preserved c =
     let l = c.members in
     let a = c.args in
     let first = c.if-at-pattern.at in
-    (omega arith, omega arith, l.invariant.2, set_plain a.pattern.now a.opening first l.at l.invariant.3 c.if-pattern-at.false l.invariant.0 c.in_default.rest.0.1 c.in_default.rest.1)
+    (omega arith, omega arith, l.invariant.2, set_plain a.pattern.now a.opening first l.at l.invariant.3 c.if-pattern-at.false l.invariant.0 (λ e. omega arith) (λ e. omega arith))
 
 pub returns : goal.returns
 returns c =

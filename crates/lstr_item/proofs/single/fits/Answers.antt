@@ -30,8 +30,7 @@ returns-in-91 c =
 pub returns-in_default : goal.returns-in_default
 returns-in_default c =
     let a = c.args in
-    let n = c.in_default.rest in
-    fits_byte (class_in a.classes.now) a.subject.now a.pattern.now a.at a.suffix a.place c.if-place-subject.true n.0.0.1 n.0.1 n.1
+    fits_byte (class_in a.classes.now) a.subject.now a.pattern.now a.at a.suffix a.place c.if-place-subject.true (λ e. omega arith) (λ e. omega arith) (λ e. omega arith)
 
 pub returns : goal.returns
 returns c = let a = c.args in fits_end (class_in a.classes.now) a.subject.now a.pattern.now a.at a.suffix a.place c.if-place-subject.false

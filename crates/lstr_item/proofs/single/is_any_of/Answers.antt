@@ -1,18 +1,19 @@
 -- `lstr_item::single::is_any_of` meets its contract. The loop's invariant: the elements from here on give the whole answer.
 -- Assumes nothing.
-use Prim.Native.Nat.{◌+◌, ◌-◌}
+use Prim.Native.Nat.{◌+◌, ◌-◌, ◌≤◌}
 use native.Mathlib.Omega.{arith}
 use mathlib.Core.Path.{◌≡◌, refl, sym, ◌∙◌}
-use mathlib.Core.Logic.{inl, inr, ⊎_elim}
+use mathlib.Core.Logic.{◌⊎◌, inl, inr}
 use mathlib.Core.Bool.{true, false}
 use borrow.Author.Tests.{eq-eqb, ne_eqb}
-use Rattle.luck_text.specs.Bytes.{byte_at}
+use Rattle.luck_text.specs.Bytes.{byte_at, between}
 use Rattle.luck_text.proofs.Bytes.{within, below, above}
 use Rattle.luck_pattern.specs.Elements.{elements_of}
 use Rattle.lstr_item.specs.Single.{is_any_of}
 use Rattle.lstr_class.specs.Inner.{class_in}
 use Rattle.lstr_item.proofs.Sets.{any_end, any_escape, any_range, any_plain}
 use Rattle.lstr_item.proofs.single.is_any_of.Goals as goal
+use Rattle.lstr_item.proofs.single.is_any_of.Goals.{then-element-byte+else-byte-pattern, else-element-byte, then-closing-at-gt2+else-pattern-next-eq45, else-closing-at-gt2}
 
 pub elements-init : goal.elements-init
 elements-init c = refl
@@ -41,19 +42,34 @@ elements-preserved-then-pattern-next-eq45 c =
     let l = c.elements in
     let low = byte_at a.pattern.now l.at in
     let high = byte_at a.pattern.now (l.at + 2) in
-    l.invariant ∙ any_range a.pattern.now a.closing (class_in a.classes.now) a.byte l.at c.elements-test.true false c.if-element-eq37.false c.if-pattern-next-eq45.true (omega (arith, c.if-closing-at-gt2.true)) (⊎_elim (λ w. above low high a.byte w.2.left) (λ w. below low high a.byte w.left) c.if-element-byte.branch)
+    let outside : between low high a.byte ≡ false =
+    elim c.if-element-byte.branch [
+      | then-element-byte+else-byte-pattern w ↦ above low high a.byte w.if-byte-pattern.false
+      | else-element-byte w ↦ below low high a.byte w.if-element-byte.false
+    ] in
+    l.invariant ∙ any_range a.pattern.now a.closing (class_in a.classes.now) a.byte l.at c.elements-test.true false c.if-element-eq37.false c.if-pattern-next-eq45.true (omega (arith, c.if-closing-at-gt2.true)) outside
 
 pub returns-then-element-byte-2 : goal.returns-then-element-byte-2
 returns-then-element-byte-2 c =
     let a = c.args in
     let l = c.elements in
-    sym (l.invariant ∙ any_plain a.pattern.now a.closing (class_in a.classes.now) a.byte l.at c.elements-test.true true c.if-element-eq37.false (⊎_elim (λ w. inl w.2.left) (λ w. inr (omega (arith, w.left))) c.if-closing-at-gt2.branch) (eq-eqb (byte_at a.pattern.now l.at) a.byte c.if-element-byte-2.true))
+    let no_range : (byte_at a.pattern.now (l.at + 1) ≡ 45 → ⊥) ⊎ (a.closing ≤ l.at + 2) =
+    elim c.if-closing-at-gt2.branch [
+      | then-closing-at-gt2+else-pattern-next-eq45 w ↦ inl w.if-pattern-next-eq45.false
+      | else-closing-at-gt2 w ↦ inr (omega (arith, w.if-closing-at-gt2.false))
+    ] in
+    sym (l.invariant ∙ any_plain a.pattern.now a.closing (class_in a.classes.now) a.byte l.at c.elements-test.true true c.if-element-eq37.false no_range (eq-eqb (byte_at a.pattern.now l.at) a.byte c.if-element-byte-2.true))
 
 pub elements-preserved : goal.elements-preserved
 elements-preserved c =
     let a = c.args in
     let l = c.elements in
-    l.invariant ∙ any_plain a.pattern.now a.closing (class_in a.classes.now) a.byte l.at c.elements-test.true false c.if-element-eq37.false (⊎_elim (λ w. inl w.2.left) (λ w. inr (omega (arith, w.left))) c.if-closing-at-gt2.branch) (ne_eqb (byte_at a.pattern.now l.at) a.byte c.if-element-byte-2.false)
+    let no_range : (byte_at a.pattern.now (l.at + 1) ≡ 45 → ⊥) ⊎ (a.closing ≤ l.at + 2) =
+    elim c.if-closing-at-gt2.branch [
+      | then-closing-at-gt2+else-pattern-next-eq45 w ↦ inl w.if-pattern-next-eq45.false
+      | else-closing-at-gt2 w ↦ inr (omega (arith, w.if-closing-at-gt2.false))
+    ] in
+    l.invariant ∙ any_plain a.pattern.now a.closing (class_in a.classes.now) a.byte l.at c.elements-test.true false c.if-element-eq37.false no_range (ne_eqb (byte_at a.pattern.now l.at) a.byte c.if-element-byte-2.false)
 
 pub returns : goal.returns
 returns c =

@@ -14,7 +14,7 @@ use Rattle.lstr_item.proofs.single.reach.Goals as goal
 inside : (c : goal.Else-not-fits) → c.loop-steps.tested < length c.args.subject.now
 inside c =
     let a = c.args in
-    fits_inside (class_in a.classes.now) a.subject.now (single_of a.pattern.now a.at a.suffix) c.loop-steps.tested (sym c.fits2.ensures ∙ not-false _ c.if-not-fits.false)
+    fits_inside (class_in a.classes.now) a.subject.now (single_of a.pattern.now a.at a.suffix) c.loop-steps.tested (sym c.fits.ensures ∙ c.if-not-fits.false)
 
 pub bounds-pattern-at-then-pattern-at-eq37 : goal.bounds-pattern-at-then-pattern-at-eq37
 bounds-pattern-at-then-pattern-at-eq37 c = omega (arith, c.requires.0.escape c.if-pattern-at-eq37.true, c.requires.0.inside)
@@ -37,7 +37,7 @@ pub returns-then-not-fits : goal.returns-then-not-fits
 returns-then-not-fits c =
     let a = c.args in
     let l = c.loop-steps in
-    (sym (l.invariant.0 ∙ reach_stop (class_in a.classes.now) a.subject.now (single_of a.pattern.now a.at a.suffix) l.tested a.budget l.steps c.if-budget-steps.false (sym c.fits2.ensures ∙ c.if-not-fits.true)), (l.invariant.1, l.invariant.2))
+    (sym (l.invariant.0 ∙ reach_stop (class_in a.classes.now) a.subject.now (single_of a.pattern.now a.at a.suffix) l.tested a.budget l.steps c.if-budget-steps.false (sym c.fits.ensures ∙ c.if-not-fits.true)), (l.invariant.1, l.invariant.2))
 
 pub overflow_add-tested : goal.overflow_add-tested
 overflow_add-tested c = omega (arith, inside c)
@@ -49,4 +49,4 @@ pub loop-steps-preserved : goal.loop-steps-preserved
 loop-steps-preserved c =
     let a = c.args in
     let l = c.loop-steps in
-    (l.invariant.0 ∙ reach_more (class_in a.classes.now) a.subject.now (single_of a.pattern.now a.at a.suffix) l.tested a.budget l.steps c.if-budget-steps.false (sym c.fits2.ensures ∙ c.if-not-fits.false), omega (arith, l.invariant.1), omega (arith, inside c))
+    (l.invariant.0 ∙ reach_more (class_in a.classes.now) a.subject.now (single_of a.pattern.now a.at a.suffix) l.tested a.budget l.steps c.if-budget-steps.false (sym c.fits.ensures ∙ c.if-not-fits.false), omega (arith, l.invariant.1), omega (arith, inside c))

@@ -26,10 +26,10 @@ returns-then-digit-eq0 c =
     (replaced.digit_zero a.subject.now (length a.output.now) a.place a.end (captures_in a.count a.kept.now) a.digit (take a.at a.output.now) c.if-digit-eq0.true)
 
 pub bounds-slots-index : goal.bounds-slots-index
-bounds-slots-index c = omega (arith, c.slots-1.given, c.requires.4.few)
+bounds-slots-index c = omega (arith, c.requires.4.few)
 
 pub bounds-slots-index-then-index-count : goal.bounds-slots-index-then-index-count
-bounds-slots-index-then-index-count c = omega (arith, c.slots-1.given, c.requires.4.few)
+bounds-slots-index-then-index-count c = omega (arith, c.requires.4.few)
 
 pub add_capture-requires : goal.add_capture-requires
 add_capture-requires c =
@@ -42,7 +42,7 @@ returns-then-index-count c =
     let a = c.args in
     let few = c.requires.4.few in
     outputs.known_as _ _ _ _ _ _ c.add_capture.ensures
-    (replaced.digit_kept a.subject.now (length a.output.now) a.place a.end a.count a.kept.now a.digit (take a.at a.output.now) (omega (arith, few, c.slots-1.given)) c.if-digit-eq0.false c.if-index-count.true)
+    (replaced.digit_kept a.subject.now (length a.output.now) a.place a.end a.count a.kept.now a.digit (take a.at a.output.now) (omega (arith, few)) c.if-digit-eq0.false c.if-index-count.true)
 
 pub slice_bounds-append-count-then-index-eq0 : goal.slice_bounds-append-count-then-index-eq0
 slice_bounds-append-count-then-index-eq0 c = c.requires.1

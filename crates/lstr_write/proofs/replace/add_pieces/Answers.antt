@@ -34,7 +34,7 @@ returns-then-wrote-ne0 c =
     let a = c.args in
     let b = get_or a.replacement.now l.read 0 in
     let h = c.pieces-test.true in
-    replaced.piece_ended a.subject.now a.place a.end (captures_in a.count a.kept.now) a.is-strict a.replacement.now a.at a.output.now l.read l.next l.output l.invariant
+    replaced.piece_ended a.subject.now a.place a.end (captures_in a.count a.kept.now) a.is_strict a.replacement.now a.at a.output.now l.read l.next l.output l.invariant
     (literal b) (l.read + 1) (replaced.at_literal a.replacement.now l.read h c.if-byte-ne37.true) (omega (arith, h)) _ _ c.append_byte-wrote.ensures (search rules) c.if-wrote-ne0.true
 
 pub pieces-preserved-then-byte-ne37 : goal.pieces-preserved-then-byte-ne37
@@ -44,7 +44,7 @@ pieces-preserved-then-byte-ne37 c =
     let a = c.args in
     let b = get_or a.replacement.now l.read 0 in
     let h = c.pieces-test.true in
-    replaced.piece_done a.subject.now a.place a.end (captures_in a.count a.kept.now) a.is-strict a.replacement.now a.at a.output.now l.read l.next l.output l.invariant
+    replaced.piece_done a.subject.now a.place a.end (captures_in a.count a.kept.now) a.is_strict a.replacement.now a.at a.output.now l.read l.next l.output l.invariant
     (literal b) (l.read + 1) (replaced.at_literal a.replacement.now l.read h c.if-byte-ne37.true) (omega (arith, h)) _ _ c.append_byte-wrote.ensures (search rules) c.if-wrote-ne0.false
 
 pub shape_of-output-then-is_strict : goal.shape_of-output-then-is_strict
@@ -56,7 +56,7 @@ returns-then-is_strict c =
     let a = c.args in
     outputs.stays a.at a.output.now l.next l.output l.invariant.upto 29 9 _
     (outputs.is_ended (record { at = l.next; number = 29; kind = 9 }) (take l.next l.output) (λ e. omega arith)
-    ∙ replaced.lone_raises a.subject.now a.place a.end (captures_in a.count a.kept.now) a.is-strict a.replacement.now a.at a.output.now l.read l.next l.output l.invariant
+    ∙ replaced.lone_raises a.subject.now a.place a.end (captures_in a.count a.kept.now) a.is_strict a.replacement.now a.at a.output.now l.read l.next l.output l.invariant
     c.pieces-test.true c.if-byte-ne37.false c.if-replacement-read.true c.if-is_strict.true)
 
 pub append_byte-requires : goal.append_byte-requires
@@ -72,7 +72,7 @@ returns-then-replacement-read c =
     let l = c.pieces in
     let a = c.args in
     outputs.ends_all a.at a.output.now l.next l.output l.invariant.upto _ _ _ c.append_byte.ensures (search rules) _
-    (replaced.lone_zero a.subject.now a.place a.end (captures_in a.count a.kept.now) a.is-strict a.replacement.now a.at a.output.now l.read l.next l.output l.invariant
+    (replaced.lone_zero a.subject.now a.place a.end (captures_in a.count a.kept.now) a.is_strict a.replacement.now a.at a.output.now l.read l.next l.output l.invariant
     c.pieces-test.true c.if-byte-ne37.false c.if-replacement-read.true c.if-is_strict.false)
 
 pub add_escape-wrote-requires : goal.add_escape-wrote-requires
@@ -91,7 +91,7 @@ returns-then-wrote-ne0-2 c =
     let b = get_or a.replacement.now (l.read + 1) 0 in
     let h = c.pieces-test.true in
     let f = c.if-replacement-read.false in
-    replaced.piece_ended a.subject.now a.place a.end (captures_in a.count a.kept.now) a.is-strict a.replacement.now a.at a.output.now l.read l.next l.output l.invariant
+    replaced.piece_ended a.subject.now a.place a.end (captures_in a.count a.kept.now) a.is_strict a.replacement.now a.at a.output.now l.read l.next l.output l.invariant
     (escaped b) (l.read + 1 + 1) (replaced.at_escape a.replacement.now l.read h c.if-byte-ne37.false f) (omega (arith, f)) _ _ c.add_escape-wrote.ensures (search rules) c.if-wrote-ne0-2.true
 
 pub pieces-preserved : goal.pieces-preserved
@@ -101,7 +101,7 @@ pieces-preserved c =
     let b = get_or a.replacement.now (l.read + 1) 0 in
     let h = c.pieces-test.true in
     let f = c.if-replacement-read.false in
-    replaced.piece_done a.subject.now a.place a.end (captures_in a.count a.kept.now) a.is-strict a.replacement.now a.at a.output.now l.read l.next l.output l.invariant
+    replaced.piece_done a.subject.now a.place a.end (captures_in a.count a.kept.now) a.is_strict a.replacement.now a.at a.output.now l.read l.next l.output l.invariant
     (escaped b) (l.read + 1 + 1) (replaced.at_escape a.replacement.now l.read h c.if-byte-ne37.false f) (omega (arith, f)) _ _ c.add_escape-wrote.ensures (search rules) c.if-wrote-ne0-2.false
 
 pub shape_of-output : goal.shape_of-output
@@ -113,4 +113,4 @@ returns c =
     let a = c.args in
     outputs.stays a.at a.output.now l.next l.output l.invariant.upto 0 0 _
     (outputs.is_wrote (record { at = l.next; number = 0; kind = 0 }) (take l.next l.output) refl
-    ∙ replaced.all_pieces a.subject.now a.place a.end (captures_in a.count a.kept.now) a.is-strict a.replacement.now a.at a.output.now l.read l.next l.output l.invariant c.pieces-test.false)
+    ∙ replaced.all_pieces a.subject.now a.place a.end (captures_in a.count a.kept.now) a.is_strict a.replacement.now a.at a.output.now l.read l.next l.output l.invariant c.pieces-test.false)

@@ -1,34 +1,35 @@
--- `luck_format::date::scan_conversions` meets its contract. The invariant: the walk from here is the whole answer. Assumes nothing.
+-- `luck_format::date::scan_conversions` meets its contract. The invariant: the walk from here is the whole answer.
 use mathlib.Core.Path.{◌≡◌, sym, ◌∙◌}
-use Prim.Native.Nat.{◌-◌, ◌≤◌}
+use Prim.Native.Nat.{ℕ, ◌<◌}
 use native.Mathlib.Omega.{arith}
+use mathlib.Core.Bool.{Bool}
+use mathlib.Core.List.{List}
 use lib.ListN.{length}
-use Rattle.luck_format.specs.Date.{conversions_walk}
+use Rattle.luck_answer.specs.Answer.{Answer}
 use Rattle.luck_format.proofs.Dates as laws
 use Rattle.luck_format.proofs.date.scan_conversions.Goals as goal
 
 -- where a turn begins
-here : (c : goal.In-loop-at)
-    → laws.Here c.args.has-options c.args.text.now c.loop-at.at (conversions_walk c.args.has-options c.args.text.now)
-here c = record { there = c.loop-at-test.true; walked = c.loop-at.invariant.1 }
+here : {options : Bool} {text : List ℕ} {at : ℕ} {whole : Answer} → at < length text → laws.on options text at ≡ whole → laws.Here options text at whole
+here there walked = record { there = there; walked = walked }
 
 pub loop-at-init : goal.loop-at-init
 loop-at-init c = (omega arith, laws.start _ _)
 
 pub loop-at-preserved-then-text-at-ne37 : goal.loop-at-preserved-then-text-at-ne37
-loop-at-preserved-then-text-at-ne37 c = (omega arith, laws.passes_byte (here c.before.before) c.if-text-at-ne37.true)
+loop-at-preserved-then-text-at-ne37 c = (omega arith, laws.passes_byte (here c.loop-at-test.true c.loop-at.invariant.1) c.if-text-at-ne37.true)
 
 pub returns-then-has_options : goal.returns-then-has_options
-returns-then-has_options c = laws.lone_strict (here c.before.before.before.before) c.if-text-at-ne37.false (omega arith) c.if-has_options.true
+returns-then-has_options c = laws.lone_strict (here c.loop-at-test.true c.loop-at.invariant.1) c.if-text-at-ne37.false (omega arith) c.if-has_options.true
 
 pub returns-then-text-at-eq1 : goal.returns-then-text-at-eq1
-returns-then-text-at-eq1 c = laws.lone_lenient (here c.before.before.before.before) c.if-text-at-ne37.false (omega arith) c.if-has_options.false
+returns-then-text-at-eq1 c = laws.lone_lenient (here c.loop-at-test.true c.loop-at.invariant.1) c.if-text-at-ne37.false (omega arith) c.if-has_options.false
 
 pub conversion_width-width-requires : goal.conversion_width-width-requires
 conversion_width-width-requires c = omega arith
 
 pub returns-then-width-eq0 : goal.returns-then-width-eq0
-returns-then-width-eq0 c = laws.no_conversion (here c.before.before.before.before.before) c.if-text-at-ne37.false (omega arith) (sym c.conversion_width-width.ensures.0 ∙ c.if-width-eq0.true)
+returns-then-width-eq0 c = laws.no_conversion (here c.loop-at-test.true c.loop-at.invariant.1) c.if-text-at-ne37.false (omega arith) (sym c.conversion_width-width.ensures.0 ∙ c.if-width-eq0.true)
 
 pub overflow_add-at-in-loop-at : goal.overflow_add-at-in-loop-at
 overflow_add-at-in-loop-at c = omega (arith, c.conversion_width-width.ensures.1)
@@ -39,7 +40,7 @@ loop-at-smaller c = omega (arith, c.conversion_width-width.ensures.1)
 pub loop-at-preserved : goal.loop-at-preserved
 loop-at-preserved c =
     let w = c.conversion_width-width in
-    (w.ensures.1, laws.passes_conversion (here c.before.before.before.before.before) c.if-text-at-ne37.false (omega arith) w.result w.ensures.0 c.if-width-eq0.false w.ensures.1)
+    (w.ensures.1, laws.passes_conversion (here c.loop-at-test.true c.loop-at.invariant.1) c.if-text-at-ne37.false (omega arith) w.result w.ensures.0 c.if-width-eq0.false w.ensures.1)
 
 pub returns : goal.returns
 returns c = laws.at_end _ _ c.loop-at.at c.loop-at-test.false ∙ c.loop-at.invariant.1

@@ -1,5 +1,7 @@
--- `luck_format::date::validate_os_date` meets its contract. Assumes nothing.
+-- `luck_format::date::validate_os_date` meets its contract.
 use mathlib.Core.Path.{ap, ◌∙◌}
+use Prim.Native.Nat.{ℕ}
+use mathlib.Core.List.{List}
 use Rattle.luck_token.specs.declared.version.Rules.{Rules}
 use Rattle.luck_answer.specs.Answer.{Answer}
 use Rattle.luck_answer.proofs.Texts.{by_text}
@@ -7,13 +9,13 @@ use Rattle.luck_format.specs.Date.{date_walk, check_date}
 use borrow.Author.Rules.{rules}
 use Rattle.luck_format.proofs.date.validate_os_date.Goals as goal
 
-abbrev walked : tie.Start → Rules → Answer
-walked s rules = date_walk rules.strict_gsub_replacement rules.date_format_options s.args.text.now
+abbrev walked : List ℕ → Rules → Answer
+walked text rules = date_walk rules.strict_gsub_replacement rules.date_format_options text
 
 pub returns-in-Fine : goal.returns-in-Fine
 unfolding check_date
 returns-in-Fine c =
-    c.as_checked.ensures ∙ c.scan_date.ensures ∙ ap (walked c.before.before.before.before.before.before.before) c.rules_of-rules.ensures
+    c.as_checked.ensures ∙ c.scan_date.ensures ∙ ap (walked c.args.text.now) c.rules_of-rules.ensures
     ∙ by_text _ _ c.read_text-read.ensures c.in-Fine.is _
 
 pub returns-in-NotUtf8 : goal.returns-in-NotUtf8

@@ -1,4 +1,4 @@
--- `luck_format::format::scan_format` meets its contract. Assumes nothing.
+-- `luck_format::format::scan_format` meets its contract.
 use mathlib.Core.Path.{◌∙◌}
 use native.Mathlib.Omega.{arith}
 use Prim.Native.Nat.{◌+◌, ◌≤◌}
@@ -7,24 +7,20 @@ use Rattle.luck_text.specs.Bytes.{among, ascii}
 use Rattle.luck_format.proofs.Formats as formats
 use Rattle.luck_format.proofs.format.scan_format.Goals as goal
 
--- the run lies in the text
-inside : (c : tie.After-run-in) → c.before.before.before.args.at + c.run_in.result ≤ length c.before.before.before.args.text.now
-inside c = formats.inside _ _ _ (λ b. among b (ascii "-+ #0")) c.run_in.ensures (omega arith)
-
 pub bounds-text-sixth : goal.bounds-text-sixth
-bounds-text-sixth c = omega (arith, inside c.before.before)
+bounds-text-sixth c = omega (arith, formats.inside c.args.text.now c.args.at c.run_in-count.result (λ b. among b (ascii "-+ #0")) c.run_in-count.ensures (omega arith))
 
 pub overflow_cast-result : goal.overflow_cast-result
-overflow_cast-result c = omega (arith, c.shared_slice_known-then-count-ge6-1.given (c.args.at + 5))
+overflow_cast-result c = omega (arith, c.type_inv.text (c.args.at + 5))
 
 pub returns-then-count-ge6 : goal.returns-then-count-ge6
 returns-then-count-ge6 c = (formats.many_flags _ _ _ c.run_in-count.ensures c.if-count-ge6.true, tt)
 
 pub overflow_add-at : goal.overflow_add-at
-overflow_add-at c = omega (arith, inside c.before)
+overflow_add-at c = omega (arith, formats.inside c.args.text.now c.args.at c.run_in-count.result (λ b. among b (ascii "-+ #0")) c.run_in-count.ensures (omega arith))
 
 pub scan_width-requires : goal.scan_width-requires
-scan_width-requires c = inside c.before
+scan_width-requires c = formats.inside c.args.text.now c.args.at c.run_in-count.result (λ b. among b (ascii "-+ #0")) c.run_in-count.ensures (omega arith)
 
 pub returns : goal.returns
 returns c =

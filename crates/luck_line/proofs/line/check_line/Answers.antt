@@ -1,11 +1,11 @@
 -- `luck_line::line::check_line` meets its contract. Assumes nothing.
 use mathlib.Core.Path.{sym, ◌∙◌}
-use mathlib.Core.Logic.{⊎_elim}
 use Rattle.luck_line.proofs.Heads as heads
 use Rattle.luck_line.proofs.line.check_line.Goals as goal
+use Rattle.luck_line.proofs.line.check_line.Goals.{then-is_in+else-line-eq32, else-is_in}
 
 pub returns-then-line-gt-LONGEST : goal.returns-then-line-gt-LONGEST
-returns-then-line-gt-LONGEST c = c.refused.ensures ∙ heads.too_long _ c.if-line-gt-LONGEST.true
+returns-then-line-gt-LONGEST c = c.refused.ensures ∙ heads.too_long_lem _ c.if-line-gt-LONGEST.true
 
 pub returns-then-line-lt-HEAD : goal.returns-then-line-lt-HEAD
 returns-then-line-lt-HEAD c = c.refused-then-line-lt-HEAD.ensures ∙ heads.too_short _ c.if-line-gt-LONGEST.false c.if-line-lt-HEAD.true
@@ -21,4 +21,8 @@ pub returns : goal.returns
 returns c =
     let short = c.if-line-gt-LONGEST.false in
     let digit = sym c.is_in.ensures in
-    c.refused-2.ensures ∙ ⊎_elim (λ w. heads.not_a_space _ short (digit ∙ w.0.taken) w.2.left) (λ w. heads.not_a_digit _ short (digit ∙ w.left)) c.if-is_in.branch
+    c.refused-2.ensures
+    ∙ elim c.if-is_in.branch [
+      then-is_in+else-line-eq32 w ↦ heads.not_a_space _ short (digit ∙ w.if-is_in.true) w.if-line-eq32.false
+      | else-is_in w ↦ heads.not_a_digit _ short (digit ∙ w.if-is_in.false)
+    ]

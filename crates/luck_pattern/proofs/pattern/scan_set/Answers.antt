@@ -2,7 +2,6 @@
 -- far they are elements. Assumes nothing.
 use mathlib.Core.Path.{◌≡◌, refl, ap, ◌∙◌}
 use mathlib.Core.Bool.{false, true≢false}
-use mathlib.Core.Logic.{⊎_elim}
 use Prim.Native.Nat.{◌+◌, ◌-◌, ◌≤◌, ◌<◌}
 use native.Mathlib.Omega.{arith}
 use lib.Dec.{eqb}
@@ -30,6 +29,7 @@ use Rattle.luck_pattern.proofs.Patterns.{
   within_from,
 }
 use Rattle.luck_pattern.proofs.pattern.scan_set.Goals as goal
+use Rattle.luck_pattern.proofs.pattern.scan_set.Goals.{then-text-first-eq1+else-text-first-eq93, else-text-first-eq1}
 
 pub returns-then-text-first-eq93 : goal.returns-then-text-first-eq93
 returns-then-text-first-eq93 c =
@@ -44,10 +44,10 @@ members-init c =
       omega arith,
       f.ensures.2,
       f.ensures.1,
-      ⊎_elim
-          (λ w. no_bracket a.text.now a.start f.result f.ensures.0 w.2.left)
-          (λ w. no_end a.text.now a.start f.result f.ensures.0 f.ensures.2 w.left)
-          c.if-text-first-eq1.branch,
+      elim c.if-text-first-eq1.branch [
+        | then-text-first-eq1+else-text-first-eq93 w ↦ no_bracket a.text.now a.start f.result f.ensures.0 w.if-text-first-eq93.false
+        | else-text-first-eq1 w ↦ no_end a.text.now a.start f.result f.ensures.0 f.ensures.2 w.if-text-first-eq1.false
+      ],
       set_begins a.text.now a.start f.result f.ensures.0,
       λ h n e m. refl,
     )
@@ -122,14 +122,13 @@ pub members-preserved : goal.members-preserved
 members-preserved c =
     let l = c.members in
     let a = c.args in
-    let f = c.first_member-first in
-    let n = c.in_default.rest in (
+    let f = c.first_member-first in (
       omega arith,
       omega arith,
       l.invariant.2,
       l.invariant.3,
-      set_plain a.text.now a.start f.result l.at l.invariant.4 c.if-text-at.false l.invariant.0 n.0.0.1 n.0.1,
-      λ h. element_plain a.text.now f.result l.at (l.invariant.5 h) n.0.1 n.1,
+      set_plain a.text.now a.start f.result l.at l.invariant.4 c.if-text-at.false l.invariant.0 (λ e. omega arith) (λ e. omega arith),
+      λ h. element_plain a.text.now f.result l.at (l.invariant.5 h) (λ e. omega arith) (λ e. omega arith),
     )
 
 pub returns-then-hyphen : goal.returns-then-hyphen

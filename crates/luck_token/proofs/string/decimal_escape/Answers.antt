@@ -1,4 +1,4 @@
--- `luck_token::string::decimal_escape` meets its contract. Assumes nothing.
+-- `luck_token::string::decimal_escape` meets its contract.
 use Prim.Native.Nat.{◌+◌}
 use native.Mathlib.Omega.{arith}
 use Rattle.luck_text.specs.Bytes.{is_digit}
@@ -10,7 +10,7 @@ pub returns-then-digits-gt255 : goal.returns-then-digits-gt255
 returns-then-digits-gt255 c =
     let a = c.args in
     let d = c.digits-digits in
-    record { is = decimal_large a.body.now a.at d.result.count d.result.value d.ensures.0 d.ensures.1 c.if-digits-gt255.true; inside = tt }
+    record { is = decimal_large a.body.now a.at d.result.count d.result.value d.ensures.count d.ensures.value c.if-digits-gt255.true; inside = tt }
 
 pub overflow_add-result : goal.overflow_add-result
 overflow_add-result c = omega (arith, c.digits-digits.ensures.count)
@@ -20,6 +20,6 @@ returns c =
     let a = c.args in
     let d = c.digits-digits in
     record {
-      is = decimal_byte a.body.now a.at d.result.count d.result.value d.ensures.0 d.ensures.1 c.if-digits-gt255.false;
-      inside = (omega arith, omega (arith, d.ensures.0, run_inside is_digit a.body.now (a.at + 1) (omega arith)));
+      is = decimal_byte a.body.now a.at d.result.count d.result.value d.ensures.count d.ensures.value c.if-digits-gt255.false;
+      inside = (omega arith, omega (arith, d.ensures.count, run_inside is_digit a.body.now (a.at + 1) (omega arith)));
     }

@@ -1,12 +1,12 @@
--- `luck_token::string::decode_literal` meets its contract. Assumes nothing.
+-- `luck_token::string::decode_literal` meets its contract.
 use mathlib.Core.Path.{sym, ap, ◌∙◌}
 use native.Mathlib.Omega.{arith}
 use mathlib.Core.Bool.{true}
 use mathlib.Core.List.{List}
 use mathlib.Core.Option.{Option}
-use Prim.Native.Nat.{ℕ}
+use Prim.Native.Nat.{ℕ, ◌≤◌}
 use lib.ListN.{length}
-use Rattle.luck_token.specs.Literal.{value_of}
+use Rattle.luck_token.specs.Literal.{bracket_width, value_of, literal_value}
 use Rattle.luck_token.specs.Decode.{with_room, decoding_of, output_of}
 use Rattle.luck_token.proofs.Literals.{both_quotes}
 use Rattle.luck_token.proofs.Values as values
@@ -37,4 +37,8 @@ returns-then-width-gt0 c =
     let e = ap (value_of true c.args.rules) c.long_string_body-body.ensures ∙ values.long_literal c.args.rules c.args.raw.now c.bracket_width-width.result c.bracket_width-width.ensures c.if-width-gt0.true in record { answer = c.decode_body-then-width-gt0.ensures.answer ∙ ap (λ (o : Option (List ℕ)). decoding_of (with_room (length c.args.output.now) o)) e; output = c.decode_body-then-width-gt0.ensures.output ∙ ap (λ (o : Option (List ℕ)). output_of (with_room (length c.args.output.now) o) c.args.output.now) e }
 
 pub returns : goal.returns
-returns c = values.undecodable _ c.args.output.now (values.no_literal c.args.rules c.args.raw.now (omega (arith, c.bracket_width-width.ensures, c.if-width-gt0.false)) (sym c.is_short.ensures ∙ c.if-is_short.false))
+returns c =
+    let a = c.args in
+    let none_wide : bracket_width a.raw.now ≤ 0 = omega (arith, c.bracket_width-width.ensures) in
+    let t = values.undecodable (literal_value a.rules a.raw.now) a.output.now (values.no_literal a.rules a.raw.now none_wide (sym c.is_short.ensures ∙ c.if-is_short.false)) in
+    record { answer = t.0; output = t.1 }

@@ -1,4 +1,4 @@
--- `luck_token::string::decode_long` meets its contract. Assumes nothing.
+-- `luck_token::string::decode_long` meets its contract.
 use mathlib.Core.Path.{sym, ◌∙◌}
 use Rattle.luck_token.specs.Literal.{value_of}
 use Rattle.luck_token.proofs.Values as values
@@ -11,4 +11,4 @@ returns-in-Malformed c = absurd (values.long_value c.args.rules c.args.body.now 
 pub returns-in-Length : goal.returns-in-Length
 returns-in-Length c =
     let size = (values.has_size (value_of c.args.long c.args.rules c.args.body.now) c.in-Length.n (sym c.in-Length.is ∙ c.write-size.ensures.size)) in
-    let room = (values.in_room c.in-Length.n c.write-size.result c.in-Length.is c.write-size.ensures.within.0 c.requires.1) in record { answer = values.fits (value_of c.args.long c.args.rules c.args.body.now) c.args.output.now c.in-Length.n size room; output = values.written_value (value_of c.args.long c.args.rules c.args.body.now) c.args.output.now c.in-Length.n size _ c.write-size.ensures.within.1 room }
+    let room = (values.in_room c.in-Length.n c.write-size.result c.in-Length.is c.write-size.ensures.within c.requires.1) in record { answer = values.fits (value_of c.args.long c.args.rules c.args.body.now) c.args.output.now c.in-Length.n size room; output = values.written_value (value_of c.args.long c.args.rules c.args.body.now) c.args.output.now c.in-Length.n size _ c.write-size.ensures.output room }

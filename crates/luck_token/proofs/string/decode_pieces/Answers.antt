@@ -1,4 +1,4 @@
--- `luck_token::string::decode_pieces` meets its contract. Assumes nothing.
+-- `luck_token::string::decode_pieces` meets its contract.
 use mathlib.Core.Path.{sym, ◌∙◌}
 use native.Mathlib.Omega.{arith}
 use Rattle.luck_token.specs.Literal.{value_of}
@@ -10,8 +10,9 @@ pub returns-then-output-n : goal.returns-then-output-n
 returns-then-output-n c =
     let a = c.args in
     let o = value_of a.long a.rules a.body.now in
-    let g = c.size-1.given in
-    values.too_short o a.output.now g.0.0 (values.has_size o g.0.0 (sym g.1 ∙ c.write-size.ensures.size)) c.if-output-n.true
+    let g = c.in-Length in
+    let t = values.too_short o a.output.now g.n (values.has_size o g.n (sym g.is ∙ c.write-size.ensures.size)) c.if-output-n.true in
+    record { answer = t.0; output = t.1 }
 
 pub copy-requires : goal.copy-requires
 copy-requires c = (omega arith, omega arith, omega arith)
@@ -20,22 +21,23 @@ pub returns-then-n-le64 : goal.returns-then-n-le64
 returns-then-n-le64 c =
     let a = c.args in
     let w = c.write-size in
-    let g = c.size-1.given in
+    let g = c.in-Length in
     let o = value_of a.long a.rules a.body.now in
-    let size = values.has_size o g.0.0 (sym g.1 ∙ w.ensures.0) in
-    let room = c.if-output-n.false in record { answer = values.fits o a.output.now g.0.0 size room; output = c.copy.ensures ∙ values.copied_value o a.output.now g.0.0 size _ _ w.ensures.1.1 (omega (arith, c.if-n-le64.true)) room }
+    let size = values.has_size o g.n (sym g.is ∙ w.ensures.size) in
+    let room = c.if-output-n.false in record { answer = values.fits o a.output.now g.n size room; output = c.copy.ensures ∙ values.copied_value o a.output.now g.n size _ _ w.ensures.output (omega (arith, c.if-n-le64.true)) room }
 
 pub returns-in-Malformed : goal.returns-in-Malformed
 returns-in-Malformed c =
     let a = c.args in
     let o = value_of a.long a.rules a.body.now in
-    values.undecodable o a.output.now (values.no_size o (sym c.in-Malformed.is ∙ c.write-size.ensures.size))
+    let t = values.undecodable o a.output.now (values.no_size o (sym c.in-Malformed.is ∙ c.write-size.ensures.size)) in
+    record { answer = t.0; output = t.1 }
 
 pub returns-else-n-le64 : goal.returns-else-n-le64
 returns-else-n-le64 c =
     let a = c.args in
-    let g = c.size-1.given in
+    let g = c.in-Length in
     let o = value_of a.long a.rules a.body.now in
-    let size = values.has_size o g.0.0 (sym g.1 ∙ c.write-size.ensures.size) in
+    let size = values.has_size o g.n (sym g.is ∙ c.write-size.ensures.size) in
     let room = c.if-output-n.false in
-    record { answer = values.fits o a.output.now g.0.0 size room; output = values.written_value o a.output.now g.0.0 size _ c.write.ensures.within.1 room }
+    record { answer = values.fits o a.output.now g.n size room; output = values.written_value o a.output.now g.n size _ c.write.ensures.output room }

@@ -1,4 +1,4 @@
--- `luck_token::string::decode_plain` meets its contract. Assumes nothing.
+-- `luck_token::string::decode_plain` meets its contract.
 use mathlib.Core.Path.{refl, ◌∙◌}
 use native.Mathlib.Omega.{arith}
 use mathlib.Core.Option.{some}
@@ -7,7 +7,9 @@ use Rattle.luck_token.proofs.Values as values
 use Rattle.luck_token.proofs.string.decode_plain.Goals as goal
 
 pub returns-then-output-n : goal.returns-then-output-n
-returns-then-output-n c = values.too_short (some c.args.body.now) c.args.output.now (length c.args.body.now) (c.args.body.now, refl, refl) c.if-output-n.true
+returns-then-output-n c =
+    let t = values.too_short (some c.args.body.now) c.args.output.now (length c.args.body.now) (c.args.body.now, refl, refl) c.if-output-n.true in
+    record { answer = t.0; output = t.1 }
 
 pub copy-requires : goal.copy-requires
 copy-requires c = (omega arith, omega arith, omega arith)

@@ -1,15 +1,15 @@
--- `luck_token::string::escape_of` meets its contract. Assumes nothing.
+-- `luck_token::string::escape_of` meets its contract.
 use mathlib.Core.Path.{◌≡◌, ◌∙◌}
 use native.Mathlib.Omega.{arith}
 use borrow.Author.Tests.{ne_eqb}
 use mathlib.Core.Bool.{false}
-use mathlib.Core.Logic.{⊎_elim}
 use Rattle.luck_text.specs.Bytes.{if◌then◌else◌, between, among, is_digit}
 use Rattle.luck_token.specs.Literal.{escape_kind}
 use Rattle.luck_text.proofs.Bytes.{below, above}
 use Rattle.luck_token.proofs.Literals.{decimal_escape_lem}
 use borrow.Author.Rules.{rules}
 use Rattle.luck_token.proofs.string.escape_of.Goals as goal
+use Rattle.luck_token.proofs.string.escape_of.Goals.{in_default-via-then-byte-lt48, in_default-via-else-byte-lt48+else-byte-lt58}
 
 pub returns-then-rules : goal.returns-then-rules
 unfolding escape_kind among if◌then◌else◌ is_digit
@@ -24,39 +24,51 @@ unfolding escape_kind among if◌then◌else◌ is_digit
 returns-then-rules-3 c = rw (c.in-117.is, c.if-rules-3.true)
 
 pub returns-in-97 : goal.returns-in-97
+unfolding escape_kind among if◌then◌else◌
 returns-in-97 c = rw c.in-97.is
 
 pub returns-in-98 : goal.returns-in-98
+unfolding escape_kind among if◌then◌else◌
 returns-in-98 c = rw c.in-98.is
 
 pub returns-in-102 : goal.returns-in-102
+unfolding escape_kind among if◌then◌else◌
 returns-in-102 c = rw c.in-102.is
 
 pub returns-in-110 : goal.returns-in-110
+unfolding escape_kind among if◌then◌else◌
 returns-in-110 c = rw c.in-110.is
 
 pub returns-in-114 : goal.returns-in-114
+unfolding escape_kind among if◌then◌else◌
 returns-in-114 c = rw c.in-114.is
 
 pub returns-in-116 : goal.returns-in-116
+unfolding escape_kind among if◌then◌else◌
 returns-in-116 c = rw c.in-116.is
 
 pub returns-in-118 : goal.returns-in-118
+unfolding escape_kind among if◌then◌else◌
 returns-in-118 c = rw c.in-118.is
 
 pub returns-in-92 : goal.returns-in-92
+unfolding escape_kind among if◌then◌else◌
 returns-in-92 c = rw c.in-92.is
 
 pub returns-in-34 : goal.returns-in-34
+unfolding escape_kind among if◌then◌else◌
 returns-in-34 c = rw c.in-34.is
 
 pub returns-in-39 : goal.returns-in-39
+unfolding escape_kind among if◌then◌else◌
 returns-in-39 c = rw c.in-39.is
 
 pub returns-in-10 : goal.returns-in-10
+unfolding escape_kind among if◌then◌else◌
 returns-in-10 c = rw c.in-10.is
 
 pub returns-in-13 : goal.returns-in-13
+unfolding escape_kind among if◌then◌else◌
 returns-in-13 c = rw c.in-13.is
 
 pub returns-else-rules : goal.returns-else-rules
@@ -78,6 +90,27 @@ pub returns-in_default : goal.returns-in_default
 unfolding escape_kind among if◌then◌else◌ is_digit
 returns-in_default c =
     let x = c.args.byte in
-    let w = c.in_default-1.rest in
-    let no_digit : between 48 57 x ≡ false = ⊎_elim (λ l. below 48 57 x (omega arith)) (λ l. above 48 57 x (omega arith)) c.in_default.branch in
-    c.other_escape-in_default.ensures ∙ rw (ne_eqb x 97 w.0.0.0.0.0.0.0.0.0.0.0.0.0.0.1, ne_eqb x 98 w.0.0.0.0.0.0.0.0.0.0.0.0.0.1, ne_eqb x 102 w.0.0.0.0.0.0.0.0.0.0.0.0.1, ne_eqb x 110 w.0.0.0.0.0.0.0.0.0.0.0.1, ne_eqb x 114 w.0.0.0.0.0.0.0.0.0.0.1, ne_eqb x 116 w.0.0.0.0.0.0.0.0.0.1, ne_eqb x 118 w.0.0.0.0.0.0.0.0.1, ne_eqb x 92 w.0.0.0.0.0.0.0.1, ne_eqb x 34 w.0.0.0.0.0.0.1, ne_eqb x 39 w.0.0.0.0.0.1, ne_eqb x 10 w.0.0.0.0.1, ne_eqb x 13 w.0.0.0.1, no_digit, ne_eqb x 120 w.0.0.1, ne_eqb x 122 w.0.1, ne_eqb x 117 w.1)
+    let no_digit : between 48 57 x ≡ false =
+    elim c.in_default.branch [
+      | in_default-via-then-byte-lt48 w ↦ below 48 57 x (omega arith)
+      | in_default-via-else-byte-lt48+else-byte-lt58 w ↦ above 48 57 x (omega arith)
+    ] in
+    c.other_escape-in_default.ensures
+    ∙ rw (
+      ne_eqb x 97 (λ e. absurd (omega arith)),
+      ne_eqb x 98 (λ e. absurd (omega arith)),
+      ne_eqb x 102 (λ e. absurd (omega arith)),
+      ne_eqb x 110 (λ e. absurd (omega arith)),
+      ne_eqb x 114 (λ e. absurd (omega arith)),
+      ne_eqb x 116 (λ e. absurd (omega arith)),
+      ne_eqb x 118 (λ e. absurd (omega arith)),
+      ne_eqb x 92 (λ e. absurd (omega arith)),
+      ne_eqb x 34 (λ e. absurd (omega arith)),
+      ne_eqb x 39 (λ e. absurd (omega arith)),
+      ne_eqb x 10 (λ e. absurd (omega arith)),
+      ne_eqb x 13 (λ e. absurd (omega arith)),
+      no_digit,
+      ne_eqb x 120 (λ e. absurd (omega arith)),
+      ne_eqb x 122 (λ e. absurd (omega arith)),
+      ne_eqb x 117 (λ e. absurd (omega arith)),
+    )

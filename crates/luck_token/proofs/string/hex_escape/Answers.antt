@@ -1,4 +1,4 @@
--- `luck_token::string::hex_escape` meets its contract. Assumes nothing.
+-- `luck_token::string::hex_escape` meets its contract.
 use mathlib.Core.Path.{◌≡◌, sym, ap₂, ◌∙◌}
 use mathlib.Core.Bool.{true}
 use mathlib.Core.List.{[], ◌∷◌}
@@ -9,13 +9,6 @@ use Rattle.luck_text.specs.Bytes.{byte_at, is_xdigit}
 use Rattle.luck_token.specs.Literal.{piece}
 use Rattle.luck_token.proofs.Literals.{hex_cut, hex_first, hex_second, hex_byte}
 use Rattle.luck_token.proofs.string.hex_escape.Goals as goal
-
--- both are digits
-high : (c : goal.Else-not-is_in-2) → is_xdigit (byte_at c.args.body.now (c.args.at + 2)) ≡ true
-high c = sym c.is_in.ensures ∙ not-false _ c.if-not-is_in.false
-
-low : (c : goal.Else-not-is_in-2) → is_xdigit (byte_at c.args.body.now (c.args.at + 3)) ≡ true
-low c = sym c.is_in-2.ensures ∙ not-false _ c.if-not-is_in-2.false
 
 pub returns-then-body-at-lt4 : goal.returns-then-body-at-lt4
 returns-then-body-at-lt4 c = let a = c.args in record { is = hex_cut a.body.now a.at (omega arith); inside = tt }
@@ -31,13 +24,13 @@ returns-then-not-is_in-2 c =
     record { is = hex_second a.body.now a.at (sym c.is_in-2.ensures ∙ c.if-not-is_in-2.true); inside = tt }
 
 pub hex_value-requires : goal.hex_value-requires
-hex_value-requires c = high c
+hex_value-requires c = sym c.is_in.ensures ∙ c.if-not-is_in.false
 
 pub overflow_mul-result : goal.overflow_mul-result
 overflow_mul-result c = omega (arith, c.hex_value.ensures.1)
 
 pub hex_value-requires-2 : goal.hex_value-requires-2
-hex_value-requires-2 c = low c.before
+hex_value-requires-2 c = sym c.is_in-2.ensures ∙ c.if-not-is_in-2.false
 
 pub overflow_add-result : goal.overflow_add-result
 overflow_add-result c = omega (arith, c.hex_value.ensures.1, c.hex_value-2.ensures.1)
@@ -47,6 +40,6 @@ returns c =
     let a = c.args in
     let l = c.if-body-at-lt4.false in
     record {
-      is = ap₂ (λ (x y : ℕ). piece ((x * 16 + y) ∷ []) 4) c.hex_value.ensures.0 c.hex_value-2.ensures.0 ∙ hex_byte a.body.now a.at (omega arith) (high d) (low d);
+      is = ap₂ (λ (x y : ℕ). piece ((x * 16 + y) ∷ []) 4) c.hex_value.ensures.0 c.hex_value-2.ensures.0 ∙ hex_byte a.body.now a.at (omega arith) (sym c.is_in.ensures ∙ c.if-not-is_in.false) (sym c.is_in-2.ensures ∙ c.if-not-is_in-2.false);
       inside = (omega arith, omega arith);
     }

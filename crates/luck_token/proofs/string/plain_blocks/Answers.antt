@@ -1,10 +1,11 @@
--- `luck_token::string::plain_blocks` meets its contract. Assumes nothing.
+-- `luck_token::string::plain_blocks` meets its contract.
 use mathlib.Core.Path.{◌≡◌, ap, ◌∙◌}
 use mathlib.Core.Bool.{Bool, true, false}
 use Prim.Native.Nat.{ℕ, ◌+◌, ◌-◌, ◌≤◌, ◌<◌}
 use native.Mathlib.Omega.{arith}
 use borrow.Author.Tests.{not-true, not-false}
 use Rattle.luck_text.specs.Bytes.{byte_at}
+use mathlib.Core.List.{List}
 use mathlib.Core.Logic.{⊎_elim}
 use Rattle.luck_text.proofs.Cases.{order}
 use Rattle.luck_token.specs.Inner.{plain}
@@ -12,15 +13,13 @@ use Rattle.luck_token.proofs.Literals.{plain_long, plain_short}
 use Rattle.luck_token.proofs.string.plain_blocks.Goals as goal
 
 -- up to an end: every byte before it is no CR, and neither is the one at it where an LF stands before it
-pieces : (c : tie.After-blocks-end2) (end : ℕ) → end ≤ c.blocks-end2.result
-    → ((k : ℕ) → k + 1 ≡ c.blocks-end2.result → k < end → byte_at c.before.before.before.args.body.now k ≡ 10 → ⊥)
-    → (k : ℕ) → c.before.before.before.args.at ≤ k → k < end → plain c.before.before.before.args.long c.before.before.before.args.body.now k ≡ true
-pieces c end h last k l m =
-    let a = c.before.before.before.args in
-    let e = c.blocks-end2.ensures in
-    ap (λ (t : Bool). plain t a.body.now k) (not-false a.long c.before.if1.false)
-    ∙ plain_long a.body.now k ((e.2 k l (omega arith)))
-    (λ lf cr. ⊎_elim (λ inside. (e.2 (k + 1) (omega arith) inside) cr) (λ at_end. last k (omega arith) m lf) (order (k + 1) c.blocks-end2.result))
+module _ (body : List ℕ) (long : Bool) (at last : ℕ) where
+  pieces : long ≡ true → ((k : ℕ) → at ≤ k → k < last → byte_at body k ≡ 13 → ⊥) → (end : ℕ) → end ≤ last
+      → ((k : ℕ) → k + 1 ≡ last → k < end → byte_at body k ≡ 10 → ⊥) → (k : ℕ) → at ≤ k → k < end → plain long body k ≡ true
+  pieces t none end h at_last k l m =
+      ap (λ (t : Bool). plain t body k) t
+      ∙ plain_long body k (none k l (omega arith))
+      (λ lf cr. ⊎_elim (λ inside. none (k + 1) (omega arith) inside cr) (λ at_end. at_last k (omega arith) m lf) (order (k + 1) last))
 
 pub returns-then-not-long : goal.returns-then-not-long
 returns-then-not-long c =
@@ -36,16 +35,24 @@ bounds-body-end c = omega (arith, c.blocks_end-end.ensures.1)
 
 pub returns-then-body-end-eq10 : goal.returns-then-body-end-eq10
 returns-then-body-end-eq10 c =
-    let e = c.blocks_end-end.ensures in
-    (omega arith, omega (arith, e.1), pieces b _ (omega arith) (λ k f m. absurd (omega arith)))
+    let a = c.args in
+    let e = c.blocks_end-end.ensures in (
+      omega arith,
+      omega (arith, e.1),
+      pieces a.body.now a.long a.at c.blocks_end-end.result c.if-not-long.false e.2 _ (omega arith) (λ k f m. absurd (omega arith)),
+    )
 
 pub returns-else-body-end-eq10 : goal.returns-else-body-end-eq10
 returns-else-body-end-eq10 c =
+    let a = c.args in
     let e = c.blocks_end-end.ensures in
-    (e.0, e.1, pieces b c.blocks_end-end.result (omega arith) (λ k f m lf. c.if-body-end-eq10.false (at_last b k f ∙ lf)))
-  where
-    at_last : (b : tie.After-blocks-end2) (k : ℕ) → k + 1 ≡ c.blocks_end-end.result → byte_at c.args.body.now (c.blocks_end-end.result - 1) ≡ byte_at c.args.body.now k
-    at_last b k f = let e : c.blocks_end-end.result - 1 ≡ k = omega arith in ap (byte_at c.args.body.now) e
+    let at_last : (k : ℕ) → k + 1 ≡ c.blocks_end-end.result → byte_at a.body.now (c.blocks_end-end.result - 1) ≡ byte_at a.body.now k
+    = λ k f. let q : c.blocks_end-end.result - 1 ≡ k = omega arith in ap (byte_at a.body.now) q in (
+      e.0,
+      e.1,
+      pieces a.body.now a.long a.at c.blocks_end-end.result c.if-not-long.false e.2 c.blocks_end-end.result (omega arith)
+          (λ k f m lf. c.if-body-end-eq10.false (at_last k f ∙ lf)),
+    )
 
 pub returns-else-at-end : goal.returns-else-at-end
 returns-else-at-end c =

@@ -1,36 +1,25 @@
--- `luck_token::string::unicode_escape` meets its contract. Assumes nothing.
+-- `luck_token::string::unicode_escape` meets its contract.
 use mathlib.Core.Path.{◌≡◌, sym, ◌∙◌}
-use Prim.Native.Nat.{◌+◌, ◌<◌}
+use Prim.Native.Nat.{ℕ, ◌+◌, ◌≤◌, ◌<◌}
 use native.Mathlib.Omega.{arith}
-use lib.ListN.{length}
-use Rattle.luck_text.specs.Bytes.{byte_at, is_xdigit}
+use mathlib.Core.List.{List}
+use lib.ListN.{length, drop}
+use Rattle.luck_text.specs.Bytes.{byte_at, is_xdigit, run}
 use Rattle.luck_text.proofs.Bytes.{run_inside}
 use Rattle.luck_text.proofs.Cases.{present}
 use Rattle.luck_token.proofs.Literals.{exact, allowed_small, allowed_some, in_width, no_open, no_close, no_code_point, code_point}
 use borrow.Author.Rules.{rules}
 use Rattle.luck_token.proofs.string.unicode_escape.Goals as goal
 
--- the opening brace, and that it lies in the text
-opened : (c : goal.Else-byte_at-ne123) → byte_at c.args.body.now (c.args.at + 2) ≡ 123
-opened c = sym c.byte_at.ensures ∙ c.if-byte_at-ne123.false
+-- after the opening brace, the digits lie in the text
+digits_inside : (body : List ℕ) (at count brace : ℕ) → brace ≡ byte_at body (at + 2) → brace ≡ 123 → count ≡ run is_xdigit (drop (at + 3) body)
+    → at + 3 + count ≤ length body
+digits_inside body at count brace b e n =
+    let l : at + 2 < length body = present body (at + 2) (omega arith) in omega (arith, n, run_inside is_xdigit body (at + 3) (omega arith))
 
-open-inside : (c : goal.Else-byte_at-ne123) → c.args.at + 2 < length c.args.body.now
-open-inside c = let a = c.args in present a.body.now (a.at + 2) (omega (arith, opened c))
-
--- the digits lie in it too
-digits-inside : (c : tie.After-hex-digits) → c.before.before.before.before.args.at + 3 + c.hex-digits.result.count < length c.before.before.before.before.args.body.now + 1
-digits-inside c =
-    let a = c.before.before.before.before.args in
-    omega (arith, c.hex-digits.ensures.0, run_inside is_xdigit a.body.now (a.at + 3) (omega (arith, open-inside c.before)))
-
--- and the closing brace
-closed : (c : goal.Else-byte_at-ne125) → byte_at c.args.body.now (c.args.at + 3 + c.hex_digits-digits.result.count) ≡ 125
-closed c = sym c.byte_at-2.ensures ∙ c.if-byte_at-ne125.false
-
-close-inside : (c : goal.Else-byte_at-ne125) → c.args.at + 3 + c.hex_digits-digits.result.count < length c.args.body.now
-close-inside c =
-    let a = c.args in
-    present a.body.now (a.at + 3 + c.hex_digits-digits.result.count) (omega (arith, closed c))
+-- and the closing brace too
+close_inside : (body : List ℕ) (place brace : ℕ) → brace ≡ byte_at body place → brace ≡ 125 → place < length body
+close_inside body place brace b e = present body place (omega arith)
 
 pub returns-then-byte_at-ne123 : goal.returns-then-byte_at-ne123
 returns-then-byte_at-ne123 c =
@@ -38,22 +27,30 @@ returns-then-byte_at-ne123 c =
     record { is = no_open a.rules a.body.now a.at (λ e. c.if-byte_at-ne123.true (c.byte_at.ensures ∙ e)); inside = tt }
 
 pub overflow_add-at-2 : goal.overflow_add-at-2
-overflow_add-at-2 c = omega (arith, open-inside c)
+overflow_add-at-2 c =
+    let a = c.args in
+    omega (arith, present a.body.now (a.at + 2) (omega (arith, c.byte_at.ensures)))
 
 pub overflow_add-at-3 : goal.overflow_add-at-3
-overflow_add-at-3 c = omega (arith, digits-inside c)
+overflow_add-at-3 c =
+    let a = c.args in
+    omega (arith, digits_inside a.body.now a.at c.hex_digits-digits.result.count c.byte_at.result c.byte_at.ensures c.if-byte_at-ne123.false c.hex_digits-digits.ensures.count)
 
 pub overflow_add-at-4 : goal.overflow_add-at-4
-overflow_add-at-4 c = omega (arith, digits-inside c.before)
+overflow_add-at-4 c =
+    let a = c.args in
+    omega (arith, digits_inside a.body.now a.at c.hex_digits-digits.result.count c.byte_at.result c.byte_at.ensures c.if-byte_at-ne123.false c.hex_digits-digits.ensures.count)
 
 pub returns-then-byte_at-ne125 : goal.returns-then-byte_at-ne125
 returns-then-byte_at-ne125 c =
     let a = c.args in
     let d = c.hex_digits-digits in
-    record { is = no_close a.rules a.body.now a.at d.result.count d.ensures.0 (λ e. c.if-byte_at-ne125.true (c.byte_at-2.ensures ∙ e)); inside = tt }
+    record { is = no_close a.rules a.body.now a.at d.result.count d.ensures.count (λ e. c.if-byte_at-ne125.true (c.byte_at-2.ensures ∙ e)); inside = tt }
 
 pub overflow_add-result : goal.overflow_add-result
-overflow_add-result c = omega (arith, close-inside c.before.before.before)
+overflow_add-result c =
+    let a = c.args in
+    omega (arith, close_inside a.body.now (a.at + 3 + c.hex_digits-digits.result.count) c.byte_at-2.result c.byte_at-2.ensures c.if-byte_at-ne125.false)
 
 pub returns-then-allows_code_point : goal.returns-then-allows_code_point
 unfolding exact
@@ -63,11 +60,11 @@ returns-then-allows_code_point c =
     let allowed = sym c.allows_code_point.ensures ∙ c.if-allows_code_point.true in
     let small = allowed_small a.rules d.result.value d.result.count allowed in
     record {
-      is = code_point a.rules a.body.now a.at d.result.count d.ensures.0 d.result.value d.ensures.1 (opened x.before) (closed e) allowed;
+      is = code_point a.rules a.body.now a.at d.result.count d.ensures.count d.result.value d.ensures.value (sym c.byte_at.ensures ∙ c.if-byte_at-ne123.false) (sym c.byte_at-2.ensures ∙ c.if-byte_at-ne125.false) allowed;
       inside = (
         small,
-        in_width a.rules a.body.now a.at d.result.count d.ensures.0 d.result.value d.ensures.1 (allowed_some a.rules d.result.value d.result.count allowed) small,
-        (omega arith, omega (arith, close-inside e)),
+        in_width a.rules a.body.now a.at d.result.count d.ensures.count d.result.value d.ensures.value (allowed_some a.rules d.result.value d.result.count allowed) small,
+        (omega arith, omega (arith, close_inside a.body.now (a.at + 3 + d.result.count) c.byte_at-2.result c.byte_at-2.ensures c.if-byte_at-ne125.false)),
       );
     }
 
@@ -77,6 +74,6 @@ returns c =
     let a = c.args in
     let d = c.hex_digits-digits in
     record {
-      is = no_code_point a.rules a.body.now a.at d.result.count d.ensures.0 d.result.value d.ensures.1 (sym c.allows_code_point.ensures ∙ c.if-allows_code_point.false);
+      is = no_code_point a.rules a.body.now a.at d.result.count d.ensures.count d.result.value d.ensures.value (sym c.allows_code_point.ensures ∙ c.if-allows_code_point.false);
       inside = tt;
     }

@@ -1,4 +1,4 @@
--- `luck_token::version::rules_of` meets its contract. The table's rule is one equation, which antt computes: its rows are those of the versions 1 to 6. Assumes nothing.
+-- `luck_token::version::rules_of` meets its contract. The table's rule is one equation, which antt computes: its rows are those of the versions 1 to 6.
 use mathlib.Core.Path.{◌≡◌, refl, sym, ap, ◌∙◌}
 use Prim.Native.Nat.{ℕ, ◌<◌, ◌≤◌}
 use native.Mathlib.Omega.{arith}
@@ -11,7 +11,6 @@ use Rattle.luck_token.specs.Version.{is_version, versions, has, rules_of}
 use Rattle.luck_token.specs.declared.version.Rules.{Rules}
 use Rattle.luck_text.proofs.Bytes.{below, above}
 use Rattle.luck_text.proofs.Cases.{order}
-use borrow.Author.Rules.{rules}
 use Rattle.luck_token.proofs.version.rules_of.Goals as goal
 
 abbrev rules : Bool → Bool → Bool → Bool → Bool → Bool → Bool → Bool → Bool → Bool → Bool → Rules
@@ -82,5 +81,4 @@ pub returns-in_default : goal.returns-in_default
 unfolding has rules_of
 returns-in_default c =
     let v = c.args.version in
-    let n = c.in_default.rest in
-    rw (other v (order v 1) n.0.0.0.0.0.1 n.0.0.0.0.1 n.0.0.0.1 n.0.0.1 n.0.1 n.1)
+    rw (other v (order v 1) (λ e. absurd (omega arith)) (λ e. absurd (omega arith)) (λ e. absurd (omega arith)) (λ e. absurd (omega arith)) (λ e. absurd (omega arith)) (λ e. absurd (omega arith)))

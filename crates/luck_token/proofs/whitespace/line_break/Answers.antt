@@ -1,4 +1,4 @@
--- `luck_token::whitespace::line_break` meets its contract. Assumes nothing.
+-- `luck_token::whitespace::line_break` meets its contract.
 use mathlib.Core.Path.{◌≡◌}
 use native.Mathlib.Omega.{arith}
 use Prim.Native.Nat.{ℕ}
@@ -8,34 +8,29 @@ use Rattle.luck_text.proofs.Cases.{bit}
 use Rattle.luck_token.proofs.Breaks as breaks
 use Rattle.luck_token.proofs.whitespace.line_break.Goals as goal
 
--- each bit and each product of two is at most 1
-module _ (c : tie.After-byte-at) where
-  abbrev here : ℕ
-  here = byte_at c.before.before.before.before.args.text.now c.before.before.before.before.args.at
-
 pub returns-then-text-at : goal.returns-then-text-at
 returns-then-text-at c = let a = c.args in breaks.past_end a.lfcr a.text.now a.at c.if-text-at.true
 
 pub overflow_mul-cr_lf : goal.overflow_mul-cr_lf
-overflow_mul-cr_lf c = omega (arith, breaks.bit_of_both (eqb (here c) 13) (eqb c.byte_at-next.result 10))
+overflow_mul-cr_lf c = omega (arith, breaks.bit_of_both (eqb (byte_at c.args.text.now c.args.at) 13) (eqb c.byte_at-next.result 10))
 
 pub overflow_add-result : goal.overflow_add-result
-overflow_add-result c = omega (arith, bit (eqb (here c.before) 13), bit (eqb (here c.before) 10))
+overflow_add-result c = omega (arith, bit (eqb (byte_at c.args.text.now c.args.at) 13), bit (eqb (byte_at c.args.text.now c.args.at) 10))
 
 pub overflow_add-result-then-lfcr : goal.overflow_add-result-then-lfcr
-overflow_add-result-then-lfcr c = omega (arith, bit (eqb (here c.before) 13), bit (eqb (here c.before) 10), breaks.bit_of_both (eqb (here c.before) 13) (eqb c.byte_at-next.result 10))
+overflow_add-result-then-lfcr c = omega (arith, bit (eqb (byte_at c.args.text.now c.args.at) 13), bit (eqb (byte_at c.args.text.now c.args.at) 10), breaks.bit_of_both (eqb (byte_at c.args.text.now c.args.at) 13) (eqb c.byte_at-next.result 10))
 
 pub overflow_mul-result : goal.overflow_mul-result
-overflow_mul-result c = omega (arith, breaks.bit_of_both (eqb (here c.before) 10) (eqb c.byte_at-next.result 13))
+overflow_mul-result c = omega (arith, breaks.bit_of_both (eqb (byte_at c.args.text.now c.args.at) 10) (eqb c.byte_at-next.result 13))
 
 pub overflow_add-result-then-lfcr-2 : goal.overflow_add-result-then-lfcr-2
 overflow_add-result-then-lfcr-2 c =
     omega (
       arith,
-      bit (eqb (here c.before) 13),
-      bit (eqb (here c.before) 10),
-      breaks.bit_of_both (eqb (here c.before) 13) (eqb c.byte_at-next.result 10),
-      breaks.bit_of_both (eqb (here c.before) 10) (eqb c.byte_at-next.result 13),
+      bit (eqb (byte_at c.args.text.now c.args.at) 13),
+      bit (eqb (byte_at c.args.text.now c.args.at) 10),
+      breaks.bit_of_both (eqb (byte_at c.args.text.now c.args.at) 13) (eqb c.byte_at-next.result 10),
+      breaks.bit_of_both (eqb (byte_at c.args.text.now c.args.at) 10) (eqb c.byte_at-next.result 13),
     )
 
 pub returns-then-lfcr : goal.returns-then-lfcr
@@ -44,10 +39,10 @@ returns-then-lfcr c =
     rw c.byte_at-next.ensures (breaks.sum_with a.lfcr a.text.now a.at c.if-lfcr.true)
 
 pub overflow_add-result-2 : goal.overflow_add-result-2
-overflow_add-result-2 c = omega (arith, bit (eqb (here c.before) 10), breaks.bit_of_both (eqb (here c.before) 13) (eqb c.byte_at-next.result 10))
+overflow_add-result-2 c = omega (arith, bit (eqb (byte_at c.args.text.now c.args.at) 10), breaks.bit_of_both (eqb (byte_at c.args.text.now c.args.at) 13) (eqb c.byte_at-next.result 10))
 
 pub overflow_add-result-3 : goal.overflow_add-result-3
-overflow_add-result-3 c = omega (arith, bit (eqb (here c.before) 10), breaks.bit_of_both (eqb (here c.before) 13) (eqb c.byte_at-next.result 10))
+overflow_add-result-3 c = omega (arith, bit (eqb (byte_at c.args.text.now c.args.at) 10), breaks.bit_of_both (eqb (byte_at c.args.text.now c.args.at) 13) (eqb c.byte_at-next.result 10))
 
 pub returns : goal.returns
 returns c =

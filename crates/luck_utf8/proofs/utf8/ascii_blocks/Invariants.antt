@@ -1,10 +1,7 @@
 -- `luck_utf8::utf8::ascii_blocks` meets its contract. The loop's invariant: every byte passed is below 80. Assumes nothing.
 use Prim.Native.Nat.{ℕ, ◌≤◌, ◌<◌, ◌-◌}
-use native.Mathlib.Omega.{arith}
 use lib.ListN.{length}
 use Rattle.luck_text.specs.Bytes.{byte_at}
-use Rattle.luck_text.proofs.Bytes.{all_between}
-use Rattle.luck_utf8.proofs.Sequences.{part_low}
 use Rattle.luck_utf8.proofs.utf8.ascii_blocks.Given as goal
 
 abbrev pub invariant-loop-at : goal.invariant-loop-at

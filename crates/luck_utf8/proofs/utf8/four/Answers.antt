@@ -1,38 +1,36 @@
--- `luck_utf8::utf8::four` meets its contract: `Left` says what is due after each byte. Assumes nothing.
-use mathlib.Core.List.{List, [], ◌∷◌}
-use Prim.Native.Nat.{ℕ}
-use native.Mathlib.Omega.{arith}
-use Rattle.luck_utf8.specs.Utf8.{Range, ◌to◌, tail}
-use Rattle.luck_utf8.proofs.Sequences.{Left, left_row, left_short, left_out, left_in, left_end}
+-- `luck_utf8::utf8::four` meets its contract: `Left` says what is due after each byte.
 use mathlib.Core.Path.{ap}
 use mathlib.Core.Bool.{not}
+use native.Mathlib.Omega.{arith}
+use Rattle.luck_utf8.proofs.Sequences.{left_row, left_short, left_out, left_in, left_end}
 use Rattle.luck_utf8.proofs.utf8.four.Goals as goal
 
-abbrev Due : tie.Start → ℕ → List Range → Type 0
-Due s k ranges = Left s.args.text.now s.args.at k 4 ranges
-
--- what is due after the first byte, and after each that fits
-second-due : (c : tie.After-second-of-four)
-    → Due c.before.before.before 1 (◌to◌ c.second-of-four.result.low c.second-of-four.result.high ∷ tail ∷ tail ∷ [])
-second-due c = left_row c.before.before.before.requires.0 c.second-of-four.ensures
-
-third-due : (c : goal.Else-not-is_between) → Due c.before.before.before.before.before.before.before.before.before 2 (tail ∷ tail ∷ [])
-third-due c = left_in (second-due c.before.before.before.before.before.before) c.is_between.ensures c.if-not-is_between.false (omega arith)
-
-fourth-due : (c : goal.Else-not-is_between-2) → Due c.before.before.before.before.before.before.before.before.before.before.before 3 (tail ∷ [])
-fourth-due c = left_in (third-due c.before.before) c.is_between-2.ensures c.if-not-is_between-2.false (omega arith)
-
 pub returns-then-text-at-lt4 : goal.returns-then-text-at-lt4
-returns-then-text-at-lt4 c = left_short (second-due c.before) (omega arith)
+returns-then-text-at-lt4 c = left_short (left_row c.requires.0 c.second_of_four-range.ensures) (omega arith)
 
 pub returns-then-not-is_between : goal.returns-then-not-is_between
-returns-then-not-is_between c = left_out (second-due c.before.before.before.before.before.before) c.is_between.ensures (ap not c.if-not-is_between.true)
+returns-then-not-is_between c =
+    let second = left_row c.requires.0 c.second_of_four-range.ensures in
+    left_out second c.is_between.ensures (ap not c.if-not-is_between.true)
 
 pub returns-then-not-is_between-2 : goal.returns-then-not-is_between-2
-returns-then-not-is_between-2 c = left_out (third-due c.before.before) c.is_between-2.ensures (ap not c.if-not-is_between-2.true)
+returns-then-not-is_between-2 c =
+    let second = left_row c.requires.0 c.second_of_four-range.ensures in
+    let third = left_in second c.is_between.ensures (ap not c.if-not-is_between.false) (omega arith) in
+    left_out third c.is_between-2.ensures (ap not c.if-not-is_between-2.true)
 
 pub returns-then-not-is_between-3 : goal.returns-then-not-is_between-3
-returns-then-not-is_between-3 c = left_out (fourth-due c.before.before) c.is_between-3.ensures (ap not c.if-not-is_between-3.true)
+returns-then-not-is_between-3 c =
+    let second = left_row c.requires.0 c.second_of_four-range.ensures in
+    let third = left_in second c.is_between.ensures (ap not c.if-not-is_between.false) (omega arith) in
+    let fourth = left_in third c.is_between-2.ensures (ap not c.if-not-is_between-2.false) (omega arith) in
+    left_out fourth c.is_between-3.ensures (ap not c.if-not-is_between-3.true)
 
 pub returns : goal.returns
-returns c = left_end (left_in (fourth-due c.before.before) c.is_between-3.ensures (ap not c.if-not-is_between-3.false) (omega arith))
+returns c =
+    let second = left_row c.requires.0 c.second_of_four-range.ensures in
+    left_end
+    (left_in
+    (left_in (left_in second c.is_between.ensures (ap not c.if-not-is_between.false) (omega arith))
+    c.is_between-2.ensures (ap not c.if-not-is_between-2.false) (omega arith))
+    c.is_between-3.ensures (ap not c.if-not-is_between-3.false) (omega arith))

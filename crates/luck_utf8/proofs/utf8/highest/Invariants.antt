@@ -1,8 +1,5 @@
 -- `luck_utf8::utf8::highest` meets its contract. The loop's invariant: no byte passed is above `high`. Assumes nothing.
 use Prim.Native.Nat.{ℕ, ◌≤◌, ◌<◌, ◌-◌}
-use native.Mathlib.Omega.{arith}
-use mathlib.Core.Logic.{⊎_elim}
-use borrow.Author.Count.{below_more}
 use lib.ListN.{length}
 use Rattle.luck_text.specs.Bytes.{byte_at}
 use Rattle.luck_utf8.proofs.utf8.highest.Given as goal

@@ -1,11 +1,9 @@
 -- `luck_utf8::utf8::sequences` meets its contract. The loop's invariant: the walk from `at` is the walk from `from`. Assumes nothing.
-use mathlib.Core.Path.{◌≡◌, refl, sym, ◌∙◌}
+use mathlib.Core.Path.{◌≡◌}
 use Prim.Native.Nat.{◌≤◌, ◌-◌}
-use native.Mathlib.Omega.{arith}
 use lib.ListN.{length}
 use Rattle.luck_text.specs.Walk.{walk_from}
 use Rattle.luck_utf8.specs.Utf8.{sequence_at, none_ill_formed}
-use Rattle.luck_utf8.proofs.Sequences.{Formed, formed, walk_sequence}
 use Rattle.luck_utf8.proofs.utf8.sequences.Given as goal
 
 abbrev pub invariant-loop-at : goal.invariant-loop-at

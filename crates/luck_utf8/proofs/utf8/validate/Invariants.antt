@@ -1,12 +1,9 @@
 -- `luck_utf8::utf8::validate` meets its contract. The loop's invariant: the walk from `at` is the whole answer. Assumes nothing.
-use mathlib.Core.Path.{◌≡◌, refl, sym, ◌∙◌}
+use mathlib.Core.Path.{◌≡◌}
 use Prim.Native.Nat.{◌≤◌, ◌-◌}
-use native.Mathlib.Omega.{arith}
 use lib.ListN.{length}
 use Rattle.luck_text.specs.Walk.{walk_from}
 use Rattle.luck_utf8.specs.Utf8.{sequence_at, none_ill_formed, ill_formed}
-use Rattle.luck_text.proofs.Walk.{walk_end}
-use Rattle.luck_utf8.proofs.Sequences.{walk_ascii, walk_ill_formed}
 use Rattle.luck_utf8.proofs.utf8.validate.Given as goal
 
 abbrev pub invariant-loop-at : goal.invariant-loop-at

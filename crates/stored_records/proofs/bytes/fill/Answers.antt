@@ -1,8 +1,8 @@
 -- `stored_records::bytes::fill` meets its contract. The invariant: the bytes passed are filled, and those behind are as they were. Assumes nothing.
-use Prim.Native.Nat.{ℕ, ◌≤◌, ◌-◌}
+use Prim.Native.Nat.{ℕ}
 use mathlib.Core.Path.{◌≡◌, ap, ◌∙◌}
 use mathlib.Core.List.{List, ◌++◌}
-use lib.ListN.{length, set, drop, replicate, length-set}
+use lib.ListN.{set, drop, replicate, length-set}
 use borrow.Author.Fill.{fill_more}
 use native.Mathlib.Omega.{arith}
 use Rattle.stored_records.proofs.bytes.fill.Goals as goal

@@ -1,7 +1,7 @@
 -- `stored_records::output::holds` meets its contract. Assumes nothing.
 use mathlib.Core.Path.{sym, ◌∙◌}
 use mathlib.Core.Bool.{false≢true}
-use borrow.Author.Tests.{not-false, leb-true}
+use borrow.Author.Tests.{leb-true}
 use Rattle.stored_records.proofs.output.holds.Goals as goal
 
 pub returns-then-not-same : goal.returns-then-not-same
