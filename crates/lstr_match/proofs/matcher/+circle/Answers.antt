@@ -40,7 +40,7 @@ pub do_match-returns-then-level-ge-MAXCCALLS : goal.do_match-returns-then-level-
 do_match-returns-then-level-ge-MAXCCALLS t c = repeats.ended _ _ _ _ _ c.too_deep.ensures (turns.too_deep _ _ _ c.if-level-ge-MAXCCALLS.true)
 
 pub do_match-items-init : goal.do_match-items-init
-do_match-items-init t c = (sym (turns.level_opens _ _ _ c.if-level-ge-MAXCCALLS.false), omega (arith, c.requires))
+do_match-items-init t c = (sym (turns.level_opens _ _ _ c.if-level-ge-MAXCCALLS.false), omega arith)
 
 pub do_match-returns-then-budget-steps : goal.do_match-returns-then-budget-steps
 do_match-returns-then-budget-steps t c =
@@ -98,14 +98,14 @@ pub do_match-items-preserved-in-Same : goal.do_match-items-preserved-in-Same
 do_match-items-preserved-in-Same t c =
     let i = c.in-BackReference.ensures in (
       c.in-Same.ensures.0 _ _ _ ∙ turns.at_reference _ _ _ _ _ _ _ _ _ c.if-budget-steps.false _ _ i ∙ c.items.invariant.0,
-      omega (arith, i.further, i.inside, c.in-Same.ensures.1, c.items.invariant.1),
+      omega (arith, c.in-Same.ensures.1),
     )
 
 pub do_match-items-preserved-in-At : goal.do_match-items-preserved-in-At
 do_match-items-preserved-in-At t c =
     let i = c.in-Balance.ensures in (
       turns.balanced _ _ _ _ _ _ _ _ _ c.if-budget-steps.false _ _ _ _ i c.in-At.ensures.0 ∙ c.items.invariant.0,
-      omega (arith, i.further, i.inside, c.in-At.ensures.1, c.items.invariant.1),
+      omega (arith, c.in-At.ensures.1),
     )
 
 pub do_match-returns-in-Nothing : goal.do_match-returns-in-Nothing
@@ -122,7 +122,7 @@ pub do_match-items-preserved-in-Frontier : goal.do_match-items-preserved-in-Fron
 do_match-items-preserved-in-Frontier t c =
     let i = c.in-Frontier.ensures.0 in (
       turns.at_frontier _ _ _ _ _ _ _ _ _ c.if-budget-steps.false _ _ i (sym c.is_frontier.ensures ∙ c.if-not-is_frontier.false) ∙ c.items.invariant.0,
-      omega (arith, i.further, i.inside, c.items.invariant.1),
+      omega arith,
     )
 
 pub do_match-returns-then-has_to_fit : goal.do_match-returns-then-has_to_fit
@@ -136,76 +136,75 @@ do_match-items-preserved-then-not-fits t c =
     let h = sym c.if-has_to_fit.ensures in
     let b = turns.behind_repeat _ _ _ _ _ i.on (turns.passed_repeats _ h) in (
       turns.unfit_passed _ _ _ _ _ _ _ _ _ c.if-budget-steps.false _ _ _ i.on h (sym c.if-not-fits.ensures) ∙ c.items.invariant.0,
-      omega (arith, b, c.items.invariant.1),
+      omega arith,
     )
 
 pub do_match-items-preserved-in-Once : goal.do_match-items-preserved-in-Once
 do_match-items-preserved-in-Once t c =
-    let i = subst (λ k. Single-then c.args.pattern.now c.items.at c.in-Single.suffix (repeat_as k)) c.in-Once.is c.in-Single.ensures in
+    let i = rw c.in-Once.is at c.in-Single.ensures in
     let f = sym c.if-not-fits.ensures in (
       turns.fit_once _ _ _ _ _ _ _ _ _ c.if-budget-steps.false _ _ once i.on refl f ∙ c.items.invariant.0,
-      omega (arith, turns.behind_once _ _ _ _ once i.on refl, fits_inside _ _ _ _ f, c.items.invariant.1),
+      omega (arith, turns.behind_once _ _ _ _ once i.on refl, fits_inside _ _ _ _ f),
     )
 
 pub do_match-do_match-r-requires : goal.do_match-do_match-r-requires
 do_match-do_match-r-requires t c =
-    let i = subst (λ k. Single-then c.args.pattern.now c.items.at c.in-Single.suffix (repeat_as k)) c.in-Optional.is c.in-Single.ensures in
+    let i = rw c.in-Optional.is at c.in-Single.ensures in
     let b = turns.behind_repeat _ _ _ _ optional i.on refl in
-    let g = fits_inside _ _ _ _ (sym c.if-not-fits.ensures) in
-    let inv = c.items.invariant.1 in
-    (omega (arith, b, inv), (b.1, omega (arith, g), sound_later _ _ _ (omega (arith, inv)) c.requires.2))
+    let g : c.items.place < length c.args.subject.now = fits_inside _ _ _ _ (sym c.if-not-fits.ensures) in
+    (omega arith, (b.1, omega arith, sound_later _ _ _ (omega arith) c.requires.2))
 
 pub do_match-returns-then-r-ne-FAILED : goal.do_match-returns-then-r-ne-FAILED
 do_match-returns-then-r-ne-FAILED t c =
-    let i = subst (λ k. Single-then c.args.pattern.now c.items.at c.in-Single.suffix (repeat_as k)) c.in-Optional.is c.in-Single.ensures in
+    let i = rw c.in-Optional.is at c.in-Single.ensures in
     let r = c.do_match-r.ensures in
     repeats.answered _ _ _ _ _ _ c.answer-then-r-ne-FAILED.ensures (repeats.optional_ends _ _ _ _ _ _ _ _ _ _ _ r.0 c.if-r-ne-FAILED.true, r.1)
     (turns.fit_more _ _ _ _ _ _ _ _ _ c.if-budget-steps.false _ _ optional i.on refl (sym c.if-not-fits.ensures) ∙ c.items.invariant.0)
 
 pub do_match-items-preserved : goal.do_match-items-preserved
 do_match-items-preserved t c =
-    let i = subst (λ k. Single-then c.args.pattern.now c.items.at c.in-Single.suffix (repeat_as k)) c.in-Optional.is c.in-Single.ensures in (
+    let i = rw c.in-Optional.is at c.in-Single.ensures in (
       repeats.optional_fails _ _ _ _ _ _ _ _ _ _ _ c.do_match-r.ensures.0 c.if-r-ne-FAILED.false
           ∙ turns.fit_more _ _ _ _ _ _ _ _ _ c.if-budget-steps.false _ _ optional i.on refl (sym c.if-not-fits.ensures) ∙ c.items.invariant.0,
-      omega (arith, turns.behind_repeat _ _ _ _ optional i.on refl, c.items.invariant.1),
+      omega (arith, turns.behind_repeat _ _ _ _ optional i.on refl),
     )
 
 pub do_match-max_expand-r-requires : goal.do_match-max_expand-r-requires
 do_match-max_expand-r-requires t c =
-    let i = subst (λ k. Single-then c.args.pattern.now c.items.at c.in-Single.suffix (repeat_as k)) c.in-Star.is c.in-Single.ensures in
+    let i = rw c.in-Star.is at c.in-Single.ensures in
     let b = turns.behind_repeat _ _ _ _ star i.on refl in
     let inv = c.items.invariant.1 in
-    (omega (arith, b, inv), (i.single, omega (arith, b), fits_inside _ _ _ _ (sym c.if-not-fits.ensures), omega arith, omega arith, sound_later _ _ _ inv.2 c.requires.2))
+    (omega arith, (i.single, omega arith, fits_inside _ _ _ _ (sym c.if-not-fits.ensures), omega arith, omega arith, sound_later _ _ _ inv.2 c.requires.2))
 
 pub do_match-returns-in-Star : goal.do_match-returns-in-Star
 do_match-returns-in-Star t c =
-    let i = subst (λ k. Single-then c.args.pattern.now c.items.at c.in-Single.suffix (repeat_as k)) c.in-Star.is c.in-Single.ensures in
+    let i = rw c.in-Star.is at c.in-Single.ensures in
     repeats.answered _ _ _ _ _ _ c.answer-in-Star.ensures c.max_expand-r.ensures
     (repeats.star_on _ _ _ _ _ _ _ _ _ _ refl ∙ turns.fit_more _ _ _ _ _ _ _ _ _ c.if-budget-steps.false _ _ star i.on refl (sym c.if-not-fits.ensures) ∙ c.items.invariant.0)
 
 pub do_match-max_expand-r-requires-in-Plus : goal.do_match-max_expand-r-requires-in-Plus
 do_match-max_expand-r-requires-in-Plus t c =
-    let i = subst (λ k. Single-then c.args.pattern.now c.items.at c.in-Single.suffix (repeat_as k)) c.in-Plus.is c.in-Single.ensures in
+    let i = rw c.in-Plus.is at c.in-Single.ensures in
     let b = turns.behind_repeat _ _ _ _ plus i.on refl in
     let inv = c.items.invariant.1 in
-    (omega (arith, b, inv), (i.single, omega (arith, b), fits_inside _ _ _ _ (sym c.if-not-fits.ensures), omega arith, omega arith, sound_later _ _ _ inv.2 c.requires.2))
+    (omega arith, (i.single, omega arith, fits_inside _ _ _ _ (sym c.if-not-fits.ensures), omega arith, omega arith, sound_later _ _ _ inv.2 c.requires.2))
 
 pub do_match-returns-in-Plus : goal.do_match-returns-in-Plus
 do_match-returns-in-Plus t c =
-    let i = subst (λ k. Single-then c.args.pattern.now c.items.at c.in-Single.suffix (repeat_as k)) c.in-Plus.is c.in-Single.ensures in
+    let i = rw c.in-Plus.is at c.in-Single.ensures in
     repeats.answered _ _ _ _ _ _ c.answer-in-Plus.ensures c.max_expand-r-in-Plus.ensures
     (repeats.plus_on _ _ _ _ _ _ _ _ _ _ refl ∙ turns.fit_more _ _ _ _ _ _ _ _ _ c.if-budget-steps.false _ _ plus i.on refl (sym c.if-not-fits.ensures) ∙ c.items.invariant.0)
 
 pub do_match-min_expand-r-requires : goal.do_match-min_expand-r-requires
 do_match-min_expand-r-requires t c =
-    let i = subst (λ k. Single-then c.args.pattern.now c.items.at c.in-Single.suffix (repeat_as k)) c.in-Minus.is c.in-Single.ensures in
+    let i = rw c.in-Minus.is at c.in-Single.ensures in
     let b = turns.behind_repeat _ _ _ _ minus i.on refl in
     let inv = c.items.invariant.1 in
-    (omega (arith, b, inv), (i.single, omega (arith, b), fits_inside _ _ _ _ (sym c.if-not-fits.ensures), sound_later _ _ _ inv.2 c.requires.2))
+    (omega arith, (i.single, omega arith, fits_inside _ _ _ _ (sym c.if-not-fits.ensures), sound_later _ _ _ inv.2 c.requires.2))
 
 pub do_match-returns-in-Minus : goal.do_match-returns-in-Minus
 do_match-returns-in-Minus t c =
-    let i = subst (λ k. Single-then c.args.pattern.now c.items.at c.in-Single.suffix (repeat_as k)) c.in-Minus.is c.in-Single.ensures in
+    let i = rw c.in-Minus.is at c.in-Single.ensures in
     repeats.answered _ _ _ _ _ _ c.answer-in-Minus.ensures c.min_expand-r.ensures
     (turns.fit_more _ _ _ _ _ _ _ _ _ c.if-budget-steps.false _ _ minus i.on refl (sym c.if-not-fits.ensures) ∙ c.items.invariant.0)
 
@@ -223,7 +222,7 @@ pub end_capture-returns-in-Capture : goal.end_capture-returns-in-Capture
 end_capture-returns-in-Capture t c =
     let h = c.in-Capture.ensures in
     repeats.answered _ _ _ _ _ _ c.answer.ensures c.do_match-r.ensures
-    (ends_capture c.args.captures (omega arith) c.requires.2.few _ _ _ _ _ h.0 h.1 (omega (arith, c.requires.1)))
+    (ends_capture c.args.captures (omega arith) c.requires.2.few _ _ _ _ _ h.0 h.1 (omega arith))
 
 pub end_capture-returns-in-Nothing : goal.end_capture-returns-in-Nothing
 end_capture-returns-in-Nothing t c =
@@ -249,7 +248,7 @@ pub max_expand-returns-then-reach : goal.max_expand-returns-then-reach
 max_expand-returns-then-reach t c = repeats.ended _ _ _ _ _ c.spent.ensures (repeats.spent_expands _ _ c.reach-reach.ensures.0 _ _ _ _ c.if-reach.true)
 
 pub max_expand-loop-steps-init : goal.max_expand-loop-steps-init
-max_expand-loop-steps-init t c = (repeats.reach_expands _ _ c.reach-reach.ensures.0 _ _ _ _ c.if-reach.false, omega (arith, c.reach-reach.ensures.1, c.requires))
+max_expand-loop-steps-init t c = (repeats.reach_expands _ _ c.reach-reach.ensures.0 _ _ _ _ c.if-reach.false, omega arith)
 
 pub max_expand-fails_at-requires : goal.max_expand-fails_at-requires
 max_expand-fails_at-requires t c = λ h. (c.first_test-first.ensures h 0).single
@@ -270,7 +269,7 @@ pub max_expand-loop-steps-preserved : goal.max_expand-loop-steps-preserved
 max_expand-loop-steps-preserved t c =
     let inv = c.loop-steps.invariant in
     let p = max_expand-passed t (goal.at.max_expand-loop-steps-preserved t c).Joined-fails_at in
-    (tests.passed_longest _ _ _ _ _ _ _ p c.if-tried-shortest.false ∙ inv.0, omega (arith, inv.1))
+    (tests.passed_longest _ _ _ _ _ _ _ p c.if-tried-shortest.false ∙ inv.0, omega arith)
 
 -- ---- min_expand
 
@@ -313,8 +312,8 @@ min_expand-loop-steps-preserved t c =
       | min_expand-then-tested-tried+else-budget-steps+else-not-fits w ↦
           let f = sym w.if-not-fits.ensures in
           let g = fits_inside _ _ _ _ f in
-          (tests.trying_as _ _ _ _ _ _ _ _ _ _ _ _ _ _ w.tested-is w.steps-is (tests.trying_next _ _ _ _ _ _ _ _ _ _ _ _ c.loop-steps.invariant.0 _ p w.if-tested-tried.true w.if-budget-steps.false f g), omega (arith, g))
+          (tests.trying_as _ _ _ _ _ _ _ _ _ _ _ _ _ _ w.tested-is w.steps-is (tests.trying_next _ _ _ _ _ _ _ _ _ _ _ _ c.loop-steps.invariant.0 _ p w.if-tested-tried.true w.if-budget-steps.false f g), omega arith)
       | min_expand-else-tested-tried w ↦
           let g = tests.at_first _ _ _ _ _ _ _ _ _ _ _ _ c.loop-steps.invariant.0 w.if-tested-tried.false in
-          (tests.trying_as _ _ _ _ _ _ _ _ _ _ _ _ _ _ w.tested-is w.steps-is (tests.trying_second _ _ _ _ _ _ _ _ _ _ _ _ c.loop-steps.invariant.0 _ p w.if-tested-tried.false), omega (arith, g, c.requires.2))
+          (tests.trying_as _ _ _ _ _ _ _ _ _ _ _ _ _ _ w.tested-is w.steps-is (tests.trying_second _ _ _ _ _ _ _ _ _ _ _ _ c.loop-steps.invariant.0 _ p w.if-tested-tried.false), omega arith)
     ]
