@@ -51,7 +51,7 @@ use Rattle.luck_pattern.specs.Items.{
   items_from,
   items,
 }
-use Rattle.lstr_laws.proofs.Sound.{AllClosed, WellFormed}
+use Rattle.lstr_laws.proofs.WellFormed.{AllClosed, WellFormed}
 use Rattle.luck_pattern.specs.Ranges.{head_set, item_set, reversed_set, item_reversed}
 use Rattle.luck_pattern.proofs.Ranges.{accepted_without}
 use Rattle.luck_pattern.proofs.Exactly.{goes_on}
