@@ -1,9 +1,6 @@
 -- `lstr_item::capture::capture_to_close` meets its contract. Assumes nothing.
-use Prim.Native.Nat.{◌≤◌}
-use mathlib.Core.Path.{◌≡◌, refl, sym, ◌∙◌}
+use mathlib.Core.Path.{refl, sym, ◌∙◌}
 use native.Mathlib.Omega.{arith}
-use Rattle.lstr_item.specs.Match.{capture_to_close}
-use Rattle.lstr_item.specs.Inner.{pairs_of, captures_of}
 use Rattle.lstr_item.proofs.Captures.{close_none, close_last, close_earlier}
 use Rattle.lstr_item.proofs.capture.capture_to_close.Goals as goal
 

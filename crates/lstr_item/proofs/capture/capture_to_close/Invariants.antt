@@ -1,10 +1,8 @@
 -- `lstr_item::capture::capture_to_close` meets its contract. Assumes nothing.
 use Prim.Native.Nat.{◌≤◌}
-use mathlib.Core.Path.{◌≡◌, refl, sym, ◌∙◌}
-use native.Mathlib.Omega.{arith}
+use mathlib.Core.Path.{◌≡◌}
 use Rattle.lstr_item.specs.Match.{capture_to_close}
 use Rattle.lstr_item.specs.Inner.{pairs_of, captures_of}
-use Rattle.lstr_item.proofs.Captures.{close_none, close_last, close_earlier}
 use Rattle.lstr_item.proofs.capture.capture_to_close.Given as goal
 
 -- none from `left` on is open

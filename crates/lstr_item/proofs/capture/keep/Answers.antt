@@ -1,12 +1,12 @@
 -- `lstr_item::capture::keep` meets its contract. Assumes nothing.
-use Prim.Native.Nat.{ℕ, ◌-◌, ◌≤◌}
+use Prim.Native.Nat.{ℕ}
 use mathlib.Core.Path.{◌≡◌, subst}
 use native.Mathlib.Omega.{arith}
 use Rattle.lstr_item.proofs.Captures.{Holds, holds_none, half_room, holds_more, kept_captures, kept_in}
 use Rattle.lstr_item.proofs.capture.keep.Goals as goal
 
 pub loop-i-init : goal.loop-i-init
-loop-i-init c = (holds_none _ _ c.slots-1.given.0.1, omega arith)
+loop-i-init c = (holds_none _ _ (omega arith), omega arith)
 
 pub offset_bounds-captures-i : goal.offset_bounds-captures-i
 offset_bounds-captures-i c = omega arith

@@ -1,8 +1,6 @@
 -- `lstr_item::capture::keep` meets its contract. Assumes nothing.
-use Prim.Native.Nat.{ℕ, ◌-◌, ◌≤◌}
-use mathlib.Core.Path.{◌≡◌, subst}
-use native.Mathlib.Omega.{arith}
-use Rattle.lstr_item.proofs.Captures.{Holds, holds_none, half_room, holds_more, all_pairs, kept_captures, kept_in}
+use Prim.Native.Nat.{◌-◌, ◌≤◌}
+use Rattle.lstr_item.proofs.Captures.{Holds}
 use Rattle.lstr_item.proofs.capture.keep.Given as goal
 
 -- the first i pairs are kept

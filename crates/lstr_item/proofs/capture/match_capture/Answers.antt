@@ -1,8 +1,7 @@
 -- `lstr_item::capture::match_capture` meets its contract. Assumes nothing.
-use Prim.Native.Nat.{◌-◌, ◌≤◌}
+use Prim.Native.Nat.{◌-◌}
 use mathlib.Core.Path.{sym, ◌∙◌}
 use native.Mathlib.Omega.{arith}
-use lib.ListN.{length}
 use Rattle.lstr_item.proofs.Captures.{
   no_digit,
   no_capture,
@@ -59,19 +58,17 @@ same_bytes-requires c =
     omega arith
 
 pub returns-then-same_bytes : goal.returns-then-same_bytes
-returns-then-same_bytes c =
-    (
-      λ rest l u.
-          equal_bytes _ _ _ _ rest _ l u (omega (arith, c.well_formed.1.0.1.1.1.0.1.0.1, c.requires.1.few)) c.if-digit-eq0.false c.if-captures-index.false c.if-len.false c.if-len-2.false c.if-subject-place.false
-          (sym c.same_bytes.ensures ∙ c.if-same_bytes.true),
-      omega arith,
-    )
+returns-then-same_bytes c = (
+  λ rest l u.
+      equal_bytes _ _ _ _ rest _ l u (omega (arith, c.well_formed.1.0.1.1.1.0.1.0.1, c.requires.1.few)) c.if-digit-eq0.false c.if-captures-index.false c.if-len.false c.if-len-2.false c.if-subject-place.false
+      (sym c.same_bytes.ensures ∙ c.if-same_bytes.true),
+  omega arith,
+)
 
 pub returns : goal.returns
-returns c =
-    (
-      λ rest l u.
-          other_bytes _ _ _ _ rest _ l u (omega (arith, c.well_formed.1.0.1.1.1.0.1.0.1, c.requires.1.few)) c.if-digit-eq0.false c.if-captures-index.false c.if-len.false c.if-len-2.false
-          (sym c.same_bytes.ensures ∙ c.if-same_bytes.false),
-      tt,
-    )
+returns c = (
+  λ rest l u.
+      other_bytes _ _ _ _ rest _ l u (omega (arith, c.well_formed.1.0.1.1.1.0.1.0.1, c.requires.1.few)) c.if-digit-eq0.false c.if-captures-index.false c.if-len.false c.if-len-2.false
+      (sym c.same_bytes.ensures ∙ c.if-same_bytes.false),
+  tt,
+)

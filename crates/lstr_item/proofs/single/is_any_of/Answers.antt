@@ -1,6 +1,6 @@
 -- `lstr_item::single::is_any_of` meets its contract. The loop's invariant: the elements from here on give the whole answer.
 -- Assumes nothing.
-use Prim.Native.Nat.{◌+◌, ◌-◌, ◌≤◌}
+use Prim.Native.Nat.{◌+◌, ◌≤◌}
 use native.Mathlib.Omega.{arith}
 use mathlib.Core.Path.{◌≡◌, refl, sym, ◌∙◌}
 use mathlib.Core.Logic.{◌⊎◌, inl, inr}
@@ -8,8 +8,6 @@ use mathlib.Core.Bool.{true, false}
 use borrow.Author.Tests.{eq-eqb, ne_eqb}
 use Rattle.luck_text.specs.Bytes.{byte_at, between}
 use Rattle.luck_text.proofs.Bytes.{within, below, above}
-use Rattle.luck_pattern.specs.Elements.{elements_of}
-use Rattle.lstr_item.specs.Single.{is_any_of}
 use Rattle.lstr_class.specs.Inner.{class_in}
 use Rattle.lstr_item.proofs.Sets.{any_end, any_escape, any_range, any_plain}
 use Rattle.lstr_item.proofs.single.is_any_of.Goals as goal

@@ -1,17 +1,10 @@
 -- `lstr_item::single::is_any_of` meets its contract. The loop's invariant: the elements from here on give the whole answer.
 -- Assumes nothing.
-use Prim.Native.Nat.{◌+◌, ◌-◌}
-use native.Mathlib.Omega.{arith}
-use mathlib.Core.Path.{◌≡◌, refl, sym, ◌∙◌}
-use mathlib.Core.Logic.{inl, inr, ⊎_elim}
-use mathlib.Core.Bool.{true, false}
-use borrow.Author.Tests.{eq-eqb, ne_eqb}
-use Rattle.luck_text.specs.Bytes.{byte_at}
-use Rattle.luck_text.proofs.Bytes.{within, below, above}
+use Prim.Native.Nat.{◌-◌}
+use mathlib.Core.Path.{◌≡◌}
 use Rattle.luck_pattern.specs.Elements.{elements_of}
 use Rattle.lstr_item.specs.Single.{is_any_of}
 use Rattle.lstr_class.specs.Inner.{class_in}
-use Rattle.lstr_item.proofs.Sets.{any_end, any_escape, any_range, any_plain}
 use Rattle.lstr_item.proofs.single.is_any_of.Given as goal
 
 abbrev pub invariant-elements : goal.invariant-elements

@@ -1,9 +1,8 @@
 -- `lstr_item::single::reach` meets its contract. The loop's invariant: the reach from here is the whole answer. Assumes nothing.
-use Prim.Native.Nat.{◌-◌, ◌<◌, ◌≤◌}
+use Prim.Native.Nat.{◌-◌, ◌<◌}
 use native.Mathlib.Omega.{arith}
-use mathlib.Core.Path.{◌≡◌, refl, sym, ap, ◌∙◌}
+use mathlib.Core.Path.{refl, sym, ap, ◌∙◌}
 use lib.ListN.{length}
-use borrow.Author.Tests.{not-true, not-false}
 use Rattle.lstr_class.specs.Inner.{class_in}
 use Rattle.lstr_item.specs.Match.{reach}
 use Rattle.lstr_item.specs.Inner.{single_of}

@@ -1,13 +1,10 @@
 -- `lstr_item::single::reach` meets its contract. The loop's invariant: the reach from here is the whole answer. Assumes nothing.
-use Prim.Native.Nat.{◌-◌, ◌<◌, ◌≤◌}
-use native.Mathlib.Omega.{arith}
-use mathlib.Core.Path.{◌≡◌, refl, sym, ap, ◌∙◌}
+use Prim.Native.Nat.{◌-◌, ◌≤◌}
+use mathlib.Core.Path.{◌≡◌}
 use lib.ListN.{length}
-use borrow.Author.Tests.{not-true, not-false}
 use Rattle.lstr_class.specs.Inner.{class_in}
 use Rattle.lstr_item.specs.Match.{reach}
 use Rattle.lstr_item.specs.Inner.{single_of}
-use Rattle.lstr_item.proofs.Singles.{of_class, fits_inside, reach_spent, reach_stop, reach_more}
 use Rattle.lstr_item.proofs.single.reach.Given as goal
 
 abbrev pub invariant-loop-steps : goal.invariant-loop-steps

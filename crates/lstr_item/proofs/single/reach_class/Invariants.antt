@@ -1,13 +1,9 @@
 -- `lstr_item::single::reach_class` meets its contract. The loop's invariant: the reach from here is the whole answer. Assumes nothing.
 use Prim.Native.Nat.{◌-◌, ◌≤◌}
-use native.Mathlib.Omega.{arith}
-use mathlib.Core.Path.{◌≡◌, refl, sym, ◌∙◌}
+use mathlib.Core.Path.{◌≡◌}
 use lib.ListN.{length}
-use borrow.Author.Tests.{not-true, not-false}
-use Rattle.luck_pattern.specs.Items.{class}
 use Rattle.lstr_class.specs.Inner.{class_in}
 use Rattle.lstr_item.specs.Inner.{class_reach}
-use Rattle.lstr_item.proofs.Singles.{class_end, class_fits, reach_spent, reach_stop, reach_more}
 use Rattle.lstr_item.proofs.single.reach_class.Given as goal
 
 abbrev pub invariant-loop-steps : goal.invariant-loop-steps

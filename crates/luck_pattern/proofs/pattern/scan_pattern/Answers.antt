@@ -1,7 +1,7 @@
 -- `luck_pattern::pattern::scan_pattern` meets its contract. The loop's invariant: the walk from `at` on, after the captures that
 -- the count and the word stand for, is the whole answer. Assumes nothing.
-use mathlib.Core.Path.{◌≡◌, refl, sym, ap, subst, ◌∙◌}
-use Prim.Native.Nat.{◌+◌, ◌-◌, ◌≤◌, ◌<◌, ◌^◌}
+use mathlib.Core.Path.{refl, sym, ap, subst, ◌∙◌}
+use Prim.Native.Nat.{◌+◌}
 use native.Mathlib.Omega.{arith}
 use lib.ListN.{length}
 use Rattle.luck_text.specs.Bytes.{if◌then◌else◌}

@@ -1,10 +1,8 @@
 -- `luck_pattern::pattern::scan_ranges` meets its contract. The loop's invariant: the first reversed range from `at` on is that of the set.
 -- Assumes nothing.
-use mathlib.Core.Path.{◌≡◌, refl, sym, ap, ◌∙◌}
+use mathlib.Core.Path.{refl, sym, ap, ◌∙◌}
 use mathlib.Core.Logic.{inl}
-use Prim.Native.Nat.{◌-◌, ◌≤◌}
 use native.Mathlib.Omega.{arith}
-use Rattle.luck_pattern.specs.Elements.{first_reversed}
 use Rattle.luck_pattern.specs.Pattern.{closed_as}
 use Rattle.luck_pattern.proofs.Elements.{reversed_escape, reversed_here, upwards_here, plain_here, no_range_left}
 use Rattle.luck_pattern.proofs.pattern.scan_ranges.Goals as goal

@@ -1,34 +1,14 @@
 -- `luck_pattern::pattern::scan_set` meets its contract. The loop's invariant: the members from `at` on end where the set ends, and without a hyphen so
 -- far they are elements. Assumes nothing.
-use mathlib.Core.Path.{◌≡◌, refl, ap, ◌∙◌}
-use mathlib.Core.Bool.{false, true≢false}
-use mathlib.Core.Logic.{⊎_elim}
-use Prim.Native.Nat.{◌+◌, ◌-◌, ◌≤◌, ◌<◌}
-use native.Mathlib.Omega.{arith}
+use mathlib.Core.Path.{◌≡◌}
+use mathlib.Core.Bool.{false}
+use Prim.Native.Nat.{◌-◌, ◌≤◌, ◌<◌}
 use lib.Dec.{eqb}
 use lib.ListN.{length}
 use Rattle.luck_pattern.specs.Reading.{set_end}
-use Rattle.luck_pattern.specs.Elements.{first_reversed}
-use Rattle.luck_pattern.specs.Pattern.{is_empty_set, closed_as}
-use Rattle.luck_pattern.proofs.Elements.{ElementsTo, element_plain, element_escaped, elements_end}
-use Rattle.luck_pattern.proofs.Patterns.{
-  members,
-  set_begins,
-  no_bracket,
-  no_end,
-  set_empty,
-  set_unclosed,
-  closes,
-  set_closes,
-  set_cut,
-  set_first,
-  set_escaped,
-  set_plain,
-  untested,
-  tested,
-  none_there,
-  within_from,
-}
+use Rattle.luck_pattern.specs.Pattern.{is_empty_set}
+use Rattle.luck_pattern.proofs.Elements.{ElementsTo}
+use Rattle.luck_pattern.proofs.Patterns.{members}
 use Rattle.luck_pattern.proofs.pattern.scan_set.Given as goal
 
 abbrev pub invariant-members : goal.invariant-members
