@@ -1,20 +1,16 @@
 -- The functions that call each other, `do_match`, `start_capture`, `end_capture`, `max_expand` and `min_expand`, meet their contracts: the laws of
 -- lstr_item and of this crate, at what each place of the code knows.
-use Prim.Native.Nat.{ℕ, ◌+◌, ◌-◌, ◌≤◌, ◌<◌}
+use Prim.Native.Nat.{ℕ, ◌+◌}
 use native.Mathlib.Omega.{arith}
-use mathlib.Core.Path.{◌≡◌, refl, sym, subst, ◌∙◌}
+use mathlib.Core.Path.{◌≡◌, refl, sym, ◌∙◌}
 use mathlib.Core.Bool.{true}
 use mathlib.Core.Option.{none}
-use lib.ListN.{length}
 use Rattle.luck_pattern.specs.Items.{once, optional, star, plus, minus, items}
-use Rattle.lstr_class.specs.Inner.{class_in, FoundIn}
-use Rattle.lstr_class.specs.declared.subject.Found.TheVariants as found
+use Rattle.lstr_class.specs.Inner.{class_in}
 use Rattle.lstr_item.specs.Match.{capture_to_close, new_level, failed, match}
-use Rattle.lstr_item.specs.Inner.{captures_of, repeat_as, single_of, Single-then, HeldIn}
-use Rattle.lstr_item.specs.declared.capture.Held.TheVariants as held
-use Rattle.lstr_item.specs.declared.capture.Close.TheVariants as close
+use Rattle.lstr_item.specs.Inner.{captures_of}
 use Rattle.lstr_item.proofs.Turns as turns
-use Rattle.lstr_item.proofs.Captures.{all_pairs, sound_later, sound_started, sound_finished, kept_later, is_open, is_position, starts_capture, all_taken, ends_capture, none_to_close}
+use Rattle.lstr_item.proofs.Captures.{sound_later, kept_later, is_open, is_position, starts_capture, all_taken, ends_capture, none_to_close}
 use Rattle.lstr_item.proofs.Singles.{fits_inside}
 use Rattle.lstr_match.proofs.Repeats as repeats
 use Rattle.lstr_match.proofs.Passed as tests
@@ -151,7 +147,7 @@ pub do_match-do_match-r-requires : goal.do_match-do_match-r-requires
 do_match-do_match-r-requires t c =
     let i = rw c.in-Optional.is at c.in-Single.ensures in
     let b = turns.behind_repeat _ _ _ _ optional i.on refl in
-    let g : c.items.place < length c.args.subject.now = fits_inside _ _ _ _ (sym c.if-not-fits.ensures) in
+    let g = fits_inside _ _ _ _ (sym c.if-not-fits.ensures) in
     (omega arith, (b.1, omega arith, sound_later _ _ _ (omega arith) c.requires.2))
 
 pub do_match-returns-then-r-ne-FAILED : goal.do_match-returns-then-r-ne-FAILED
