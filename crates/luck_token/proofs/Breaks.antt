@@ -11,7 +11,8 @@ use borrow.Author.Tests.{eqb-true, ne_eqb}
 use mir.Val.{bool_byte}
 use Rattle.luck_text.specs.Bytes.{if◌then◌else◌, byte_at}
 use Rattle.luck_token.specs.Whitespace.{line_break}
-use Rattle.luck_text.proofs.Cases.{by_test, and_right, present, bit}
+use mathlib.Core.Logic.{⊎_elim}
+use Rattle.luck_text.proofs.Cases.{by_test, and_right, present, bit, order}
 
 -- a break by four tests: of CR and LF here, and of LF and CR behind
 chosen : Bool → Bool → Bool → Bool → Bool → ℕ
@@ -111,3 +112,9 @@ module _ (lfcr : Bool) (text : List ℕ) (p : ℕ) where
     where
       In : ℕ → Type 0
       In w = p + w ≤ length text
+
+-- and it is no longer than the text
+pub width_inside : (lfcr : Bool) (text : List ℕ) (p width : ℕ) → width ≡ line_break lfcr text p → width ≤ length text
+width_inside lfcr text p width e =
+    ⊎_elim (λ outside. omega (arith, past_end lfcr text p (omega arith)))
+    (λ here. omega (arith, break_inside lfcr text p here)) (order (length text) p)
