@@ -1,7 +1,7 @@
 /*
  * luck.h: checks of Lua string literals, and a trial of gsub, for Lua 5.1 to 5.5 and Luau.
  *
- * Link libluck.a, which `rt staticlib luck` writes to target/staticlib, for 64-bit x86 on Linux. Of the C library it
+ * Link libluck.a, which `tools/build luck` writes to target/staticlib, for 64-bit x86 on Linux. Of the C library it
  * calls memcpy and memset only. C99 and C++.
  *
  * Which function:

@@ -74,6 +74,8 @@ def defined():
             m = re.match(r"^\s+([^\s:(){}.,;]+(?: [^\s:(){}.,;=]+)*) = ", line)
             if m:
                 names.add(m.group(1).split()[0])
+            for m in re.finditer(r" as ([^\s{},;]+)[,}]", line):
+                names.add(m.group(1))
             for m in re.finditer(r"\blet ([^\s:(){}.,;]+) ", line):
                 names.add(m.group(1))
     return names, fields

@@ -21,7 +21,7 @@ struct Reading {
 
 pub fn run(plan: &Plan, tables: &mut Tables, program: &Path, folder: &Path) -> Result<(), String> {
     if !program.is_file() {
-        tables.note("The program `bodies` is not there (`rt check bodies` makes it): it was not measured.".to_owned());
+        tables.note("The program `bodies` is not there (`tools/build bodies` makes it): it was not measured.".to_owned());
         return Ok(());
     }
     let unit = plan.size(100 * MB) / 8;

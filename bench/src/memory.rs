@@ -21,7 +21,7 @@ const INPUTS: [usize; 3] = [10 * MB, 100 * MB, 1000 * MB];
 pub fn run(plan: &Plan, tables: &mut Tables, program: &Path) -> Result<(), String> {
     calls(tables)?;
     if !program.is_file() {
-        tables.note("The program `bodies` is not there (`rt check bodies` makes it): its memory was not measured.".to_owned());
+        tables.note("The program `bodies` is not there (`tools/build bodies` makes it): its memory was not measured.".to_owned());
         return Ok(());
     }
     let lines = texts::lines(MB);

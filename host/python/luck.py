@@ -1,6 +1,6 @@
 """Checks of Lua string literals, and a trial of gsub, for Lua 5.1 to 5.5 and Luau.
 
-The functions are those of include/luck.h, called with ctypes from a shared object. The archive that `rt staticlib luck` writes is
+The functions are those of include/luck.h, called with ctypes from a shared object. The archive that `tools/build luck` writes is
 position independent, so one command makes the shared object from it (or `make_shared_object` does):
 
     cc -shared -o target/libluck.so -Wl,--whole-archive target/staticlib/libluck.a -Wl,--no-whole-archive

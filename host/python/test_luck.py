@@ -47,7 +47,7 @@ UNTOUCHED = b"\xAA"
 
 def load_library() -> Luck:
     if not ARCHIVE.is_file():
-        sys.exit(f"{ARCHIVE} is not there: run `rt staticlib luck` in the repository's root, or set LUCK_LIB to the folder of libluck.a")
+        sys.exit(f"{ARCHIVE} is not there: run `tools/build luck` in the repository's root, or set LUCK_LIB to the folder of libluck.a")
     # A loaded shared object stays loaded when its file goes.
     with tempfile.TemporaryDirectory() as folder:
         shared = Path(folder) / "libluck.so"

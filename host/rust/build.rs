@@ -16,7 +16,7 @@ fn main() {
     if !archive.is_file() {
         println!("cargo::error={} is not there", archive.display());
         println!(
-            "cargo::error=run `rt staticlib luck` in the repository's root, or set {LIBRARY_VARIABLE} to the folder of libluck.a"
+            "cargo::error=run `tools/build luck` in the repository's root, or set {LIBRARY_VARIABLE} to the folder of libluck.a"
         );
     }
     println!("cargo::rustc-link-search=native={}", folder.display());

@@ -26,6 +26,6 @@ fn main() {
 fn link(folder: &Path, library: &str) {
     let archive = folder.join(format!("lib{library}.a"));
     println!("cargo:rerun-if-changed={}", archive.display());
-    assert!(archive.is_file(), "{}: no such library (rt staticlib {library}, or set {LIBRARY_VARIABLE})", archive.display());
+    assert!(archive.is_file(), "{}: no such library (tools/build {library}, or set {LIBRARY_VARIABLE})", archive.display());
     println!("cargo:rustc-link-lib=static={library}");
 }

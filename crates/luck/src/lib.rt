@@ -1,5 +1,5 @@
 // The library for hosts, by the names and structs of include/luck.h. A function takes any bytes and any numbers, keeps no state, and
-// writes nothing but the output that decoding and the trial are lent.
+// writes nothing but the output that decoding and the trial are lent. `luck_c` exports the functions to C.
 #![tactic(auto)]
 
 ghost use Rattle.std.specs.Prelude.{◌≡◌, true, false, length};
@@ -30,40 +30,35 @@ use luck_structs::decoded::Decoded;
 use luck_token::string;
 
 // Accepted with how many arguments the specifiers take.
-#[unsafe(no_mangle)]
-pub extern "C" fn luck_check_format(version: u32, body: &[u8]) -> Answer
+pub fn luck_check_format(version: u32, body: &[u8]) -> Answer
     ensures { check_answer result ≡ check_format version body.now }
 {
     answer::of_checked(format::validate_format(version, body))
 }
 
 // Accepted with how many captures the pattern has.
-#[unsafe(no_mangle)]
-pub extern "C" fn luck_check_pattern(version: u32, body: &[u8]) -> Answer
+pub fn luck_check_pattern(version: u32, body: &[u8]) -> Answer
     ensures { check_answer result ≡ check_pattern version body.now }
 {
     answer::of_checked(pattern::validate_lua_pattern(version, body))
 }
 
 // Accepted with how many values the format packs.
-#[unsafe(no_mangle)]
-pub extern "C" fn luck_check_pack(version: u32, body: &[u8]) -> Answer
+pub fn luck_check_pack(version: u32, body: &[u8]) -> Answer
     ensures { check_answer result ≡ check_pack version false body.now }
 {
     answer::of_checked(pack::validate_pack_format(version, false, body))
 }
 
 // The same, without the options whose size is not known beforehand.
-#[unsafe(no_mangle)]
-pub extern "C" fn luck_check_packsize(version: u32, body: &[u8]) -> Answer
+pub fn luck_check_packsize(version: u32, body: &[u8]) -> Answer
     ensures { check_answer result ≡ check_pack version true body.now }
 {
     answer::of_checked(pack::validate_pack_format(version, true, body))
 }
 
 // Accepted with 0.
-#[unsafe(no_mangle)]
-pub extern "C" fn luck_check_date(version: u32, body: &[u8]) -> Answer
+pub fn luck_check_date(version: u32, body: &[u8]) -> Answer
     ensures { check_answer result ≡ check_date version body.now }
 {
     answer::of_checked(date::validate_os_date(version, body))
@@ -80,13 +75,7 @@ fn count_if(known: bool, captures: usize) -> Captures
 }
 
 // Accepted with 0. Without a known count of captures no digit is too large.
-#[unsafe(no_mangle)]
-pub extern "C" fn luck_check_replacement(
-    version: u32,
-    known: bool,
-    captures: usize,
-    body: &[u8],
-) -> Answer
+pub fn luck_check_replacement(version: u32, known: bool, captures: usize, body: &[u8]) -> Answer
     ensures { check_answer result ≡ check_replacement version (count_if known captures) body.now }
 {
     let count = count_if(known, captures);
@@ -94,8 +83,7 @@ pub extern "C" fn luck_check_replacement(
 }
 
 // A literal with its quotes, checked as a text of the kind F, P, K, S, G or D, with the place where it starts in its source.
-#[unsafe(no_mangle)]
-pub extern "C" fn luck_check_literal(
+pub fn luck_check_literal(
     kind: u8,
     version: u32,
     known: bool,
@@ -110,8 +98,7 @@ pub extern "C" fn luck_check_literal(
 }
 
 // What a literal stands for, written to the front of the output; a refusal leaves the output as it was.
-#[unsafe(no_mangle)]
-pub extern "C" fn luck_decode_string(version: u32, text: &[u8], output: &mut [u8]) -> Decoded
+pub fn luck_decode_string(version: u32, text: &[u8], output: &mut [u8]) -> Decoded
     ensures answer { decoded_answer result ≡ decoding_of (decode_string version text.now (length output.old)) }
     ensures output { output.new ≡ output_of (decode_string version text.now (length output.old)) output.old }
 {
@@ -120,8 +107,7 @@ pub extern "C" fn luck_decode_string(version: u32, text: &[u8], output: &mut [u8
 }
 
 // gsub of a pattern and a replacement on a subject, within a budget of steps.
-#[unsafe(no_mangle)]
-pub extern "C" fn luck_gsub_trial(
+pub fn luck_gsub_trial(
     version: u32,
     pattern: &[u8],
     replacement: &[u8],

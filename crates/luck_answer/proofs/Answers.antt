@@ -119,5 +119,5 @@ module _ (numbers : List ℕ) (a : Answer) (h : (is_whole a && among a.number nu
 -- a check's does, if its walk's does
 pub check_fits : (text numbers : List ℕ) → among 23 numbers ≡ true → among 25 numbers ≡ true → (version : ℕ) (walked : Answer)
     → Fits (length text) numbers walked → Fits (length text) numbers (check_text version text walked)
-check_fits text numbers has-23 has-25 version walked h =
-    in_any_case version text walked (Fits (length text) numbers) (omega arith, has-25) (λ place i. (omega arith, has-23)) h
+check_fits text numbers has_23 has_25 version walked h =
+    in_any_case version text walked (Fits (length text) numbers) (omega arith, has_25) (λ place i. (omega arith, has_23)) h

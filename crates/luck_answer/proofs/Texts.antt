@@ -29,7 +29,7 @@ module _ (version : ℕ) (text : List ℕ) (walked : Answer) where
   pub in_any_case : (P : Answer → Type 0) → P (refused 25 0) → ((place : ℕ) → place < length text → P (refused 23 place)) → P walked
       → P (check_text version text walked)
   unfolding check_text
-  in_any_case P of_25 of_23 of-walked = every.in_any_case P refused text walked of_25 of_23 of-walked version
+  in_any_case P of_25 of_23 of_walk = every.in_any_case P refused text walked of_25 of_23 of_walk version
 
 -- by the variant that was read
 pub by_text : (version : ℕ) (text : List ℕ) {read variant : Text} → ((walked : Answer) → text_answer read walked ≡ check_text version text walked) → read ≡ variant

@@ -95,12 +95,19 @@ pub check_of_walk : (count : Option ℕ) (text : List ℕ) → pieces_walk false
 unfolding check_replacement
 check_of_walk count text e = ap (check_text 1 text) (ap (λ (strict : Bool). pieces_walk strict count (pieces text) 0) lenient_51 ∙ e)
 
+-- so it tests no more than these where the digit 9 is allowed
+pub no_more_tested : (count : Option ℕ) (text : List ℕ) → allows_digit count 9 ≡ true → check_replacement 1 count text ≡ check_text 1 text (accepted 0)
+no_more_tested count text t = check_of_walk count text (unread count text t)
+
+pub accepts_utf8 : (count : Option ℕ) (text : List ℕ) → allows_digit count 9 ≡ true → ill_formed text ≡ none
+    → check_replacement 1 count text ≡ accepted 0
+accepts_utf8 count text t e = no_more_tested count text t ∙ sym (text_fine 1 text (accepted 0) is_version_1 (sym e))
+
 -- a range from 9 on is accepted for every count
 pub check_range : (low high : ℕ) (text : List ℕ) → 9 ≤ low → low ≤ high → ill_formed text ≡ none
     → check_ranged 1 (from_to low high) text ≡ for_every
 check_range low high text h upwards e =
-    (accepted_for_every 1 low high text upwards).1
-    (λ c i. check_of_walk (some c) text (unread (some c) text (from_nine_allows c (omega (arith, i.0)))) ∙ sym (text_fine 1 text (accepted 0) is_version_1 (sym e)))
+    (accepted_for_every 1 low high text upwards).1 (λ c i. accepts_utf8 (some c) text (from_nine_allows c (omega (arith, i.0))) e)
 
 -- ---- With a lower count, and in another version
 

@@ -1,6 +1,6 @@
 -- Laws of string literals: a law for each way that the code reads a literal's text, an escape or a piece.
 -- Assumes nothing.
-use Prim.Native.Nat.{ℕ, suc, ◌+◌, ◌*◌, ◌-◌, ◌%◌, ◌≤◌, ◌<◌, min}
+use Prim.Native.Nat.{ℕ, ◌+◌, ◌*◌, ◌-◌, ◌≤◌, ◌<◌, min}
 use native.Mathlib.Omega.{arith}
 use mathlib.Core.Path.{◌≡◌, refl, sym, ap, ap₂, ◌∙◌}
 use mathlib.Core.Bool.{Bool, true, false, not, ◌&&◌, ◌||◌, true≢false}
@@ -10,7 +10,7 @@ use lib.Seq.{take_all}
 use lib.Dec.{eqb, leb}
 use borrow.Author.Tests.{lt-ltb, le-ltb, le-leb, lt-leb, eq-eqb, ne_eqb, leb-true, eqb-false, not-true}
 use mathlib.Core.Logic.{inl, ⊎_elim}
-use Rattle.luck_text.specs.Bytes.{if◌then◌else◌, byte_at, between, among, part, is_digit, is_xdigit, run, digit_value, numeral_from, numeral}
+use Rattle.luck_text.specs.Bytes.{if◌then◌else◌, byte_at, among, part, is_digit, is_xdigit, run, digit_value, numeral_from, numeral}
 use Rattle.luck_utf8.specs.Utf8.{last_code, is_char, utf8_bytes}
 use Rattle.luck_token.specs.Whitespace.{line_break, strip_line_break}
 use Rattle.luck_text.specs.Scan.{most}

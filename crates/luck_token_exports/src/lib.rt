@@ -1,4 +1,5 @@
-// What luck_token has in common with luck's Rust, and the UTF-8 test, as C functions, so that the two can be compared in one process.
+// What luck_token has in common with luck's Rust, and the UTF-8 test, as functions that `luck_token_exports_c` exports to C, so that the two can be
+// compared in one process.
 // The decoding is a function of the library for hosts.
 #![tactic(auto)]
 
@@ -18,16 +19,14 @@ use luck_token::{string, version, whitespace};
 use luck_utf8::utf8;
 use luck_utf8::utf8::{Char, Utf8};
 
-#[unsafe(no_mangle)]
-pub extern "C" fn luck_token_rules(version: u32) -> Rules
+pub fn luck_token_rules(version: u32) -> Rules
     ensures { result ≡ rules_of version }
 {
     version::rules_of(version)
 }
 
 // The place of the first ill-formed sequence, the length where there is none.
-#[unsafe(no_mangle)]
-pub extern "C" fn luck_token_utf8(text: &[u8]) -> usize
+pub fn luck_token_utf8(text: &[u8]) -> usize
     ensures { result ≡ place_or (length text.now) (ill_formed text.now) }
 {
     let utf8 = utf8::validate(text);
@@ -37,23 +36,20 @@ pub extern "C" fn luck_token_utf8(text: &[u8]) -> usize
     }
 }
 
-#[unsafe(no_mangle)]
-pub extern "C" fn luck_token_char_at(text: &[u8], at: usize) -> Char
+pub fn luck_token_char_at(text: &[u8], at: usize) -> Char
     ensures { result ≡ char_at text.now at }
 {
     utf8::char_at(text, at)
 }
 
-#[unsafe(no_mangle)]
-pub extern "C" fn luck_token_is_lua_whitespace(byte: u8) -> bool
+pub fn luck_token_is_lua_whitespace(byte: u8) -> bool
     ensures { result ≡ is_lua_whitespace byte }
 {
     whitespace::is_lua_whitespace(byte)
 }
 
 // How many bytes are left of the text without the line break that it starts with.
-#[unsafe(no_mangle)]
-pub extern "C" fn luck_token_strip_line_break(version: u32, text: &[u8]) -> usize
+pub fn luck_token_strip_line_break(version: u32, text: &[u8]) -> usize
     ensures { result ≡ length (strip_line_break (rules_of version).lfcr_line_break text.now) }
 {
     let rest = whitespace::strip_line_break(text, version);
@@ -69,8 +65,7 @@ pub struct Body {
     pub end: usize,
 }
 
-#[unsafe(no_mangle)]
-pub extern "C" fn luck_token_short_string_body(text: &[u8]) -> Body
+pub fn luck_token_short_string_body(text: &[u8]) -> Body
     ensures { result ≡ body_struct (short_string_body text.now) }
 {
     let body = string::short_string_body(text);
@@ -89,8 +84,7 @@ pub extern "C" fn luck_token_short_string_body(text: &[u8]) -> Body
 }
 
 // The span of two indices, moved `offset` bytes later.
-#[unsafe(no_mangle)]
-pub extern "C" fn luck_token_span(start: usize, end: usize, offset: u32) -> Span
+pub fn luck_token_span(start: usize, end: usize, offset: u32) -> Span
     ensures { result ≡ shifted_by (span_of start end) offset }
 {
     Span::from_indices(start, end).shifted(offset)

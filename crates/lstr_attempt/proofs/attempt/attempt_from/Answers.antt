@@ -1,9 +1,7 @@
--- `lstr_attempt::attempt::attempt_from` meets its contract. Assumes nothing.
-use mathlib.Core.Path.{refl}
+-- `lstr_attempt::attempt::attempt_from` meets its contract.
 use Rattle.lstr_class.specs.Inner.{class_in}
 use Rattle.lstr_item.proofs.Items.{items_end}
 use Rattle.lstr_item.proofs.Turns as turns
-use Rattle.lstr_match.proofs.Repeats as repeats
 use Rattle.lstr_attempt.proofs.Leads as leads
 use Rattle.lstr_attempt.proofs.attempt.attempt_from.Goals as goal
 
@@ -12,6 +10,3 @@ returns-then-steps-budget c =
     let a = c.args in
     leads.bare_match _ _ _ _ _ _ c.matched.ensures c.requires.1
     (turns.at_end (class_in a.classes.now) a.subject.now a.pattern.now a.budget a.at a.place 1 _ a.steps c.if-steps-budget.true (items_end a.pattern.now a.at c.if-pattern-at.true))
-
-pub returns : goal.returns
-returns c = repeats.answered _ _ _ _ _ _ c.answer.ensures c.attempt-r.ensures refl

@@ -1,15 +1,10 @@
--- `lstr_attempt::attempt::first_capture` meets its contract. Assumes nothing.
+-- `lstr_attempt::attempt::first_capture` meets its contract.
 use Rattle.luck_pattern.specs.Items.{items}
 use Rattle.lstr_class.specs.Inner.{class_in}
 use Rattle.lstr_item.specs.Match.{match}
 use Rattle.lstr_match.proofs.Repeats as repeats
 use Rattle.lstr_attempt.proofs.Leads as leads
 use Rattle.lstr_attempt.proofs.attempt.first_capture.Goals as goal
-
-pub do_match-r-requires : goal.do_match-r-requires
-do_match-r-requires c =
-    let q = c.requires in
-    (q.0, q.1, c.one_capture.ensures.1)
 
 pub returns : goal.returns
 returns c =

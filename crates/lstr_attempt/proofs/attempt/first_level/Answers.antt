@@ -1,15 +1,10 @@
--- `lstr_attempt::attempt::first_level` meets its contract. Assumes nothing.
+-- `lstr_attempt::attempt::first_level` meets its contract.
 use mathlib.Core.Path.{refl}
 use Rattle.luck_pattern.specs.Items.{items}
 use Rattle.lstr_class.specs.Inner.{class_in}
 use Rattle.lstr_match.proofs.Repeats as repeats
 use Rattle.lstr_attempt.proofs.Leads as leads
 use Rattle.lstr_attempt.proofs.attempt.first_level.Goals as goal
-
-pub do_match-r-requires : goal.do_match-r-requires
-do_match-r-requires c =
-    let q = c.requires in
-    (q.0, q.1, leads.none_sound _ _ c.no_captures.ensures)
 
 pub returns : goal.returns
 returns c =

@@ -1,4 +1,4 @@
--- `lstr_attempt::attempt::last_repeat` meets its contract. Assumes nothing.
+-- `lstr_attempt::attempt::last_repeat` meets its contract.
 use Prim.Native.Nat.{◌≤◌}
 use native.Mathlib.Omega.{arith}
 use Rattle.lstr_class.specs.Inner.{class_in}

@@ -1,4 +1,4 @@
--- `lstr_attempt::attempt::one_capture` meets its contract. Assumes nothing.
+-- `lstr_attempt::attempt::one_capture` meets its contract.
 use mathlib.Core.Path.{refl}
 use Rattle.lstr_item.specs.Inner.{pairs_of}
 use Rattle.lstr_attempt.proofs.Leads as leads

@@ -1,11 +1,11 @@
 -- `lstr_gsub::gsub::gsub` meets its contract. Assumes nothing.
 use mathlib.Core.Path.{sym, ap, ◌∙◌}
-use mathlib.Core.Logic.{⊎_elim}
 use lib.ListN.{length}
 use Rattle.lstr_gsub.specs.Gsub.{output_after, report}
 use Rattle.lstr_gsub.proofs.Rounds as rounds
 use borrow.Author.Rules.{rules}
 use Rattle.lstr_gsub.proofs.gsub.gsub.Goals as goal
+use Rattle.lstr_gsub.proofs.gsub.gsub.Goals.{then-pattern-gt0+else-pattern-eq94, else-pattern-gt0}
 
 pub run_anchored-requires : goal.run_anchored-requires
 run_anchored-requires c = c.if-pattern-gt0.true
@@ -22,7 +22,7 @@ returns-then-is_version c =
     let a = c.args in
     let q = c.run_rounds.ensures in
     let e = rounds.gsub_free a.version a.pattern.now a.replacement.now a.subject.now a.budget (length a.output.now) (sym c.is_version.ensures ∙ c.if-is_version.true) _ c.rules_of-rules.ensures _ c.classes-classes.ensures
-    (⊎_elim (λ x. x.2.left) (λ x. rounds.first_none a.pattern.now x.left) c.if-pattern-gt0.branch) in
+    (elim c.if-pattern-gt0.branch [ then-pattern-gt0+else-pattern-eq94 w ↦ w.if-pattern-eq94.false | else-pattern-gt0 w ↦ rounds.first_none a.pattern.now w.if-pattern-gt0.false ]) in
     record { answer = q.is ∙ ap report e; output = q.output ∙ ap (output_after a.output.now) e }
 
 pub returns : goal.returns

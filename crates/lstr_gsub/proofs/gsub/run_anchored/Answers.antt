@@ -67,6 +67,6 @@ returns c =
     let more = c.add_pieces-wrote.ensures in
     let rest = c.append-copied-2.ensures in
     let z : c.attempt-attempt.result.number ≡ 0 = omega (arith, c.if-attempt-eq1.false, c.if-attempt-gt1.false) in
-    let v = outputs.goes_on 0 a.output.now 0 a.output.now u _ _ _ more (search (rules, c.output-2-1.given)) in
+    let v = outputs.goes_on 0 a.output.now 0 a.output.now u _ _ _ more (search rules) in
     rounds.reported a.output.now _ _ _ _ _ _ _ (outputs.goes_on 0 a.output.now _ _ v _ _ _ rest (search rules))
     (rounds.anchored_copies (class_in a.classes.now) a.subject.now a.budget a.is_strict a.replacement.now (items a.pattern.now 1) a.output.now c.attempt-attempt.result _ o z _ _ more c.if-wrote-ne0.false v.same _ _ rest)

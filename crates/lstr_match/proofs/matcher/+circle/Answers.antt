@@ -1,20 +1,16 @@
 -- The functions that call each other, `do_match`, `start_capture`, `end_capture`, `max_expand` and `min_expand`, meet their contracts: the laws of
 -- lstr_item and of this crate, at what each place of the code knows.
-use Prim.Native.Nat.{ℕ, ◌+◌, ◌-◌, ◌≤◌, ◌<◌}
+use Prim.Native.Nat.{ℕ, ◌+◌}
 use native.Mathlib.Omega.{arith}
-use mathlib.Core.Path.{◌≡◌, refl, sym, subst, ◌∙◌}
+use mathlib.Core.Path.{◌≡◌, refl, sym, ◌∙◌}
 use mathlib.Core.Bool.{true}
 use mathlib.Core.Option.{none}
-use lib.ListN.{length}
 use Rattle.luck_pattern.specs.Items.{once, optional, star, plus, minus, items}
-use Rattle.lstr_class.specs.Inner.{class_in, FoundIn}
-use Rattle.lstr_class.specs.declared.subject.Found.TheVariants as found
+use Rattle.lstr_class.specs.Inner.{class_in}
 use Rattle.lstr_item.specs.Match.{capture_to_close, new_level, failed, match}
-use Rattle.lstr_item.specs.Inner.{captures_of, repeat_as, single_of, Single-then, HeldIn}
-use Rattle.lstr_item.specs.declared.capture.Held.TheVariants as held
-use Rattle.lstr_item.specs.declared.capture.Close.TheVariants as close
+use Rattle.lstr_item.specs.Inner.{captures_of}
 use Rattle.lstr_item.proofs.Turns as turns
-use Rattle.lstr_item.proofs.Captures.{all_pairs, sound_later, sound_started, sound_finished, kept_later, is_open, is_position, starts_capture, all_taken, ends_capture, none_to_close}
+use Rattle.lstr_item.proofs.Captures.{sound_later, kept_later, is_open, is_position, starts_capture, all_taken, ends_capture, none_to_close}
 use Rattle.lstr_item.proofs.Singles.{fits_inside}
 use Rattle.lstr_match.proofs.Repeats as repeats
 use Rattle.lstr_match.proofs.Passed as tests
@@ -40,7 +36,7 @@ pub do_match-returns-then-level-ge-MAXCCALLS : goal.do_match-returns-then-level-
 do_match-returns-then-level-ge-MAXCCALLS t c = repeats.ended _ _ _ _ _ c.too_deep.ensures (turns.too_deep _ _ _ c.if-level-ge-MAXCCALLS.true)
 
 pub do_match-items-init : goal.do_match-items-init
-do_match-items-init t c = (sym (turns.level_opens _ _ _ c.if-level-ge-MAXCCALLS.false), omega (arith, c.requires))
+do_match-items-init t c = (sym (turns.level_opens _ _ _ c.if-level-ge-MAXCCALLS.false), omega arith)
 
 pub do_match-returns-then-budget-steps : goal.do_match-returns-then-budget-steps
 do_match-returns-then-budget-steps t c =
@@ -98,14 +94,14 @@ pub do_match-items-preserved-in-Same : goal.do_match-items-preserved-in-Same
 do_match-items-preserved-in-Same t c =
     let i = c.in-BackReference.ensures in (
       c.in-Same.ensures.0 _ _ _ ∙ turns.at_reference _ _ _ _ _ _ _ _ _ c.if-budget-steps.false _ _ i ∙ c.items.invariant.0,
-      omega (arith, i.further, i.inside, c.in-Same.ensures.1, c.items.invariant.1),
+      omega (arith, c.in-Same.ensures.1),
     )
 
 pub do_match-items-preserved-in-At : goal.do_match-items-preserved-in-At
 do_match-items-preserved-in-At t c =
     let i = c.in-Balance.ensures in (
       turns.balanced _ _ _ _ _ _ _ _ _ c.if-budget-steps.false _ _ _ _ i c.in-At.ensures.0 ∙ c.items.invariant.0,
-      omega (arith, i.further, i.inside, c.in-At.ensures.1, c.items.invariant.1),
+      omega (arith, c.in-At.ensures.1),
     )
 
 pub do_match-returns-in-Nothing : goal.do_match-returns-in-Nothing
@@ -122,7 +118,7 @@ pub do_match-items-preserved-in-Frontier : goal.do_match-items-preserved-in-Fron
 do_match-items-preserved-in-Frontier t c =
     let i = c.in-Frontier.ensures.0 in (
       turns.at_frontier _ _ _ _ _ _ _ _ _ c.if-budget-steps.false _ _ i (sym c.is_frontier.ensures ∙ c.if-not-is_frontier.false) ∙ c.items.invariant.0,
-      omega (arith, i.further, i.inside, c.items.invariant.1),
+      omega arith,
     )
 
 pub do_match-returns-then-has_to_fit : goal.do_match-returns-then-has_to_fit
@@ -136,76 +132,75 @@ do_match-items-preserved-then-not-fits t c =
     let h = sym c.if-has_to_fit.ensures in
     let b = turns.behind_repeat _ _ _ _ _ i.on (turns.passed_repeats _ h) in (
       turns.unfit_passed _ _ _ _ _ _ _ _ _ c.if-budget-steps.false _ _ _ i.on h (sym c.if-not-fits.ensures) ∙ c.items.invariant.0,
-      omega (arith, b, c.items.invariant.1),
+      omega arith,
     )
 
 pub do_match-items-preserved-in-Once : goal.do_match-items-preserved-in-Once
 do_match-items-preserved-in-Once t c =
-    let i = subst (λ k. Single-then c.args.pattern.now c.items.at c.in-Single.suffix (repeat_as k)) c.in-Once.is c.in-Single.ensures in
+    let i = rw c.in-Once.is at c.in-Single.ensures in
     let f = sym c.if-not-fits.ensures in (
       turns.fit_once _ _ _ _ _ _ _ _ _ c.if-budget-steps.false _ _ once i.on refl f ∙ c.items.invariant.0,
-      omega (arith, turns.behind_once _ _ _ _ once i.on refl, fits_inside _ _ _ _ f, c.items.invariant.1),
+      omega (arith, turns.behind_once _ _ _ _ once i.on refl, fits_inside _ _ _ _ f),
     )
 
 pub do_match-do_match-r-requires : goal.do_match-do_match-r-requires
 do_match-do_match-r-requires t c =
-    let i = subst (λ k. Single-then c.args.pattern.now c.items.at c.in-Single.suffix (repeat_as k)) c.in-Optional.is c.in-Single.ensures in
+    let i = rw c.in-Optional.is at c.in-Single.ensures in
     let b = turns.behind_repeat _ _ _ _ optional i.on refl in
     let g = fits_inside _ _ _ _ (sym c.if-not-fits.ensures) in
-    let inv = c.items.invariant.1 in
-    (omega (arith, b, inv), (b.1, omega (arith, g), sound_later _ _ _ (omega (arith, inv)) c.requires.2))
+    (omega arith, (b.1, omega arith, sound_later _ _ _ (omega arith) c.requires.2))
 
 pub do_match-returns-then-r-ne-FAILED : goal.do_match-returns-then-r-ne-FAILED
 do_match-returns-then-r-ne-FAILED t c =
-    let i = subst (λ k. Single-then c.args.pattern.now c.items.at c.in-Single.suffix (repeat_as k)) c.in-Optional.is c.in-Single.ensures in
+    let i = rw c.in-Optional.is at c.in-Single.ensures in
     let r = c.do_match-r.ensures in
     repeats.answered _ _ _ _ _ _ c.answer-then-r-ne-FAILED.ensures (repeats.optional_ends _ _ _ _ _ _ _ _ _ _ _ r.0 c.if-r-ne-FAILED.true, r.1)
     (turns.fit_more _ _ _ _ _ _ _ _ _ c.if-budget-steps.false _ _ optional i.on refl (sym c.if-not-fits.ensures) ∙ c.items.invariant.0)
 
 pub do_match-items-preserved : goal.do_match-items-preserved
 do_match-items-preserved t c =
-    let i = subst (λ k. Single-then c.args.pattern.now c.items.at c.in-Single.suffix (repeat_as k)) c.in-Optional.is c.in-Single.ensures in (
+    let i = rw c.in-Optional.is at c.in-Single.ensures in (
       repeats.optional_fails _ _ _ _ _ _ _ _ _ _ _ c.do_match-r.ensures.0 c.if-r-ne-FAILED.false
           ∙ turns.fit_more _ _ _ _ _ _ _ _ _ c.if-budget-steps.false _ _ optional i.on refl (sym c.if-not-fits.ensures) ∙ c.items.invariant.0,
-      omega (arith, turns.behind_repeat _ _ _ _ optional i.on refl, c.items.invariant.1),
+      omega (arith, turns.behind_repeat _ _ _ _ optional i.on refl),
     )
 
 pub do_match-max_expand-r-requires : goal.do_match-max_expand-r-requires
 do_match-max_expand-r-requires t c =
-    let i = subst (λ k. Single-then c.args.pattern.now c.items.at c.in-Single.suffix (repeat_as k)) c.in-Star.is c.in-Single.ensures in
+    let i = rw c.in-Star.is at c.in-Single.ensures in
     let b = turns.behind_repeat _ _ _ _ star i.on refl in
     let inv = c.items.invariant.1 in
-    (omega (arith, b, inv), (i.single, omega (arith, b), fits_inside _ _ _ _ (sym c.if-not-fits.ensures), omega arith, omega arith, sound_later _ _ _ inv.2 c.requires.2))
+    (omega arith, (i.single, omega arith, fits_inside _ _ _ _ (sym c.if-not-fits.ensures), omega arith, omega arith, sound_later _ _ _ inv.2 c.requires.2))
 
 pub do_match-returns-in-Star : goal.do_match-returns-in-Star
 do_match-returns-in-Star t c =
-    let i = subst (λ k. Single-then c.args.pattern.now c.items.at c.in-Single.suffix (repeat_as k)) c.in-Star.is c.in-Single.ensures in
+    let i = rw c.in-Star.is at c.in-Single.ensures in
     repeats.answered _ _ _ _ _ _ c.answer-in-Star.ensures c.max_expand-r.ensures
     (repeats.star_on _ _ _ _ _ _ _ _ _ _ refl ∙ turns.fit_more _ _ _ _ _ _ _ _ _ c.if-budget-steps.false _ _ star i.on refl (sym c.if-not-fits.ensures) ∙ c.items.invariant.0)
 
 pub do_match-max_expand-r-requires-in-Plus : goal.do_match-max_expand-r-requires-in-Plus
 do_match-max_expand-r-requires-in-Plus t c =
-    let i = subst (λ k. Single-then c.args.pattern.now c.items.at c.in-Single.suffix (repeat_as k)) c.in-Plus.is c.in-Single.ensures in
+    let i = rw c.in-Plus.is at c.in-Single.ensures in
     let b = turns.behind_repeat _ _ _ _ plus i.on refl in
     let inv = c.items.invariant.1 in
-    (omega (arith, b, inv), (i.single, omega (arith, b), fits_inside _ _ _ _ (sym c.if-not-fits.ensures), omega arith, omega arith, sound_later _ _ _ inv.2 c.requires.2))
+    (omega arith, (i.single, omega arith, fits_inside _ _ _ _ (sym c.if-not-fits.ensures), omega arith, omega arith, sound_later _ _ _ inv.2 c.requires.2))
 
 pub do_match-returns-in-Plus : goal.do_match-returns-in-Plus
 do_match-returns-in-Plus t c =
-    let i = subst (λ k. Single-then c.args.pattern.now c.items.at c.in-Single.suffix (repeat_as k)) c.in-Plus.is c.in-Single.ensures in
+    let i = rw c.in-Plus.is at c.in-Single.ensures in
     repeats.answered _ _ _ _ _ _ c.answer-in-Plus.ensures c.max_expand-r-in-Plus.ensures
     (repeats.plus_on _ _ _ _ _ _ _ _ _ _ refl ∙ turns.fit_more _ _ _ _ _ _ _ _ _ c.if-budget-steps.false _ _ plus i.on refl (sym c.if-not-fits.ensures) ∙ c.items.invariant.0)
 
 pub do_match-min_expand-r-requires : goal.do_match-min_expand-r-requires
 do_match-min_expand-r-requires t c =
-    let i = subst (λ k. Single-then c.args.pattern.now c.items.at c.in-Single.suffix (repeat_as k)) c.in-Minus.is c.in-Single.ensures in
+    let i = rw c.in-Minus.is at c.in-Single.ensures in
     let b = turns.behind_repeat _ _ _ _ minus i.on refl in
     let inv = c.items.invariant.1 in
-    (omega (arith, b, inv), (i.single, omega (arith, b), fits_inside _ _ _ _ (sym c.if-not-fits.ensures), sound_later _ _ _ inv.2 c.requires.2))
+    (omega arith, (i.single, omega arith, fits_inside _ _ _ _ (sym c.if-not-fits.ensures), sound_later _ _ _ inv.2 c.requires.2))
 
 pub do_match-returns-in-Minus : goal.do_match-returns-in-Minus
 do_match-returns-in-Minus t c =
-    let i = subst (λ k. Single-then c.args.pattern.now c.items.at c.in-Single.suffix (repeat_as k)) c.in-Minus.is c.in-Single.ensures in
+    let i = rw c.in-Minus.is at c.in-Single.ensures in
     repeats.answered _ _ _ _ _ _ c.answer-in-Minus.ensures c.min_expand-r.ensures
     (turns.fit_more _ _ _ _ _ _ _ _ _ c.if-budget-steps.false _ _ minus i.on refl (sym c.if-not-fits.ensures) ∙ c.items.invariant.0)
 
@@ -223,7 +218,7 @@ pub end_capture-returns-in-Capture : goal.end_capture-returns-in-Capture
 end_capture-returns-in-Capture t c =
     let h = c.in-Capture.ensures in
     repeats.answered _ _ _ _ _ _ c.answer.ensures c.do_match-r.ensures
-    (ends_capture c.args.captures (omega arith) c.requires.2.few _ _ _ _ _ h.0 h.1 (omega (arith, c.requires.1)))
+    (ends_capture c.args.captures (omega arith) c.requires.2.few _ _ _ _ _ h.0 h.1 (omega arith))
 
 pub end_capture-returns-in-Nothing : goal.end_capture-returns-in-Nothing
 end_capture-returns-in-Nothing t c =
@@ -232,9 +227,9 @@ end_capture-returns-in-Nothing t c =
 -- ---- max_expand
 
 -- the place is passed, by the single ahead or by a call
-max_expand-passed : (t : ℕ) (c : max_expand-Joined-fails_at t)
+max_expand_passed : (t : ℕ) (c : max_expand-Joined-fails_at t)
     → failed c.if-fails_at.steps ≡ new_level c.args.level c.loop-steps.steps (λ m. match (class_in c.args.classes.now) c.args.subject.now c.args.budget (items c.args.pattern.now (c.args.suffix + 1)) c.loop-steps.tried m (captures_of c.args.captures) c.loop-steps.steps)
-max_expand-passed t c =
+max_expand_passed t c =
     let seen : c.if-count-gt0.is_open ≡ true → capture_to_close (captures_of c.args.captures) ≡ none → ⊥ =
     λ o n. elim c.if-count-gt0.branch [
       | max_expand-then-count-gt0 w ↦ tests.latest_open _ _ w.if-count-gt0.true (sym w.is_open-is ∙ o) n
@@ -249,7 +244,7 @@ pub max_expand-returns-then-reach : goal.max_expand-returns-then-reach
 max_expand-returns-then-reach t c = repeats.ended _ _ _ _ _ c.spent.ensures (repeats.spent_expands _ _ c.reach-reach.ensures.0 _ _ _ _ c.if-reach.true)
 
 pub max_expand-loop-steps-init : goal.max_expand-loop-steps-init
-max_expand-loop-steps-init t c = (repeats.reach_expands _ _ c.reach-reach.ensures.0 _ _ _ _ c.if-reach.false, omega (arith, c.reach-reach.ensures.1, c.requires))
+max_expand-loop-steps-init t c = (repeats.reach_expands _ _ c.reach-reach.ensures.0 _ _ _ _ c.if-reach.false, omega arith)
 
 pub max_expand-fails_at-requires : goal.max_expand-fails_at-requires
 max_expand-fails_at-requires t c = λ h. (c.first_test-first.ensures h 0).single
@@ -263,21 +258,21 @@ max_expand-returns-then-r-ne-FAILED t c =
 pub max_expand-returns-then-tried-shortest : goal.max_expand-returns-then-tried-shortest
 max_expand-returns-then-tried-shortest t c =
     let inv = c.loop-steps.invariant in
-    let p = max_expand-passed t (goal.at.max_expand-returns-then-tried-shortest t c).Joined-fails_at in
+    let p = max_expand_passed t (goal.at.max_expand-returns-then-tried-shortest t c).Joined-fails_at in
     repeats.ended _ _ _ _ _ c.failed.ensures (tests.passed_last _ _ _ _ _ _ _ p inv.1.0 c.if-tried-shortest.true ∙ inv.0)
 
 pub max_expand-loop-steps-preserved : goal.max_expand-loop-steps-preserved
 max_expand-loop-steps-preserved t c =
     let inv = c.loop-steps.invariant in
-    let p = max_expand-passed t (goal.at.max_expand-loop-steps-preserved t c).Joined-fails_at in
-    (tests.passed_longest _ _ _ _ _ _ _ p c.if-tried-shortest.false ∙ inv.0, omega (arith, inv.1))
+    let p = max_expand_passed t (goal.at.max_expand-loop-steps-preserved t c).Joined-fails_at in
+    (tests.passed_longest _ _ _ _ _ _ _ p c.if-tried-shortest.false ∙ inv.0, omega arith)
 
 -- ---- min_expand
 
 -- the place is passed, by the single ahead or by a call
-min_expand-passed : (t : ℕ) (c : min_expand-Joined-fails_at t)
+min_expand_passed : (t : ℕ) (c : min_expand-Joined-fails_at t)
     → failed c.if-fails_at.steps ≡ new_level c.args.level c.loop-steps.steps (λ m. match (class_in c.args.classes.now) c.args.subject.now c.args.budget (items c.args.pattern.now (c.args.suffix + 1)) c.loop-steps.tried m (captures_of c.args.captures) c.loop-steps.steps)
-min_expand-passed t c =
+min_expand_passed t c =
     let seen : c.if-count-gt0.is_open ≡ true → capture_to_close (captures_of c.args.captures) ≡ none → ⊥ =
     λ o n. elim c.if-count-gt0.branch [
       | min_expand-then-count-gt0 w ↦ tests.latest_open _ _ w.if-count-gt0.true (sym w.is_open-is ∙ o) n
@@ -298,23 +293,23 @@ min_expand-returns-then-r-ne-FAILED t c =
 
 pub min_expand-returns-then-budget-steps : goal.min_expand-returns-then-budget-steps
 min_expand-returns-then-budget-steps t c =
-    let p = min_expand-passed t (goal.at.min_expand-returns-then-budget-steps t c).Joined-fails_at in
+    let p = min_expand_passed t (goal.at.min_expand-returns-then-budget-steps t c).Joined-fails_at in
     repeats.ended _ _ _ _ _ c.spent.ensures (tests.trying_spent _ _ _ _ _ _ _ _ _ _ _ _ c.loop-steps.invariant.0 _ p c.if-tested-tried.true c.if-budget-steps.true)
 
 pub min_expand-returns-then-not-fits : goal.min_expand-returns-then-not-fits
 min_expand-returns-then-not-fits t c =
-    let p = min_expand-passed t (goal.at.min_expand-returns-then-not-fits t c).Joined-fails_at in
+    let p = min_expand_passed t (goal.at.min_expand-returns-then-not-fits t c).Joined-fails_at in
     repeats.ended _ _ _ _ _ c.failed.ensures (tests.trying_fails _ _ _ _ _ _ _ _ _ _ _ _ c.loop-steps.invariant.0 _ p c.if-tested-tried.true c.if-budget-steps.false (sym c.if-not-fits.ensures))
 
 pub min_expand-loop-steps-preserved : goal.min_expand-loop-steps-preserved
 min_expand-loop-steps-preserved t c =
-    let p = min_expand-passed t (goal.at.min_expand-loop-steps-preserved t c).Joined-fails_at in
+    let p = min_expand_passed t (goal.at.min_expand-loop-steps-preserved t c).Joined-fails_at in
     elim c.if-tested-tried.branch [
       | min_expand-then-tested-tried+else-budget-steps+else-not-fits w ↦
           let f = sym w.if-not-fits.ensures in
           let g = fits_inside _ _ _ _ f in
-          (tests.trying_as _ _ _ _ _ _ _ _ _ _ _ _ _ _ w.tested-is w.steps-is (tests.trying_next _ _ _ _ _ _ _ _ _ _ _ _ c.loop-steps.invariant.0 _ p w.if-tested-tried.true w.if-budget-steps.false f g), omega (arith, g))
+          (tests.trying_as _ _ _ _ _ _ _ _ _ _ _ _ _ _ w.tested-is w.steps-is (tests.trying_next _ _ _ _ _ _ _ _ _ _ _ _ c.loop-steps.invariant.0 _ p w.if-tested-tried.true w.if-budget-steps.false f g), omega arith)
       | min_expand-else-tested-tried w ↦
           let g = tests.at_first _ _ _ _ _ _ _ _ _ _ _ _ c.loop-steps.invariant.0 w.if-tested-tried.false in
-          (tests.trying_as _ _ _ _ _ _ _ _ _ _ _ _ _ _ w.tested-is w.steps-is (tests.trying_second _ _ _ _ _ _ _ _ _ _ _ _ c.loop-steps.invariant.0 _ p w.if-tested-tried.false), omega (arith, g, c.requires.2))
+          (tests.trying_as _ _ _ _ _ _ _ _ _ _ _ _ _ _ w.tested-is w.steps-is (tests.trying_second _ _ _ _ _ _ _ _ _ _ _ _ c.loop-steps.invariant.0 _ p w.if-tested-tried.false), omega arith)
     ]

@@ -1,6 +1,5 @@
 -- `luck_format::date::conversion_width` meets its contract.
 use mathlib.Core.Path.{sym, ◌∙◌}
-use Prim.Native.Nat.{◌-◌}
 use native.Mathlib.Omega.{arith}
 use Rattle.luck_format.specs.Date.{is_pair}
 use Rattle.luck_format.proofs.Dates as laws

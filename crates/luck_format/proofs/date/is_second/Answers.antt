@@ -1,6 +1,6 @@
 -- `luck_format::date::is_second` meets its contract. Assumes nothing.
 use mathlib.Core.Path.{◌≡◌, refl, ◌∙◌}
-use Prim.Native.Nat.{ℕ, ◌-◌}
+use Prim.Native.Nat.{ℕ}
 use borrow.Author.Tests.{ne_eqb}
 use mathlib.Core.Bool.{false, false≢true}
 use lib.ListN.{get_or-eq_default}

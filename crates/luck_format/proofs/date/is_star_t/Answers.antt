@@ -1,5 +1,5 @@
 -- `luck_format::date::is_star_t` meets its contract. Assumes nothing.
-use Prim.Native.Nat.{◌+◌, ◌-◌}
+use Prim.Native.Nat.{◌+◌}
 use borrow.Author.Tests.{eq-eqb, ne_eqb}
 use lib.ListN.{length}
 use Rattle.luck_text.specs.Bytes.{byte_at}

@@ -1,6 +1,5 @@
 -- `luck_format::date::is_table` meets its contract. Assumes nothing.
 use mathlib.Core.Path.{sym, ◌∙◌}
-use Prim.Native.Nat.{◌-◌}
 use borrow.Author.Tests.{eq-eqb, ne_eqb}
 use Rattle.luck_text.specs.Bytes.{byte_at}
 use Rattle.luck_text.proofs.Cases.{if_true, if_false}

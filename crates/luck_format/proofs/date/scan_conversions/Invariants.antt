@@ -1,7 +1,6 @@
 -- `luck_format::date::scan_conversions` meets its contract. The invariant: the walk from here is the whole answer. Assumes nothing.
-use mathlib.Core.Path.{◌≡◌, sym, ◌∙◌}
+use mathlib.Core.Path.{◌≡◌}
 use Prim.Native.Nat.{◌-◌, ◌≤◌}
-use native.Mathlib.Omega.{arith}
 use lib.ListN.{length}
 use Rattle.luck_format.specs.Date.{conversions_walk}
 use Rattle.luck_format.proofs.Dates as laws

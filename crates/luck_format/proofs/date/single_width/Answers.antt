@@ -1,10 +1,7 @@
 -- `luck_format::date::single_width` meets its contract.
-use mathlib.Core.Path.{◌≡◌, sym, ◌∙◌}
+use mathlib.Core.Path.{sym, ◌∙◌}
 use native.Mathlib.Omega.{arith}
 use mathlib.Core.Logic.{inl, inr}
-use mathlib.Core.Bool.{false}
-use Rattle.luck_text.specs.Bytes.{among}
-use Rattle.luck_format.specs.Date.{everywhere}
 use Rattle.luck_format.proofs.Dates as laws
 use Rattle.luck_format.proofs.date.single_width.Goals as goal
 

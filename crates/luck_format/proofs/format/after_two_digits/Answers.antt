@@ -1,7 +1,5 @@
 -- `luck_format::format::after_two_digits` meets its contract.
-use Prim.Native.Nat.{◌+◌, ◌≤◌}
 use native.Mathlib.Omega.{arith}
-use lib.ListN.{length}
 use Rattle.luck_text.specs.Bytes.{is_digit}
 use Rattle.luck_format.proofs.Formats as formats
 use Rattle.luck_format.proofs.format.after_two_digits.Goals as goal

@@ -1,10 +1,9 @@
 -- `luck_format::format::flags_run` meets its contract.
 use mathlib.Core.Path.{◌≡◌, sym, ◌∙◌}
 use Prim.Native.Nat.{ℕ}
-use mathlib.Core.Bool.{false}
 use mathlib.Core.List.{List}
 use lib.ListN.{drop}
-use Rattle.luck_text.specs.Bytes.{ascii, among, run}
+use Rattle.luck_text.specs.Bytes.{among, run}
 use Rattle.luck_format.specs.Format.{flags_for, flags_run}
 use Rattle.luck_format.proofs.Formats as formats
 use Rattle.luck_format.proofs.format.flags_run.Goals as goal

@@ -1,7 +1,5 @@
 -- `luck_format::format::get_format` meets its contract.
-use Prim.Native.Nat.{◌+◌, ◌≤◌}
 use native.Mathlib.Omega.{arith}
-use lib.ListN.{length}
 use Rattle.luck_text.specs.Bytes.{among, ascii}
 use Rattle.luck_format.proofs.Formats as formats
 use Rattle.luck_format.proofs.format.get_format.Goals as goal

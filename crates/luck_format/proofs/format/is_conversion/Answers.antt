@@ -1,7 +1,5 @@
 -- `luck_format::format::is_conversion` meets its contract.
-use mathlib.Core.Path.{◌≡◌, sym, ◌∙◌}
-use mathlib.Core.Bool.{false}
-use Rattle.luck_text.specs.Bytes.{ascii, among}
+use mathlib.Core.Path.{sym, ◌∙◌}
 use Rattle.luck_format.proofs.Formats as formats
 use Rattle.luck_format.proofs.format.is_conversion.Goals as goal
 

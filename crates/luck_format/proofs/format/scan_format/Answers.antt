@@ -1,8 +1,7 @@
 -- `luck_format::format::scan_format` meets its contract.
 use mathlib.Core.Path.{◌∙◌}
 use native.Mathlib.Omega.{arith}
-use Prim.Native.Nat.{◌+◌, ◌≤◌}
-use lib.ListN.{length}
+use Prim.Native.Nat.{◌+◌}
 use Rattle.luck_text.specs.Bytes.{among, ascii}
 use Rattle.luck_format.proofs.Formats as formats
 use Rattle.luck_format.proofs.format.scan_format.Goals as goal

@@ -5,7 +5,6 @@ use Rattle.luck_text.specs.Walk.{stop}
 use Rattle.luck_utf8.specs.declared.utf8.Char.{Char}
 use Rattle.luck_answer.specs.Answer.{refused_with}
 use Rattle.luck_format.proofs.Formats as formats
-use borrow.Author.Rules.{rules}
 use Rattle.luck_format.proofs.format.scan_format_conversion.Goals as goal
 use Rattle.luck_format.proofs.format.scan_format_conversion.Goals.{then-rules+else-good-end, else-rules}
 

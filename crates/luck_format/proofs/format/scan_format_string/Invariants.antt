@@ -1,12 +1,9 @@
 -- `luck_format::format::scan_format_string` meets its contract. The invariant: from here the walk gives the whole answer. Assumes nothing.
-use mathlib.Core.Path.{◌≡◌, subst}
-use native.Mathlib.Omega.{arith}
+use mathlib.Core.Path.{◌≡◌}
 use Prim.Native.Nat.{◌-◌, ◌≤◌}
 use lib.ListN.{length}
 use Rattle.luck_format.specs.Format.{format_walk}
-use Rattle.luck_format.specs.declared.format.Specifier.{Specifier}
 use Rattle.luck_format.proofs.Formats as formats
-use borrow.Author.Rules.{rules}
 use Rattle.luck_format.proofs.format.scan_format_string.Given as goal
 
 abbrev pub invariant-loop-at : goal.invariant-loop-at

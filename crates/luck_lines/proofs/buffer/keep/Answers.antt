@@ -12,7 +12,8 @@ loop-from-init c = (omega arith, omega arith, omega arith, refl, refl, refl)
 pub returns-then-buffer-from : goal.returns-then-buffer-from
 returns-then-buffer-from c = let a = c.args in
     let l = c.loop-from in
-    buffers.kept a.buffer.now l.buffer a.at l.to l.invariant.3 l.invariant.4 l.invariant.5 a.end l.invariant.2 (buffers.buffer_ends a.buffer.now a.at l.to a.end l.invariant.1 (omega (arith, l.invariant.0, l.invariant.3, c.if-buffer-from.true)))
+    let kept = buffers.kept a.buffer.now l.buffer a.at l.to l.invariant.3 l.invariant.4 l.invariant.5 a.end l.invariant.2 (buffers.buffer_ends a.buffer.now a.at l.to a.end l.invariant.1 (omega (arith, l.invariant.0, l.invariant.3, c.if-buffer-from.true))) in
+    record { count = kept.0; buffer = kept.1.0; within = kept.1.1 }
 
 pub loop-from-preserved : goal.loop-from-preserved
 loop-from-preserved c = let a = c.args in
@@ -22,4 +23,5 @@ loop-from-preserved c = let a = c.args in
 pub returns : goal.returns
 returns c = let a = c.args in
     let l = c.loop-from in
-    buffers.kept a.buffer.now l.buffer a.at l.to l.invariant.3 l.invariant.4 l.invariant.5 a.end l.invariant.2 (buffers.all_moved a.buffer.now a.at l.to a.end l.invariant.1 (omega (arith, l.invariant.0, c.loop-from-test.false)))
+    let kept = buffers.kept a.buffer.now l.buffer a.at l.to l.invariant.3 l.invariant.4 l.invariant.5 a.end l.invariant.2 (buffers.all_moved a.buffer.now a.at l.to a.end l.invariant.1 (omega (arith, l.invariant.0, c.loop-from-test.false))) in
+    record { count = kept.0; buffer = kept.1.0; within = kept.1.1 }

@@ -11,14 +11,15 @@ pub returns-then-output : goal.returns-then-output
 returns-then-output c =
     let a = c.args in
     let e = streams.finish_full a.state a.left.now (length a.output.now) c.if-output.true in
-    (sym (ap length e), (sym (ap (λ f. in_front f a.output.now) e), omega arith))
+    record { wrote = sym (ap length e); output = sym (ap (λ f. in_front f a.output.now) e); within = omega arith }
 
 pub returns-then-state : goal.returns-then-state
 returns-then-state c =
     let a = c.args in
     let h = c.if-output.false in
     let e = streams.finish_long a.state a.left.now (length a.output.now) h c.if-state.true in
-    streams.last_finished a.state a.left.now (length a.output.now) h a.output.now _ _ refl e c.put_last.ensures.wrote c.put_last.ensures.output
+    let last = streams.last_finished a.state a.left.now (length a.output.now) h a.output.now _ _ refl e c.put_last.ensures.wrote c.put_last.ensures.output in
+    record { wrote = last.0; output = last.1.0; within = last.1.1 }
 
 pub returns-then-left-eq0 : goal.returns-then-left-eq0
 returns-then-left-eq0 c =
@@ -26,11 +27,12 @@ returns-then-left-eq0 c =
     let h = c.if-output.false in
     let e = streams.finish_empty a.state a.left.now (length a.output.now) h c.if-state.false c.if-left-eq0.true in
     let f = streams.bytes_front 15 _ _ a.output.now _ e (totals_length a.state.read a.state.refused) c.put_totals.ensures in
-    (f.0, (f.1, omega arith))
+    record { wrote = f.0; output = f.1; within = omega arith }
 
 pub returns : goal.returns
 returns c =
     let a = c.args in
     let h = c.if-output.false in
     let e = streams.finish_row a.state a.left.now (length a.output.now) h c.if-state.false c.if-left-eq0.false in
-    streams.last_finished a.state a.left.now (length a.output.now) h a.output.now _ _ refl e c.put_last-2.ensures.wrote c.put_last-2.ensures.output
+    let last = streams.last_finished a.state a.left.now (length a.output.now) h a.output.now _ _ refl e c.put_last-2.ensures.wrote c.put_last-2.ensures.output in
+    record { wrote = last.0; output = last.1.0; within = last.1.1 }

@@ -9,4 +9,4 @@ returns c =
     let a = c.args in
     let put = c.put_row-number in
     let all = c.counted in
-    let behind = c.put_totals in record { wrote = refl; output = streams.last_put a.state all.result put.result a.left.now a.output.now put.new.1.0 behind.new.0 (search rules) put.ensures.0 all.ensures put.ensures.1 behind.ensures }
+    let behind = c.put_totals in record { wrote = refl; output = streams.last_put a.state all.result put.result a.left.now a.output.now put.new.output behind.new.output (search rules) put.ensures.number all.ensures put.ensures.output behind.ensures }

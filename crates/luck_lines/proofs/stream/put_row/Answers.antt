@@ -1,4 +1,7 @@
 -- `luck_lines::stream::put_row` meets its contract. Assumes nothing.
+use Prim.Native.Nat.{ℕ}
+use mathlib.Core.List.{List, ◌++◌}
+use lib.ListN.{drop}
 use mathlib.Core.Path.{ap, ◌∙◌}
 use Rattle.luck_answer.specs.Answer.{Answer}
 use Rattle.luck_line.specs.Row.{answer_row}
@@ -10,4 +13,4 @@ pub returns : goal.returns
 returns c =
     let a = c.args in
     let told = c.answer_after-answer.ensures in
-    let made = c.of_answer-bytes in record { number = ap (λ (x : Answer). x.number) told; output = streams.bytes_put 19 made.result _ a.output.now _ (made.ensures ∙ ap answer_row told) (streams.answer_length (answer_after a.long a.line.now)) c.copy.ensures.1 }
+    let made = c.of_answer-bytes in record { number = ap (λ (x : Answer). x.number) told; output = ap (λ (x : List ℕ). x ++ drop 19 a.output.now) (c.copy_from_slice.ensures.after ∙ made.ensures ∙ ap answer_row told) }

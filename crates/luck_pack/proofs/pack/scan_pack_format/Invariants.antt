@@ -1,12 +1,9 @@
 -- `luck_pack::pack::scan_pack_format` meets its contract. The invariant: the walk from here, in the state so far, gives the whole answer. Assumes nothing.
-use mathlib.Core.Path.{◌≡◌, sym, ap, subst, ◌∙◌}
-use Prim.Native.Nat.{◌+◌, ◌-◌, ◌≤◌}
-use native.Mathlib.Omega.{arith}
-use mathlib.Core.Logic.{inl, inr, ⊎_elim}
+use mathlib.Core.Path.{◌≡◌}
+use Prim.Native.Nat.{◌-◌, ◌≤◌}
 use lib.ListN.{length}
 use Rattle.luck_pack.specs.Pack.{pack_state, pack_walk}
-use Rattle.luck_pack.specs.declared.pack.Turn.{Turn}
-use Rattle.luck_pack.proofs.Packs.{on, start, After, after, done, counted}
+use Rattle.luck_pack.proofs.Packs.{on}
 use Rattle.luck_pack.proofs.pack.scan_pack_format.Given as goal
 
 abbrev pub invariant-loop-at : goal.invariant-loop-at

@@ -18,4 +18,4 @@ pub returns : goal.returns
 returns c =
     let a = c.args in
     let bounds = c.requires in
-    ap (ltb (a.limit + 16 * bool_byte (eqb a.byte 37))) c.rank.ensures ∙ laws.compared a.limit bounds.0 bounds.1 a.is-strict a.byte
+    ap (ltb (a.limit + 16 * bool_byte (eqb a.byte 37))) c.rank.ensures ∙ laws.compared a.limit bounds.0 bounds.1 a.is_strict a.byte

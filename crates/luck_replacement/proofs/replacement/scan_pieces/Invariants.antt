@@ -1,9 +1,8 @@
 -- `luck_replacement::replacement::scan_pieces` meets its contract. The invariant: the walk over the pieces from here is the whole answer. A turn that passes over blocks
 -- may leave `at` where it was, but ends the run; any other turn moves `at` on. Assumes nothing.
-use mathlib.Core.Path.{◌≡◌, refl, sym, ◌∙◌}
+use mathlib.Core.Path.{◌≡◌}
 use mathlib.Core.Option.{some}
 use Prim.Native.Nat.{◌+◌, ◌-◌, ◌*◌, ◌≤◌}
-use native.Mathlib.Omega.{arith}
 use lib.ListN.{length}
 use Rattle.luck_replacement.specs.Replacement.{pieces, pieces_walk}
 use Rattle.luck_replacement.proofs.Replacements as laws

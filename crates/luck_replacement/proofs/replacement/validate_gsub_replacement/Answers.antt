@@ -2,7 +2,6 @@
 use mathlib.Core.Path.{ap, ◌∙◌}
 use Rattle.luck_answer.proofs.Texts.{by_text}
 use Rattle.luck_replacement.specs.Replacement.{is_strict, count_of, pieces, pieces_walk, check_replacement}
-use borrow.Author.Rules.{rules}
 use Rattle.luck_replacement.proofs.replacement.validate_gsub_replacement.Goals as goal
 
 pub returns-in-Fine : goal.returns-in-Fine

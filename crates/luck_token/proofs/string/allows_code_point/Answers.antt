@@ -1,7 +1,6 @@
 -- `luck_token::string::allows_code_point` meets its contract. Assumes nothing.
 use mathlib.Core.Path.{sym, ◌∙◌}
 use Rattle.luck_token.proofs.Literals.{by_value, by_digits}
-use borrow.Author.Rules.{rules}
 use Rattle.luck_token.proofs.string.allows_code_point.Goals as goal
 
 pub returns-then-allows_digits : goal.returns-then-allows_digits

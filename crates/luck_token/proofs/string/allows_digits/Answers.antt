@@ -1,7 +1,6 @@
 -- `luck_token::string::allows_digits` meets its contract. Assumes nothing.
 use borrow.Author.Tests.{le-leb, lt-leb}
 use Rattle.luck_token.specs.Literal.{allows_digits}
-use borrow.Author.Rules.{rules}
 use Rattle.luck_token.proofs.string.allows_digits.Goals as goal
 
 pub returns-then-count-lt1 : goal.returns-then-count-lt1

@@ -1,7 +1,6 @@
 -- `luck_token::string::allows_value` meets its contract. Assumes nothing.
 use mathlib.Core.Path.{◌∙◌}
 use Rattle.luck_token.proofs.Literals.{extended, characters}
-use borrow.Author.Rules.{rules}
 use Rattle.luck_token.proofs.string.allows_value.Goals as goal
 
 pub returns-then-rules : goal.returns-then-rules

@@ -1,6 +1,5 @@
 -- `luck_token::string::bracket_width` meets its contract. Assumes nothing.
 use mathlib.Core.Path.{sym, ◌∙◌}
-use Prim.Native.Nat.{◌-◌}
 use native.Mathlib.Omega.{arith}
 use lib.Dec.{eqb}
 use Rattle.luck_token.specs.Literal.{equals}

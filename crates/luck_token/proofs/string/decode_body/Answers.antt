@@ -4,10 +4,8 @@ use mathlib.Core.List.{List}
 use mathlib.Core.Option.{Option}
 use Prim.Native.Nat.{ℕ}
 use lib.ListN.{length}
-use borrow.Author.Tests.{not-true}
 use Rattle.luck_token.specs.Decode.{with_room, decoding_of, output_of}
 use Rattle.luck_token.proofs.Values as values
-use borrow.Author.Rules.{rules}
 use Rattle.luck_token.proofs.string.decode_body.Goals as goal
 
 pub returns-then-not-has_special : goal.returns-then-not-has_special

@@ -10,7 +10,6 @@ use Rattle.luck_token.specs.Literal.{bracket_width, value_of, literal_value}
 use Rattle.luck_token.specs.Decode.{with_room, decoding_of, output_of}
 use Rattle.luck_token.proofs.Literals.{both_quotes}
 use Rattle.luck_token.proofs.Values as values
-use borrow.Author.Rules.{rules}
 use Rattle.luck_token.proofs.string.decode_literal.Goals as goal
 
 pub overflow_sub-end : goal.overflow_sub-end

@@ -2,7 +2,6 @@
 use mathlib.Core.Path.{sym, ◌∙◌}
 use Rattle.luck_token.specs.Literal.{value_of}
 use Rattle.luck_token.proofs.Values as values
-use borrow.Author.Rules.{rules}
 use Rattle.luck_token.proofs.string.decode_long.Goals as goal
 
 pub returns-in-Malformed : goal.returns-in-Malformed

@@ -3,7 +3,6 @@ use mathlib.Core.Path.{sym, ◌∙◌}
 use native.Mathlib.Omega.{arith}
 use Rattle.luck_token.specs.Literal.{value_of}
 use Rattle.luck_token.proofs.Values as values
-use borrow.Author.Rules.{rules}
 use Rattle.luck_token.proofs.string.decode_pieces.Goals as goal
 
 pub returns-then-output-n : goal.returns-then-output-n

@@ -1,14 +1,12 @@
 -- `luck_token::string::escape_at` meets its contract.
-use mathlib.Core.Path.{◌≡◌, sym, ap, ◌∙◌}
+use mathlib.Core.Path.{sym, ap, ◌∙◌}
 use Prim.Native.Nat.{ℕ, ◌+◌}
 use native.Mathlib.Omega.{arith}
 use mathlib.Core.List.{[]}
 use Rattle.luck_text.specs.Bytes.{is_lua_whitespace}
 use Rattle.luck_text.proofs.Bytes.{run_inside}
-use Rattle.luck_token.specs.Literal.{piece, escape_piece, escape_piece_at, whitespace_escape}
-use Rattle.luck_token.specs.declared.string.Escape.{Escape}
+use Rattle.luck_token.specs.Literal.{piece, escape_piece, whitespace_escape}
 use Rattle.luck_token.proofs.Literals.{escape_is, escape_cut, as_piece}
-use borrow.Author.Rules.{rules}
 use Rattle.luck_token.proofs.string.escape_at.Goals as goal
 
 pub returns-then-body-next : goal.returns-then-body-next

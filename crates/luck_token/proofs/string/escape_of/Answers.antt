@@ -7,7 +7,6 @@ use Rattle.luck_text.specs.Bytes.{if◌then◌else◌, between, among, is_digit}
 use Rattle.luck_token.specs.Literal.{escape_kind}
 use Rattle.luck_text.proofs.Bytes.{below, above}
 use Rattle.luck_token.proofs.Literals.{decimal_escape_lem}
-use borrow.Author.Rules.{rules}
 use Rattle.luck_token.proofs.string.escape_of.Goals as goal
 use Rattle.luck_token.proofs.string.escape_of.Goals.{in_default-via-then-byte-lt48, in_default-via-else-byte-lt48+else-byte-lt58}
 

@@ -3,7 +3,6 @@ use mathlib.Core.Path.{ap, ◌∙◌}
 use mathlib.Core.Bool.{Bool}
 use Prim.Native.Nat.{◌+◌}
 use native.Mathlib.Omega.{arith}
-use Rattle.luck_text.specs.Bytes.{byte_at}
 use Rattle.luck_text.proofs.Cases.{present}
 use Rattle.luck_token.specs.Inner.{plain}
 use Rattle.luck_token.proofs.Literals.{plain_long, plain_short}

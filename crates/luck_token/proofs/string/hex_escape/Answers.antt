@@ -1,11 +1,8 @@
 -- `luck_token::string::hex_escape` meets its contract.
-use mathlib.Core.Path.{◌≡◌, sym, ap₂, ◌∙◌}
-use mathlib.Core.Bool.{true}
+use mathlib.Core.Path.{sym, ap₂, ◌∙◌}
 use mathlib.Core.List.{[], ◌∷◌}
 use Prim.Native.Nat.{ℕ, ◌+◌, ◌*◌}
 use native.Mathlib.Omega.{arith}
-use borrow.Author.Tests.{not-true, not-false}
-use Rattle.luck_text.specs.Bytes.{byte_at, is_xdigit}
 use Rattle.luck_token.specs.Literal.{piece}
 use Rattle.luck_token.proofs.Literals.{hex_cut, hex_first, hex_second, hex_byte}
 use Rattle.luck_token.proofs.string.hex_escape.Goals as goal

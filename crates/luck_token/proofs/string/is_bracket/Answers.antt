@@ -1,5 +1,4 @@
 -- `luck_token::string::is_bracket` meets its contract. Assumes nothing.
-use Prim.Native.Nat.{◌-◌}
 use borrow.Author.Tests.{eq-eqb, ne_eqb}
 use Rattle.luck_text.specs.Bytes.{byte_at}
 use Rattle.luck_token.specs.Literal.{equals, bracket_at}

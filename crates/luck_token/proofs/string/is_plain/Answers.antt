@@ -3,7 +3,6 @@ use mathlib.Core.Path.{sym, ap, ◌∙◌}
 use mathlib.Core.Bool.{Bool, not}
 use Prim.Native.Nat.{ℕ}
 use lib.Dec.{eqb}
-use borrow.Author.Tests.{not-true, not-false}
 use Rattle.luck_token.specs.Inner.{plain}
 use Rattle.luck_token.proofs.Literals.{plain_lf, plain_other}
 use Rattle.luck_token.proofs.string.is_plain.Goals as goal

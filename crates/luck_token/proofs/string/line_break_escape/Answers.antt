@@ -1,10 +1,9 @@
 -- `luck_token::string::line_break_escape` meets its contract. Assumes nothing.
-use Prim.Native.Nat.{◌+◌, ◌-◌}
+use Prim.Native.Nat.{◌+◌}
 use native.Mathlib.Omega.{arith}
 use Rattle.luck_token.specs.Literal.{line_break_escape}
 use Rattle.luck_token.proofs.Breaks.{break_inside}
 use Rattle.luck_token.proofs.Literals.{newline}
-use borrow.Author.Rules.{rules}
 use Rattle.luck_token.proofs.string.line_break_escape.Goals as goal
 
 pub returns-then-width-lt1 : goal.returns-then-width-lt1

@@ -1,10 +1,8 @@
 -- `luck_token::string::long_piece` meets its contract. Assumes nothing.
 use mathlib.Core.Path.{sym, ◌∙◌}
-use Prim.Native.Nat.{◌-◌}
 use native.Mathlib.Omega.{arith}
 use Rattle.luck_token.proofs.Breaks.{break_inside}
 use Rattle.luck_token.proofs.Literals.{long_byte, long_break}
-use borrow.Author.Rules.{rules}
 use Rattle.luck_token.proofs.string.long_piece.Goals as goal
 
 pub returns-then-width-eq0 : goal.returns-then-width-eq0

@@ -1,7 +1,6 @@
 -- `luck_token::string::other_escape` meets its contract. Assumes nothing.
 use Rattle.luck_token.specs.Literal.{other_escape}
 use Rattle.luck_text.specs.Bytes.{if◌then◌else◌}
-use borrow.Author.Rules.{rules}
 use Rattle.luck_token.proofs.string.other_escape.Goals as goal
 
 pub returns-then-rules : goal.returns-then-rules

@@ -2,7 +2,6 @@
 use mathlib.Core.Path.{◌∙◌}
 use native.Mathlib.Omega.{arith}
 use Rattle.luck_token.proofs.Literals.{short_escape, short_byte, piece_long, piece_short, as_piece}
-use borrow.Author.Rules.{rules}
 use Rattle.luck_token.proofs.string.piece_at.Goals as goal
 
 pub returns-then-long : goal.returns-then-long

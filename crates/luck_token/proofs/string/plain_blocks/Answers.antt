@@ -1,9 +1,8 @@
 -- `luck_token::string::plain_blocks` meets its contract.
 use mathlib.Core.Path.{◌≡◌, ap, ◌∙◌}
-use mathlib.Core.Bool.{Bool, true, false}
+use mathlib.Core.Bool.{Bool, true}
 use Prim.Native.Nat.{ℕ, ◌+◌, ◌-◌, ◌≤◌, ◌<◌}
 use native.Mathlib.Omega.{arith}
-use borrow.Author.Tests.{not-true, not-false}
 use Rattle.luck_text.specs.Bytes.{byte_at}
 use mathlib.Core.List.{List}
 use mathlib.Core.Logic.{⊎_elim}

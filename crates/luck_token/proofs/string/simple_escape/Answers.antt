@@ -1,5 +1,4 @@
 -- `luck_token::string::simple_escape` meets its contract.
-use mathlib.Core.Path.{◌≡◌}
 use native.Mathlib.Omega.{arith}
 use borrow.Author.Tests.{ne_eqb}
 use Rattle.luck_text.specs.Bytes.{if◌then◌else◌}

@@ -8,7 +8,6 @@ use Rattle.luck_text.specs.Bytes.{byte_at, is_xdigit, run}
 use Rattle.luck_text.proofs.Bytes.{run_inside}
 use Rattle.luck_text.proofs.Cases.{present}
 use Rattle.luck_token.proofs.Literals.{exact, allowed_small, allowed_some, in_width, no_open, no_close, no_code_point, code_point}
-use borrow.Author.Rules.{rules}
 use Rattle.luck_token.proofs.string.unicode_escape.Goals as goal
 
 -- after the opening brace, the digits lie in the text

@@ -1,16 +1,10 @@
 -- `luck_token::string::write` meets its contract. The invariant has the bytes so far, which the output holds if they fit. A turn that passes over
 -- blocks may leave `at` where it was, but sets `singles`; any other turn moves `at` on.
 use mathlib.Core.Path.{◌≡◌, refl, sym, subst, ◌∙◌}
-use Prim.Native.Nat.{ℕ, ◌+◌, ◌*◌, ◌-◌, ◌≤◌}
+use Prim.Native.Nat.{◌+◌}
 use native.Mathlib.Omega.{arith}
-use mathlib.Core.List.{List, []}
-use lib.ListN.{length}
-use Rattle.luck_token.specs.Literal.{piece, piece_at}
-use Rattle.luck_token.specs.Inner.{IsPiece, LiesInText}
-use Rattle.luck_token.specs.declared.string.Piece.{Piece}
+use mathlib.Core.List.{[]}
 use Rattle.luck_token.proofs.Values as values
-use Rattle.luck_output.specs.Output.{stores}
-use borrow.Author.Rules.{rules}
 use Rattle.luck_token.proofs.string.write.Goals as goal
 
 pub loop-at-init : goal.loop-at-init

@@ -1,7 +1,5 @@
 -- `luck_token::whitespace::line_break` meets its contract.
-use mathlib.Core.Path.{◌≡◌}
 use native.Mathlib.Omega.{arith}
-use Prim.Native.Nat.{ℕ}
 use lib.Dec.{eqb}
 use Rattle.luck_text.specs.Bytes.{byte_at}
 use Rattle.luck_text.proofs.Cases.{bit}

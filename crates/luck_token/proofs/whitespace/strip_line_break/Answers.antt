@@ -4,7 +4,6 @@ use native.Mathlib.Omega.{arith}
 use Rattle.luck_token.specs.Whitespace.{strip_line_break}
 use Rattle.luck_token.proofs.Breaks as breaks
 use Rattle.luck_token.proofs.Literals.{stripped}
-use borrow.Author.Rules.{rules}
 use Rattle.luck_token.proofs.whitespace.strip_line_break.Goals as goal
 
 pub slice_bounds-result-count : goal.slice_bounds-result-count
