@@ -3,7 +3,7 @@
 -- Assumes nothing.
 use Rattle.std.specs.Prelude.{ℕ, ◌≡◌, refl, Bool, true, false, ◌&&◌, List, [], ◌∷◌, ◌++◌, length, replicate}
 use Prim.Native.Char.{code}
-use Rattle.luck_text.specs.Bytes.{ascii, if◌then◌else◌, among}
+use Rattle.luck_text.specs.Bytes.{ascii, among}
 use Rattle.luck_answer.specs.Answer.{refused}
 use Rattle.luck_linter.specs.Computed.{computed as checks_computed}
 use Rattle.luck_line.specs.Line.{line_numbers, two_digits, capture_columns, check_with, head_check, body_answer, line_answer}

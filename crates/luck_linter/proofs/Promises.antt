@@ -12,7 +12,7 @@ use mathlib.Core.Option.{Option, none, some}
 use lib.ListN.{length}
 use lib.Dec.{eqb, leb}
 use borrow.Author.Tests.{leb-true, eqb-true}
-use Rattle.luck_text.specs.Bytes.{if◌then◌else◌, byte_at, among}
+use Rattle.luck_text.specs.Bytes.{if◌then◌else◌, byte_at}
 use Rattle.luck_text.proofs.Cases.{by_test, if_true, if_false, and_left, and_right}
 use Rattle.luck_utf8.specs.Utf8.{ill_formed, is_char, utf8_bytes}
 use Rattle.luck_utf8.proofs.Parts.{between_ascii}

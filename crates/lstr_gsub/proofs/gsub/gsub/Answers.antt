@@ -3,7 +3,6 @@ use mathlib.Core.Path.{sym, ap, ◌∙◌}
 use lib.ListN.{length}
 use Rattle.lstr_gsub.specs.Gsub.{output_after, report}
 use Rattle.lstr_gsub.proofs.Rounds as rounds
-use borrow.Author.Rules.{rules}
 use Rattle.lstr_gsub.proofs.gsub.gsub.Goals as goal
 use Rattle.lstr_gsub.proofs.gsub.gsub.Goals.{then-pattern-gt0+else-pattern-eq94, else-pattern-gt0}
 

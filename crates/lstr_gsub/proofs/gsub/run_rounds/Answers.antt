@@ -1,5 +1,4 @@
 -- `lstr_gsub::gsub::run_rounds` meets its contract. The invariant: the rounds from here are the whole answer. Assumes nothing.
-use Prim.Native.Nat.{◌-◌}
 use native.Mathlib.Omega.{arith}
 use mathlib.Core.Logic.{inl, inr}
 use Rattle.luck_pattern.specs.Items.{items}
@@ -80,7 +79,9 @@ returns-then-subject-place c =
     let l = c.rounds in
     let a = c.args in
     let o = c.attempt_at-attempt.ensures.0 in
-    rounds.reported a.output.now l.written l.output 0 0 _ _ _ l.invariant.upto (rounds.all_copied (class_in a.classes.now) a.subject.now a.budget a.is_strict a.replacement.now (items a.pattern.now 0) a.output.now l.place l.after_last l.written l.replacements l.steps l.output l.invariant c.attempt_at-attempt.result _ o c.if-attempt-gt1.false (elim c.if-attempt-eq0.branch [ then-attempt-eq0+else-end-after_last w ↦ inr w.if-end-after_last.false | else-attempt-eq0 w ↦ inl w.if-attempt-eq0.false ]) c.if-subject-place.true)
+    rounds.reported a.output.now l.written l.output 0 0 _ _ _ l.invariant.upto (rounds.all_copied (class_in a.classes.now) a.subject.now a.budget a.is_strict a.replacement.now (items a.pattern.now 0) a.output.now l.place l.after_last l.written l.replacements l.steps l.output l.invariant c.attempt_at-attempt.result _ o c.if-attempt-gt1.false
+    (elim c.if-attempt-eq0.branch [ then-attempt-eq0+else-end-after_last w ↦ inr w.if-end-after_last.false | else-attempt-eq0 w ↦ inl w.if-attempt-eq0.false ])
+    c.if-subject-place.true)
 
 pub shape_of-output-then-output-written : goal.shape_of-output-then-output-written
 shape_of-output-then-output-written c = c.rounds.invariant.upto.same
@@ -90,7 +91,9 @@ returns-then-output-written c =
     let l = c.rounds in
     let a = c.args in
     let o = c.attempt_at-attempt.ensures.0 in
-    rounds.reported a.output.now l.written l.output 26 0 _ _ _ l.invariant.upto (rounds.copy_full (class_in a.classes.now) a.subject.now a.budget a.is_strict a.replacement.now (items a.pattern.now 0) a.output.now l.place l.after_last l.written l.replacements l.steps l.output l.invariant c.attempt_at-attempt.result _ o c.if-attempt-gt1.false (elim c.if-attempt-eq0.branch [ then-attempt-eq0+else-end-after_last w ↦ inr w.if-end-after_last.false | else-attempt-eq0 w ↦ inl w.if-attempt-eq0.false ]) c.if-subject-place.false (omega (arith, c.if-output-written.true, l.invariant.upto.same)))
+    rounds.reported a.output.now l.written l.output 26 0 _ _ _ l.invariant.upto (rounds.copy_full (class_in a.classes.now) a.subject.now a.budget a.is_strict a.replacement.now (items a.pattern.now 0) a.output.now l.place l.after_last l.written l.replacements l.steps l.output l.invariant c.attempt_at-attempt.result _ o c.if-attempt-gt1.false
+    (elim c.if-attempt-eq0.branch [ then-attempt-eq0+else-end-after_last w ↦ inr w.if-end-after_last.false | else-attempt-eq0 w ↦ inl w.if-attempt-eq0.false ])
+    c.if-subject-place.false (omega (arith, c.if-output-written.true, l.invariant.upto.same)))
 
 pub overflow_add-written : goal.overflow_add-written
 overflow_add-written c = omega (arith, c.rounds.invariant.upto.same, c.if-output-written.false)
@@ -111,4 +114,6 @@ rounds-preserved c =
     let l = c.rounds in
     let a = c.args in
     let o = c.attempt_at-attempt.ensures.0 in
-    rounds.copy_goes (class_in a.classes.now) a.subject.now a.budget a.is_strict a.replacement.now (items a.pattern.now 0) a.output.now l.place l.after_last l.written l.replacements l.steps l.output l.invariant c.attempt_at-attempt.result _ o c.if-attempt-gt1.false (elim c.if-attempt-eq0.branch [ then-attempt-eq0+else-end-after_last w ↦ inr w.if-end-after_last.false | else-attempt-eq0 w ↦ inl w.if-attempt-eq0.false ]) c.if-subject-place.false (omega (arith, c.if-output-written.false, l.invariant.upto.same))
+    rounds.copy_goes (class_in a.classes.now) a.subject.now a.budget a.is_strict a.replacement.now (items a.pattern.now 0) a.output.now l.place l.after_last l.written l.replacements l.steps l.output l.invariant c.attempt_at-attempt.result _ o c.if-attempt-gt1.false
+    (elim c.if-attempt-eq0.branch [ then-attempt-eq0+else-end-after_last w ↦ inr w.if-end-after_last.false | else-attempt-eq0 w ↦ inl w.if-attempt-eq0.false ])
+    c.if-subject-place.false (omega (arith, c.if-output-written.false, l.invariant.upto.same))

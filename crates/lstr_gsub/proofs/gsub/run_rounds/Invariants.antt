@@ -1,6 +1,5 @@
 -- `lstr_gsub::gsub::run_rounds` meets its contract. The invariant: the rounds from here are the whole answer. Assumes nothing.
 use Prim.Native.Nat.{◌-◌}
-use native.Mathlib.Omega.{arith}
 use Rattle.luck_pattern.specs.Items.{items}
 use Rattle.lstr_class.specs.Inner.{class_in}
 use Rattle.lstr_gsub.proofs.Rounds as rounds

@@ -1,12 +1,7 @@
 -- `lstr_write::replace::add_pieces` meets its contract. The invariant: the pieces from here, behind what is written, make the whole writing. Assumes nothing.
-use Prim.Native.Nat.{◌+◌, ◌-◌}
-use native.Mathlib.Omega.{arith}
-use mathlib.Core.Path.{refl, ◌∙◌}
-use lib.ListN.{length, get_or, take}
-use Rattle.luck_replacement.specs.Replacement.{literal, escaped}
-use Rattle.lstr_write.specs.Replace.{add_piece}
+use Prim.Native.Nat.{◌-◌}
+use lib.ListN.{length}
 use Rattle.lstr_item.specs.Inner.{captures_in}
-use Rattle.lstr_write.proofs.Outputs as outputs
 use Rattle.lstr_write.proofs.Replaced as replaced
 use Rattle.lstr_write.proofs.replace.add_pieces.Given as goal
 

@@ -1,9 +1,7 @@
 -- `lstr_write::replace::append` meets its contract. The invariant: the bytes left, behind what is written, make the whole writing. Assumes nothing.
-use Prim.Native.Nat.{ℕ, ◌+◌, ◌-◌, ◌≤◌}
-use native.Mathlib.Omega.{arith}
-use mathlib.Core.Path.{◌≡◌, refl, sym, ap, ◌∙◌}
-use mathlib.Core.List.{List}
-use lib.ListN.{length, get_or, take, drop}
+use Prim.Native.Nat.{◌-◌, ◌≤◌}
+use mathlib.Core.Path.{◌≡◌}
+use lib.ListN.{length, take, drop}
 use Rattle.lstr_write.specs.Replace.{append}
 use Rattle.lstr_write.proofs.Outputs as outputs
 use Rattle.lstr_write.proofs.replace.append.Given as goal

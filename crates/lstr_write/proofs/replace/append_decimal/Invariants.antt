@@ -1,11 +1,4 @@
 -- `lstr_write::replace::append_decimal` meets its contract. The invariant: the digits written and those of the number left make the whole. Assumes nothing.
-use Prim.Native.Nat.{ℕ}
-use native.Mathlib.Omega.{arith}
-use mathlib.Core.Path.{refl, ap}
-use mathlib.Core.List.{List}
-use lib.ListN.{length, take}
-use Rattle.lstr_write.specs.Replace.{append}
-use Rattle.lstr_write.proofs.Outputs as outputs
 use Rattle.lstr_write.proofs.Decimals as decimals
 use Rattle.lstr_write.proofs.replace.append_decimal.Given as goal
 

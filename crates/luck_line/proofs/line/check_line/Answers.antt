@@ -23,6 +23,6 @@ returns c =
     let digit = sym c.is_in.ensures in
     c.refused-2.ensures
     ∙ elim c.if-is_in.branch [
-      then-is_in+else-line-eq32 w ↦ heads.not_a_space _ short (digit ∙ w.if-is_in.true) w.if-line-eq32.false
+      | then-is_in+else-line-eq32 w ↦ heads.not_a_space _ short (digit ∙ w.if-is_in.true) w.if-line-eq32.false
       | else-is_in w ↦ heads.not_a_digit _ short (digit ∙ w.if-is_in.false)
     ]

@@ -1,8 +1,7 @@
 -- `luck_lines::buffer::keep` meets its contract. Assumes nothing.
-use mathlib.Core.Path.{◌≡◌, refl, ◌∙◌}
+use mathlib.Core.Path.{refl, ◌∙◌}
 use native.Mathlib.Omega.{arith}
-use Prim.Native.Nat.{◌+◌, ◌-◌, ◌≤◌}
-use lib.ListN.{length, take, drop, length-set}
+use lib.ListN.{length-set}
 use Rattle.luck_lines.proofs.Buffers as buffers
 use Rattle.luck_lines.proofs.buffer.keep.Goals as goal
 

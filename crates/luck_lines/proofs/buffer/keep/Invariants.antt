@@ -1,9 +1,7 @@
 -- `luck_lines::buffer::keep` meets its contract. Assumes nothing.
-use mathlib.Core.Path.{◌≡◌, refl, ◌∙◌}
-use native.Mathlib.Omega.{arith}
+use mathlib.Core.Path.{◌≡◌}
 use Prim.Native.Nat.{◌+◌, ◌-◌, ◌≤◌}
-use lib.ListN.{length, take, drop, length-set}
-use Rattle.luck_lines.proofs.Buffers as buffers
+use lib.ListN.{length, take, drop}
 use Rattle.luck_lines.proofs.buffer.keep.Given as goal
 
 abbrev pub invariant-loop-from : goal.invariant-loop-from

@@ -1,10 +1,9 @@
 -- `luck_lines::stream::feed` meets its contract. The invariant: from here the call gives the whole answer. Assumes nothing.
-use mathlib.Core.Path.{◌≡◌, refl, sym, ◌∙◌}
+use mathlib.Core.Path.{refl, sym, ◌∙◌}
 use native.Mathlib.Omega.{arith}
-use Prim.Native.Nat.{◌-◌, ◌≤◌}
-use lib.ListN.{length, take, drop}
+use lib.ListN.{length, take}
 use lib.Seq.{length-take-le}
-use Rattle.luck_lines.specs.Stream.{feed_state, feed}
+use Rattle.luck_lines.specs.Stream.{feed_state}
 use Rattle.luck_lines.proofs.Streams as streams
 use borrow.Author.Rules.{rules}
 use Rattle.luck_lines.proofs.stream.feed.Goals as goal

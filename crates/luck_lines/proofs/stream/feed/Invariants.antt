@@ -1,9 +1,7 @@
 -- `luck_lines::stream::feed` meets its contract. The invariant: from here the call gives the whole answer. Assumes nothing.
-use mathlib.Core.Path.{◌≡◌, refl, sym, ◌∙◌}
-use native.Mathlib.Omega.{arith}
+use mathlib.Core.Path.{◌≡◌}
 use Prim.Native.Nat.{◌-◌, ◌≤◌}
 use lib.ListN.{length, take, drop}
-use lib.Seq.{length-take-le}
 use Rattle.luck_lines.specs.Stream.{feed_state, feed}
 use Rattle.luck_lines.proofs.Streams as streams
 use Rattle.luck_lines.proofs.stream.feed.Given as goal

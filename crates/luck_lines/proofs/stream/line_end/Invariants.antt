@@ -1,10 +1,8 @@
 -- `luck_lines::stream::line_end` meets its contract. Assumes nothing.
 use mathlib.Core.Path.{◌≡◌}
-use native.Mathlib.Omega.{arith}
 use Prim.Native.Nat.{◌+◌, ◌-◌, ◌≤◌}
 use lib.ListN.{length, drop}
 use Rattle.luck_lines.specs.Stream.{line_length}
-use Rattle.luck_lines.proofs.Streams as streams
 use Rattle.luck_lines.proofs.stream.line_end.Given as goal
 
 abbrev pub invariant-loop-end : goal.invariant-loop-end

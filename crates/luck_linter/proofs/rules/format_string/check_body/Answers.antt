@@ -4,7 +4,6 @@ use Rattle.luck_linter.specs.Checks.{walk_of}
 use Rattle.luck_linter.specs.StringLiteral.{with_span}
 use Rattle.luck_linter.specs.Inner.{is_some, is_numeric}
 use Rattle.luck_linter.proofs.StringLiterals as laws
-use borrow.Author.Rules.{rules}
 use Rattle.luck_linter.proofs.rules.format_string.check_body.Goals as goal
 
 pub returns-in-Nothing : goal.returns-in-Nothing

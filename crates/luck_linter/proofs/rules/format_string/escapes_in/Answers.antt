@@ -1,10 +1,8 @@
 -- `luck_linter::rules::format_string::escapes_in` meets its contract. The invariant: whether an escape that spells a byte by its number stands from here
 -- on is the whole answer, and the body has a backslash where one was met or stands from here on. Assumes nothing.
-use mathlib.Core.Path.{◌≡◌, sym, ◌∙◌}
-use Prim.Native.Nat.{◌+◌, ◌-◌, ◌≤◌}
+use mathlib.Core.Path.{sym, ◌∙◌}
+use Prim.Native.Nat.{◌+◌}
 use native.Mathlib.Omega.{arith}
-use lib.ListN.{length}
-use Rattle.luck_linter.specs.StringLiteral.{has_numeric_escape}
 use Rattle.luck_linter.proofs.StringLiterals as laws
 use Rattle.luck_linter.proofs.rules.format_string.escapes_in.Goals as goal
 

@@ -1,6 +1,6 @@
 -- `luck_linter::rules::format_string::span_at` meets its contract. Assumes nothing.
 use mathlib.Core.Path.{ap, ◌∙◌}
-use Prim.Native.Nat.{◌+◌, ◌-◌}
+use Prim.Native.Nat.{◌+◌}
 use Rattle.luck_token.specs.Span.{span_of, shifted_by}
 use Rattle.luck_utf8.specs.Utf8.{char_at}
 use Rattle.luck_token.specs.declared.span.Span.{Span}
