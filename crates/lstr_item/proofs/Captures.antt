@@ -1,4 +1,4 @@
--- Laws of captures: the code's pairs as the list of captures, where they lie, the one to close, a back_reference, and what is kept of them.
+-- Laws of captures: the code's pairs as the list of captures, where they lie, the one to close, a back-reference, and what is kept of them.
 -- Assumes nothing.
 use Prim.Native.Nat.{ℕ, zero, suc, ◌+◌, ◌-◌, ◌*◌, ◌<◌, ◌≤◌}
 use native.Mathlib.Omega.{arith}

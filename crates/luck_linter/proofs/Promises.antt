@@ -158,7 +158,7 @@ module _ (version : ℕ) (known : is_version version ≡ true) (text : List ℕ)
   tested : (walked : Answer) → check_text version text walked ≡ refused 23 place
   tested walked = sym (text_ill_formed version text walked known place (sym e))
 
-  -- every check of a body answers 23 at its first ill_formed_lem sequence,
+  -- every check of a body answers 23 at its first ill-formed sequence,
   pub ill_formed_checked : (check : Check) → answer check version text ≡ refused 23 place
   ill_formed_checked check = whole_check check version text ∙ tested (walk_of check (rules_of version) text)
 

@@ -21,7 +21,7 @@ head_of b =
 
 -- the switch on the byte after a `%`
 pub data Escape : Type 0 where
-  esc_digit : ℕ → Escape  -- a back_reference
+  esc_digit : ℕ → Escape  -- a back-reference
   esc_balance esc_frontier esc_other esc_end : Escape
 
 unfoldable pub escape_of : ℕ → Escape
