@@ -34,7 +34,7 @@ pub record PlacedElement : Type 0 where
 abbrev pub ◌at◌ : Element → ℕ → PlacedElement
 ◌at◌ x q = record { place = q; element = x }
 
--- the elements from place q up to the closing `]` at place e; n is at least the bytes between (`placed_at_lem` takes it
+-- the elements from place q up to the closing `]` at place e; n is at least the bytes between (`placed_at` takes it
 -- away)
 unfoldable pub placed_from : List ℕ → ℕ → ℕ → ℕ → List PlacedElement
 placed_from pat e zero q = []
