@@ -1,5 +1,6 @@
 pub mod Attempts
 pub mod Forward
+pub mod Onward
 pub mod WellFormed
 pub mod Sound
 pub mod Accepted
