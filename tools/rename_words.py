@@ -78,6 +78,9 @@ def defined():
                 names.add(m.group(1))
             for m in re.finditer(r"\blet ([^\s:(){}.,;]+) ", line):
                 names.add(m.group(1))
+    for path in glob.glob("crates/*/src/**/*.rt", recursive=True):
+        for line in re.findall(r"^ghost use .*$", open(path, encoding="utf-8").read(), re.M):
+            names.update(re.findall(r" as ([^\s{},;]+)[,}]", line))
     return names, fields
 
 
