@@ -78,6 +78,9 @@ def defined():
                 names.add(m.group(1))
             for m in re.finditer(r"\blet ([^\s:(){}.,;]+) ", line):
                 names.add(m.group(1))
+    for path in glob.glob("crates/*/src/**/*.rt", recursive=True):
+        for line in re.findall(r"^ghost use .*$", open(path, encoding="utf-8").read(), re.M):
+            names.update(re.findall(r" as ([^\s{},;]+)[,}]", line))
     return names, fields
 
 
@@ -113,6 +116,17 @@ def renamed(text, names, fields, kept):
     return "".join(out) + text[last:]
 
 
+def choices(text):
+    """`if .. then .. else ..` is a word of the library today, so that of luck_text, which is opaque, is `when .. then .. else ..`."""
+    out = []
+    for line in text.split("\n"):
+        cut = re.search(r"(^|\s)--(\s|$)", line)
+        code, comment = (line[: cut.start()], line[cut.start() :]) if cut else (line, "")
+        code = re.sub(r"(?<![\w'.-])if(?![\w'-])", "when", code)
+        out.append((code + comment).replace("if◌then◌else◌", "when◌then◌else◌"))
+    return "\n".join(out)
+
+
 def main():
     write = "--write" in sys.argv
     names, fields = defined()
@@ -134,6 +148,10 @@ def main():
             new = "\n".join(renamed(l, names, fields, kept) if re.search(r"ghost use|requires|ensures|ghost", l) or re.search(r"[≡→≤×λ]", l) or re.match(r"        \(.*[a-z][A-Z]|        [a-zA-Z]+ \(.*[a-z][A-Z]", l) else l for l in lines)
         else:
             new = renamed(text, names, fields, kept)
+        if path.endswith(".antt"):
+            new = choices(new)
+        elif path.endswith(".edit") and ".antt" in text:
+            new = "\n".join(l if l.startswith("#") else choices(l) for l in new.split("\n"))
         if write and new != old:
             open(path, "w", encoding="utf-8").write(new)
     for words, paths in sorted(falls.items()):

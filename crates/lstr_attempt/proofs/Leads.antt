@@ -9,7 +9,7 @@ use mathlib.Core.List.{List, [], ◌∷◌}
 use lib.ListN.{length, get_or}
 use lib.Dec.{ltb}
 use borrow.Author.Tests.{lt-ltb, le-ltb}
-use Rattle.luck_text.specs.Bytes.{if◌then◌else◌}
+use Rattle.luck_text.specs.Bytes.{when◌then◌else◌}
 use Rattle.luck_text.proofs.Cases.{if_true, if_false, order}
 use Rattle.luck_pattern.specs.Items.{Single, Repeat, once, optional, star, plus, minus, repeat_width, Item, start_capture, position_capture, single, items}
 use Rattle.lstr_item.specs.Match.{Capture, Outcome, matched, failed, stopped, Rest, due, new_level, or_else, do_start_capture, Reach, reach, reached, longest_first, max_expand, fits_at, expand, match}
@@ -53,14 +53,14 @@ module _ (start len : ℕ) (h : positional ≤ len) (others : List Pair) where
 -- nothing stands in its way
 pub first_starts : (c : Capture) (cs : List Capture) → cs ≡ c ∷ [] → (rest : Rest) (s u : ℕ)
     → new_level 1 u (λ m. rest s m cs u) ≡ do_start_capture c rest s 1 [] u
-unfolding do_start_capture if◌then◌else◌
+unfolding do_start_capture when◌then◌else◌
 first_starts c cs e rest s u = ap (λ (x : List Capture). new_level 1 u (λ m. rest s m x u)) e
 
 -- ---- A repeat that ends the pattern
 
 end_or_spent : (b : Bool) (e : ℕ) (cs : List Capture) (u v : ℕ) (k : ℕ → Outcome)
-    → or_else (if b then matched e cs v else stopped 27 0 u) k ≡ (if b then matched e cs v else stopped 27 0 u)
-unfolding if◌then◌else◌ or_else
+    → or_else (when b then matched e cs v else stopped 27 0 u) k ≡ (when b then matched e cs v else stopped 27 0 u)
+unfolding when◌then◌else◌ or_else
 end_or_spent true e cs u v k = refl
 end_or_spent false e cs u v k = refl
 
@@ -82,7 +82,7 @@ module _ (in_class : ℕ → ℕ → Bool) (sub : List ℕ) (budget : ℕ) where
   end_not_failed e l cs u k = end_or_spent (ltb u budget) e cs u (u + 1) k
 
   longest_is : (e s : ℕ) (cs : List Capture) (u : ℕ) → s ≤ e → new_level 1 u (λ m. ending e m cs u) ≡ longest_first ending (e - s) s 1 cs u
-  unfolding new_level if◌then◌else◌
+  unfolding new_level when◌then◌else◌
   longest_is e s cs u h =
       ⊎_elim
       (λ l. sym (end_not_failed e 2 cs u (λ v. longest_first ending (e - 1 - s) s 1 cs v)) ∙ repeats.longer ending e s 1 cs u l)
@@ -91,7 +91,7 @@ module _ (in_class : ℕ → ℕ → Bool) (sub : List ℕ) (budget : ℕ) where
 
   -- the longest repeat is taken
   longest_taken : (e s : ℕ) (cs : List Capture) (u : ℕ) → s ≤ e → ending e 2 cs u ≡ max_expand (reached e u) ending s 1 cs
-  unfolding new_level if◌then◌else◌ max_expand
+  unfolding new_level when◌then◌else◌ max_expand
   longest_taken e s cs u h = longest_is e s cs u h
 
   -- what the code's reach makes of it
@@ -190,7 +190,7 @@ module _ (pat : List ℕ) where
 -- a new level below none is the first
 pub first_level : (in_class : ℕ → ℕ → Bool) (sub : List ℕ) (budget : ℕ) (is : List Item) (s u : ℕ) (captures : Captures) → captures.count ≡ 0 → (o : Outcome)
     → o ≡ new_level 0 u (λ m. match in_class sub budget is s m (captures_of captures) u) → o ≡ match in_class sub budget is s 1 [] u
-unfolding new_level if◌then◌else◌ pairs_of
+unfolding new_level when◌then◌else◌ pairs_of
 first_level in_class sub budget is s u captures z o e = e ∙ ap (λ (n : ℕ). match in_class sub budget is s 1 (pairs_of n captures.pairs) u) z
 
 pub none_sound : (s : ℕ) (captures : Captures) → captures.count ≡ 0 → Sound s captures

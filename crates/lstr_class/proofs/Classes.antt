@@ -12,7 +12,7 @@ use lib.Bits.{bit_and, and_zero_l}
 use lib.ListN.{length, get_or-eq_default}
 use lib.Dec.{eqb, ltb, leb}
 use borrow.Author.Tests.{eq-eqb, ne_eqb, eqb-true, eqb-false, lt-ltb, le-ltb, ltb-true, ltb-false, lt-leb, leb-true}
-use Rattle.luck_text.specs.Bytes.{if◌then◌else◌, byte_at, is_digit, is_xdigit, is_lua_whitespace}
+use Rattle.luck_text.specs.Bytes.{when◌then◌else◌, byte_at, is_digit, is_xdigit, is_lua_whitespace}
 use Rattle.luck_text.proofs.Cases.{by_test, if_false, order, and_left, and_right}
 use Rattle.luck_text.proofs.Bytes.{above}
 use Rattle.lstr_class.specs.Class.{is_lower, is_upper, is_alpha, is_alnum, is_cntrl, is_graph, is_punct, to_lower, class_test, class_by, match_class, class_of}
@@ -103,17 +103,17 @@ rule bits test e high c =
     (λ h. high c h ∙ sym (ap (λ (m : ℕ). not (eqb (bit_and m bits) 0)) (high_mask c h) ∙ ap (λ (x : ℕ). not (eqb x 0)) (and_zero_l bits))) (order c 256)
 
 unfoldable by_bits : ℕ → ℕ → Option Bool
-by_bits bits c = if eqb bits 0 then none else some (marked bits c)
+by_bits bits c = when eqb bits 0 then none else some (marked bits c)
 
 -- two choices by the same test
-choice : {A B : Type 0} (f : A → B) (t : Bool) (x y : B) (u v : A) → x ≡ f u → y ≡ f v → (if t then x else y) ≡ f (if t then u else v)
-unfolding if◌then◌else◌
+choice : {A B : Type 0} (f : A → B) (t : Bool) (x y : B) (u v : A) → x ≡ f u → y ≡ f v → (when t then x else y) ≡ f (when t then u else v)
+unfolding when◌then◌else◌
 choice f true x y u v e d = e
 choice f false x y u v e d = d
 
 -- the rule of the masks, for every letter and every byte
 by_bits_lem : (letter c : ℕ) → class_test letter c ≡ by_bits (class_bits letter) c
-unfolding class_test class_bits by_bits if◌then◌else◌ mask_of bit is_lower is_upper is_alpha is_alnum is_cntrl is_graph is_punct is_lua_whitespace is_digit is_xdigit
+unfolding class_test class_bits by_bits when◌then◌else◌ mask_of bit is_lower is_upper is_alpha is_alnum is_cntrl is_graph is_punct is_lua_whitespace is_digit is_xdigit
 by_bits_lem letter c =
     choice f (eqb letter (code "a")) _ _ _ _ (ap some (rule 36 is_alpha refl high_alpha c))
     (choice f (eqb letter (code "c")) _ _ _ _ (ap some (rule 1 is_cntrl refl high_cntrl c))
@@ -133,7 +133,7 @@ by_bits_lem letter c =
 -- ---- match_class
 
 no_letter : (letter : ℕ) → ((k : ℕ) → k ≤ 25 → letter ≡ code "a" + k → ⊥) → class_bits letter ≡ 0
-unfolding class_bits if◌then◌else◌
+unfolding class_bits when◌then◌else◌
 no_letter letter n =
     rw (no 0 refl, no 2 refl, no 3 refl, no 6 refl, no 11 refl, no 15 refl, no 18 refl, no 20 refl, no 22 refl, no 23 refl, no 25 refl)
   where
@@ -143,12 +143,12 @@ no_letter letter n =
 -- what `%` and the byte cl say of the byte c, by the bits of cl and the mask of c
 module _ (cl c : ℕ) where
   no_class : bits_of cl ≡ 0 → eqb cl c ≡ match_class cl c
-  unfolding match_class class_by bits_of by_bits if◌then◌else◌
+  unfolding match_class class_by bits_of by_bits when◌then◌else◌
   no_class z = rw (by_bits_lem (to_lower cl) c, eq-eqb (class_bits (to_lower cl)) 0 z)
 
   module _ (n : bits_of cl ≡ 0 → ⊥) where
     in_class : class_test (to_lower cl) c ≡ some (marked (bits_of cl) c)
-    unfolding bits_of by_bits if◌then◌else◌
+    unfolding bits_of by_bits when◌then◌else◌
     in_class = by_bits_lem (to_lower cl) c ∙ rw (ne_eqb (bits_of cl) 0 n)
 
     -- no byte below `a` is a small letter
@@ -161,11 +161,11 @@ module _ (cl c : ℕ) where
         go false e = absurd (n (ap class_bits (if_false (is_upper cl) (cl + 32) cl e) ∙ no_letter cl (λ k h d. omega arith)))
 
     small_class : code "a" ≤ cl → not (eqb (bit_and (mask_of c) (bits_of cl)) 0) ≡ match_class cl c
-    unfolding match_class class_by is_upper if◌then◌else◌
+    unfolding match_class class_by is_upper when◌then◌else◌
     small_class g = rw (in_class, above (code "A") (code "Z") cl (omega arith))
 
     capital_class : cl < code "a" → eqb (bit_and (mask_of c) (bits_of cl)) 0 ≡ match_class cl c
-    unfolding match_class class_by if◌then◌else◌
+    unfolding match_class class_by when◌then◌else◌
     capital_class l = rw (in_class, is_capital l) (twice (eqb (bit_and (mask_of c) (bits_of cl)) 0))
       where
         twice : (b : Bool) → b ≡ not (not b)
@@ -221,14 +221,14 @@ module _ (table : List ℕ) (t : are_classes table ≡ true) where
 
 module _ (table : List ℕ) (cl c bits : ℕ) (b : bits ≡ bits_in table cl) where
   pub bits_none : bits ≡ 0 → eqb cl c ≡ class_in table cl c
-  unfolding class_in if◌then◌else◌
+  unfolding class_in when◌then◌else◌
   bits_none z = rw (← b, eq-eqb bits 0 z)
 
   module _ (h : c < 256) (n : bits ≡ 0 → ⊥) where
     pub bits_capital : cl < code "a" → eqb (bit_and (byte_at table c) bits) 0 ≡ class_in table cl c
-    unfolding class_in if◌then◌else◌
+    unfolding class_in when◌then◌else◌
     bits_capital l = rw (← b, ne_eqb bits 0 n, lt-ltb cl (code "a") l, lt-ltb c 256 h)
 
     pub bits_small : code "a" ≤ cl → not (eqb (bit_and (byte_at table c) bits) 0) ≡ class_in table cl c
-    unfolding class_in if◌then◌else◌
+    unfolding class_in when◌then◌else◌
     bits_small g = rw (← b, ne_eqb bits 0 n, le-ltb cl (code "a") g, lt-ltb c 256 h)

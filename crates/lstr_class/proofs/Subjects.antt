@@ -8,7 +8,7 @@ use mathlib.Core.List.{List}
 use mathlib.Core.Option.{Option, none, some}
 use lib.ListN.{length}
 use borrow.Author.Tests.{lt-ltb, le-ltb, eq-eqb, ne_eqb}
-use Rattle.luck_text.specs.Bytes.{if◌then◌else◌, byte_at}
+use Rattle.luck_text.specs.Bytes.{when◌then◌else◌, byte_at}
 use Rattle.lstr_class.specs.Subject.{same_bytes, balance_end, match_balance, byte_before}
 
 -- ---- Equal parts: from the i-th of n bytes on
@@ -56,31 +56,31 @@ module _ (sub : List ℕ) (x y : ℕ) where
     byte_left = omega arith
 
     pub balance_ends : byte_at sub i ≡ y → d ≡ 1 → balance_from i d ≡ some (i + 1)
-    unfolding balance_end if◌then◌else◌
+    unfolding balance_end when◌then◌else◌
     balance_ends e f = rw (byte_left, eq-eqb (byte_at sub i) y e, eq-eqb d 1 f)
 
     pub balance_closes : byte_at sub i ≡ y → (d ≡ 1 → ⊥) → balance_from i d ≡ balance_from (i + 1) (d - 1)
-    unfolding balance_end if◌then◌else◌
+    unfolding balance_end when◌then◌else◌
     balance_closes e f = rw (byte_left, eq-eqb (byte_at sub i) y e, ne_eqb d 1 f)
 
     pub balance_opens : (byte_at sub i ≡ y → ⊥) → byte_at sub i ≡ x → balance_from i d ≡ balance_from (i + 1) (d + 1)
-    unfolding balance_end if◌then◌else◌
+    unfolding balance_end when◌then◌else◌
     balance_opens e f = rw (byte_left, ne_eqb (byte_at sub i) y e, eq-eqb (byte_at sub i) x f)
 
     pub balance_passes : (byte_at sub i ≡ y → ⊥) → (byte_at sub i ≡ x → ⊥) → balance_from i d ≡ balance_from (i + 1) d
-    unfolding balance_end if◌then◌else◌
+    unfolding balance_end when◌then◌else◌
     balance_passes e f = rw (byte_left, ne_eqb (byte_at sub i) y e, ne_eqb (byte_at sub i) x f)
 
   pub no_byte : (s : ℕ) → length sub ≤ s → match_balance sub x y s ≡ none
-  unfolding match_balance if◌then◌else◌
+  unfolding match_balance when◌then◌else◌
   no_byte s h = rw (le-ltb s (length sub) h)
 
   pub other_byte : (s : ℕ) → s < length sub → (byte_at sub s ≡ x → ⊥) → match_balance sub x y s ≡ none
-  unfolding match_balance if◌then◌else◌
+  unfolding match_balance when◌then◌else◌
   other_byte s h e = rw (lt-ltb s (length sub) h, ne_eqb (byte_at sub s) x e)
 
   pub balance_starts : (s : ℕ) → s < length sub → byte_at sub s ≡ x → match_balance sub x y s ≡ balance_from (s + 1) 1
-  unfolding match_balance if◌then◌else◌
+  unfolding match_balance when◌then◌else◌
   balance_starts s h e = rw (lt-ltb s (length sub) h, eq-eqb (byte_at sub s) x e)
 
 -- ---- The byte before a place

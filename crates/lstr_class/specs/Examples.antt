@@ -3,7 +3,7 @@
 -- Assumes nothing.
 use Rattle.std.specs.Prelude.{ℕ, zero, suc, ◌≡◌, refl, Bool, List, [], ◌∷◌, ◌++◌}
 use Prim.Native.Char.{code}
-use Rattle.luck_text.specs.Bytes.{if◌then◌else◌, ascii}
+use Rattle.luck_text.specs.Bytes.{when◌then◌else◌, ascii}
 use Rattle.lstr_class.specs.Class.{match_class}
 use Rattle.lstr_class.specs.Computed.{computed}
 
@@ -14,7 +14,7 @@ from b (suc n) = b ∷ from (suc b) n
 
 abbrev filtered : (ℕ → Bool) → List ℕ → List ℕ
 filtered test [] = []
-filtered test (b ∷ bytes) = let more = filtered test bytes in if test b then b ∷ more else more
+filtered test (b ∷ bytes) = let more = filtered test bytes in when test b then b ∷ more else more
 
 -- the bytes that fit `%` and this byte
 abbrev taken : ℕ → List ℕ

@@ -5,7 +5,7 @@ use Rattle.std.specs.Prelude.{ℕ, ◌+◌, ◌<◌, ◌≤◌, Bool, true, fals
 use Prim.Native.Char.{code}
 use Rattle.std.proofs.Math.Option.{Option, none, some}
 use Rattle.std.specs.Int.Bits.{bit_and}
-use Rattle.luck_text.specs.Bytes.{if◌then◌else◌, byte_at, is_digit, is_xdigit, is_lua_whitespace}
+use Rattle.luck_text.specs.Bytes.{when◌then◌else◌, byte_at, is_digit, is_xdigit, is_lua_whitespace}
 use Rattle.lstr_class.specs.Class.{is_lower, is_upper, is_cntrl, is_punct, to_lower}
 use Rattle.lstr_class.specs.declared.subject.Found.{Found}
 use Rattle.lstr_class.specs.declared.subject.Found.TheVariants as found
@@ -51,17 +51,17 @@ mask_of c =
 -- the bits of the class that a small letter names, 0 where it names none
 unfoldable pub class_bits : ℕ → ℕ
 class_bits letter =
-    if eqb letter (code "a") then lower + upper
-    else if eqb letter (code "c") then cntrl
-    else if eqb letter (code "d") then digit
-    else if eqb letter (code "g") then digit + lower + punct + upper
-    else if eqb letter (code "l") then lower
-    else if eqb letter (code "p") then punct
-    else if eqb letter (code "s") then space
-    else if eqb letter (code "u") then upper
-    else if eqb letter (code "w") then digit + lower + upper
-    else if eqb letter (code "x") then xdigit
-    else if eqb letter (code "z") then zero_byte else 0
+    when eqb letter (code "a") then lower + upper
+    else when eqb letter (code "c") then cntrl
+    else when eqb letter (code "d") then digit
+    else when eqb letter (code "g") then digit + lower + punct + upper
+    else when eqb letter (code "l") then lower
+    else when eqb letter (code "p") then punct
+    else when eqb letter (code "s") then space
+    else when eqb letter (code "u") then upper
+    else when eqb letter (code "w") then digit + lower + upper
+    else when eqb letter (code "x") then xdigit
+    else when eqb letter (code "z") then zero_byte else 0
 
 -- and those of a letter, small or capital
 unfoldable pub bits_of : ℕ → ℕ
@@ -72,7 +72,7 @@ bits_of cl = class_bits (to_lower cl)
 -- it has the masks of the 256 bytes, then the bits of the class that each of them names. Numbers of 256 and more are no
 -- bytes: without the test they would read the second half as masks. Past the table bits_in reads 0
 abbrev pub mask_in : List ℕ → ℕ → ℕ
-mask_in table c = if ltb c 256 then byte_at table c else 0
+mask_in table c = when ltb c 256 then byte_at table c else 0
 
 abbrev pub bits_in : List ℕ → ℕ → ℕ
 bits_in table cl = byte_at table (256 + cl)
@@ -80,8 +80,8 @@ bits_in table cl = byte_at table (256 + cl)
 -- a byte without bits is itself; a capital, which stands before the small letters, is the complement
 abbrev pub by_mask : ℕ → ℕ → ℕ → ℕ → Bool
 by_mask bits mask cl c =
-    if eqb bits 0 then eqb cl c
-    else if ltb cl (code "a") then eqb (bit_and mask bits) 0 else not (eqb (bit_and mask bits) 0)
+    when eqb bits 0 then eqb cl c
+    else when ltb cl (code "a") then eqb (bit_and mask bits) 0 else not (eqb (bit_and mask bits) 0)
 
 -- the class test that a table stands for
 unfoldable pub class_in : List ℕ → ℕ → ℕ → Bool

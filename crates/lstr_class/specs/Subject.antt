@@ -4,7 +4,7 @@
 -- Assumes nothing.
 use Rattle.std.specs.Prelude.{ℕ, zero, suc, ◌+◌, ◌-◌, Bool, true, ◌&&◌, List, length, eqb, ltb}
 use Rattle.std.proofs.Math.Option.{Option, none, some}
-use Rattle.luck_text.specs.Bytes.{if◌then◌else◌, byte_at}
+use Rattle.luck_text.specs.Bytes.{when◌then◌else◌, byte_at}
 
 -- n bytes of the subject from place a and from place b on are the same
 unfoldable pub same_bytes : List ℕ → ℕ → ℕ → ℕ → Bool
@@ -18,13 +18,13 @@ balance_end sub x y (suc n) depth s =
     let closes = balance_end sub x y n (depth - 1) (s + 1) in
     let opens = balance_end sub x y n (depth + 1) (s + 1) in
     let passes = balance_end sub x y n depth (s + 1) in
-    if eqb (byte_at sub s) y then (if eqb depth 1 then some (s + 1) else closes)
-    else if eqb (byte_at sub s) x then opens else passes
+    when eqb (byte_at sub s) y then (when eqb depth 1 then some (s + 1) else closes)
+    else when eqb (byte_at sub s) x then opens else passes
 
 -- the x stands at s
 unfoldable pub match_balance : List ℕ → ℕ → ℕ → ℕ → Option ℕ
 match_balance sub x y s =
-    if ltb s (length sub) && eqb (byte_at sub s) x then balance_end sub x y (length sub - (s + 1)) 1 (s + 1) else none
+    when ltb s (length sub) && eqb (byte_at sub s) x then balance_end sub x y (length sub - (s + 1)) 1 (s + 1) else none
 
 -- the byte before s. A zero byte stands before the subject's first byte; after its last one byte_at gives a zero byte
 unfoldable pub byte_before : List ℕ → ℕ → ℕ

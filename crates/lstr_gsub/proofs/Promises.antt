@@ -8,7 +8,7 @@ use mathlib.Core.Bool.{Bool, true, false}
 use mathlib.Core.List.{List, [], ◌∷◌}
 use mathlib.Core.Option.{some}
 use lib.ListN.{length}
-use Rattle.luck_text.specs.Bytes.{if◌then◌else◌, among}
+use Rattle.luck_text.specs.Bytes.{when◌then◌else◌, among}
 use Rattle.luck_text.proofs.Bytes.{front_length}
 use Rattle.luck_token.specs.Version.{is_version, rules_of}
 use Rattle.luck_answer.specs.Answer.{accepted}
@@ -31,7 +31,7 @@ module _ (ranges : Bool) (v w n k : ℕ) (pat rep : List ℕ)
   -- the trials under any two of the six versions give the same answer, whole,
   pub same_answer : (sub output : List ℕ) (budget a b : ℕ) → is_version a ≡ true → is_version b ≡ true
       → gsub a pat rep sub budget (length output) ≡ gsub b pat rep sub budget (length output)
-  unfolding gsub class_of if◌then◌else◌
+  unfolding gsub class_of when◌then◌else◌
   same_answer sub output budget a b i j =
       let alike = writers_alike (some n) k rep sub (length output) a b (strict_accepted w (some n) rep k replacement_accepted not_51) in
       rw (i, j) (ap (λ write. str_gsub (class_of a) sub budget (length output) write pat) alike)

@@ -12,7 +12,7 @@ use lib.ListN.{length, take, drop, set, length-drop}
 use lib.Seq.{take_all}
 use lib.Dec.{ltb}
 use borrow.Author.Tests.{eq-eqb, ne_eqb, lt-ltb, le-ltb}
-use Rattle.luck_text.specs.Bytes.{if◌then◌else◌, byte_at}
+use Rattle.luck_text.specs.Bytes.{when◌then◌else◌, byte_at}
 use Rattle.luck_text.proofs.Cases.{if_true, if_false, order}
 use Rattle.luck_pattern.specs.Items.{Item, items}
 use Rattle.luck_token.specs.Version.{is_version, rules_of}
@@ -43,7 +43,7 @@ module _ (in_class : ℕ → ℕ → Bool) (sub : List ℕ) (budget room : ℕ) 
       → copy_byte sub room a s last out n v ≡ copy_byte sub room b s last out n v
   unfolding copy_byte
   copy_same a b s last out n v h =
-      ap (λ (k : List ℕ → TrialResult). if ltb s (length sub) then and_wrote (append room (byte_at sub s ∷ []) out) n v k else result 0 0 out n v)
+      ap (λ (k : List ℕ → TrialResult). when ltb s (length sub) then and_wrote (append room (byte_at sub s ∷ []) out) n v k else result 0 0 out n v)
       (fun_ext (λ now. h (s + 1) last now n))
 
   round_same : (a b : Rounds) (o : Outcome) (s u : ℕ) (last : Option ℕ) (out : List ℕ) (n : ℕ) → Onward in_class sub budget s (u + 1) o
@@ -53,7 +53,7 @@ module _ (in_class : ℕ → ℕ → Bool) (sub : List ℕ) (budget room : ℕ) 
   round_same a b (failed v) s u last out n p h = copy_same a b s last out n v (h v p.ends.0 p.ends.1)
   round_same a b (matched e cs v) s u last out n p h =
       let g = h v p.ends.1.0 p.ends.1.1 in
-      ap₂ (λ (again : TrialResult) (k : List ℕ → TrialResult). if ends_again e last then again else and_wrote (write s e cs out) (n + 1) v k)
+      ap₂ (λ (again : TrialResult) (k : List ℕ → TrialResult). when ends_again e last then again else and_wrote (write s e cs out) (n + 1) v k)
       (copy_same a b s last out n v g)
       (fun_ext (λ now. g e (some e) now (n + 1)))
 

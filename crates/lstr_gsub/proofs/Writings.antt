@@ -10,7 +10,7 @@ use mathlib.Core.Option.{Option, some}
 use lib.ListN.{length, get_or}
 use lib.Dec.{eqb, leb}
 use borrow.Author.Tests.{eqb-false, leb-true, leb-false}
-use Rattle.luck_text.specs.Bytes.{if◌then◌else◌, part, among}
+use Rattle.luck_text.specs.Bytes.{when◌then◌else◌, part, among}
 use Rattle.luck_token.specs.Version.{is_version, versions, has, rules_of}
 use Rattle.luck_text.proofs.Cases.{by_test, and_left, and_right}
 use Rattle.luck_token.specs.Text.{after_version, after_text}
@@ -67,8 +67,8 @@ module _ (version : ℕ) (count : Option ℕ) (rep : List ℕ) (k : ℕ) (ok : c
 -- ---- What an accepted walk says of each piece
 
 module _ (k : ℕ) where
-  if_refused : (b : Bool) (x : Answer) (number offset : ℕ) → 0 < number → (if b then refused number offset else x) ≡ accepted k → (b ≡ false) × (x ≡ accepted k)
-  unfolding if◌then◌else◌
+  if_refused : (b : Bool) (x : Answer) (number offset : ℕ) → 0 < number → (when b then refused number offset else x) ≡ accepted k → (b ≡ false) × (x ≡ accepted k)
+  unfolding when◌then◌else◌
   if_refused true x number offset h e = refused_accepted (refused number offset) k e h
   if_refused false x number offset h e = (refl, e)
 
@@ -133,7 +133,7 @@ module _ (sub : List ℕ) (room s e : ℕ) (cs : List Capture) (n : ℕ) (all : 
 module _ (sub : List ℕ) (room s e : ℕ) (cs : List Capture) (count : Option ℕ) (k : ℕ) where
   pieces_alike : (a b : Bool) (ps : List Piece) (p : ℕ) → pieces_walk true count ps p ≡ accepted k → (out : List ℕ)
       → add_pieces sub room s e cs a ps out ≡ add_pieces sub room s e cs b ps out
-  unfolding pieces_walk add_pieces add_piece if◌then◌else◌
+  unfolding pieces_walk add_pieces add_piece when◌then◌else◌
   pieces_alike a b [] p ok out = refl
   pieces_alike a b (literal x ∷ ps) p ok out = ap (and_then (append room (x ∷ []) out)) (fun_ext (pieces_alike a b ps (p + 1) ok))
   pieces_alike a b (digit d ∷ ps) p ok out =

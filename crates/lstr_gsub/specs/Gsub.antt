@@ -4,7 +4,7 @@
 use Rattle.std.specs.Prelude.{ℕ, zero, suc, ◌+◌, ◌-◌, Bool, false, List, [], ◌∷◌, length, drop, eqb, ltb}
 use Prim.Native.Char.{code}
 use Rattle.std.proofs.Math.Option.{Option, none, some}
-use Rattle.luck_text.specs.Bytes.{if◌then◌else◌, byte_at, in_front}
+use Rattle.luck_text.specs.Bytes.{when◌then◌else◌, byte_at, in_front}
 use Rattle.luck_token.specs.Version.{is_version, rules_of}
 use Rattle.luck_pattern.specs.Items.{Item, items}
 use Rattle.luck_replacement.specs.Replacement.{is_strict, pieces}
@@ -69,7 +69,7 @@ module _ (sub : List ℕ) (room : ℕ) where
   unfoldable pub copy_byte : Rounds → Rounds
   copy_byte next s last out n u =
       let on = and_wrote (append room (byte_at sub s ∷ []) out) n u (λ now. next (s + 1) last now n u) in
-      if ltb s (length sub) then on else result 0 0 out n u
+      when ltb s (length sub) then on else result 0 0 out n u
 
   -- the rest of the subject is copied
   unfoldable pub copy_rest : ℕ → List ℕ → ℕ → ℕ → TrialResult
@@ -83,7 +83,7 @@ module _ (sub : List ℕ) (room : ℕ) where
     round next (matched e cs u) s last out n =
         let on = and_wrote (write s e cs out) (n + 1) u (λ now. next e (some e) now (n + 1) u) in
         let again = copy_byte next s last out n u in
-        if ends_again e last then again else on
+        when ends_again e last then again else on
 
     -- the one attempt of an anchored pattern
     unfoldable pub anchored_round : Outcome → TrialResult
@@ -107,7 +107,7 @@ module _ (in_class : ℕ → ℕ → Bool) (sub : List ℕ) (budget room : ℕ) 
   str_gsub pat =
       let anchored = anchored_round sub room write (match in_class sub budget (items pat 1) 0 1 [] 0) in
       let all = rounds (items pat 0) 0 none [] 0 0 in
-      if eqb (byte_at pat 0) (code "^") then anchored else all
+      when eqb (byte_at pat 0) (code "^") then anchored else all
 
 -- the writer of a replacement, strict or not by document 01's row "strict replacement, checked date"
 unfoldable pub writer_of : ℕ → List ℕ → List ℕ → ℕ → Writer
@@ -117,7 +117,7 @@ writer_of version rep sub room s e cs out = add_pieces sub room s e cs (is_stric
 unfoldable pub gsub : ℕ → List ℕ → List ℕ → List ℕ → ℕ → ℕ → TrialResult
 gsub version pat rep sub budget room =
     let trial = str_gsub (class_of version) sub budget room (writer_of version rep sub room) pat in
-    if is_version version then trial else result 25 0 [] 0 0
+    when is_version version then trial else result 25 0 [] 0 0
 
 -- the code's answer
 abbrev pub report_of : Trial → Report

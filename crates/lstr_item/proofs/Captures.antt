@@ -1,4 +1,4 @@
--- Laws of captures: the code's pairs as the list of captures, where they lie, the one to close, a back_reference, and what is kept of them.
+-- Laws of captures: the code's pairs as the list of captures, where they lie, the one to close, a back-reference, and what is kept of them.
 -- Assumes nothing.
 use Prim.Native.Nat.{ℕ, zero, suc, ◌+◌, ◌-◌, ◌*◌, ◌<◌, ◌≤◌}
 use native.Mathlib.Omega.{arith}
@@ -12,7 +12,7 @@ use lib.ListN.{length, get_or, set, length-set, length-map}
 use lib.Seq.{get_or-set_same, get_or-set_other}
 use lib.Dec.{eqb, leb}
 use borrow.Author.Tests.{lt-ltb, le-ltb, le-leb, lt-leb, eq-eqb, ne_eqb}
-use Rattle.luck_text.specs.Bytes.{if◌then◌else◌}
+use Rattle.luck_text.specs.Bytes.{when◌then◌else◌}
 use Rattle.luck_text.proofs.Cases.{by_test, second_false, order}
 use Rattle.lstr_item.specs.Match.{Capture, opened, position, closed, start_of, is_finished, capture_to_close, Outcome, Rest, raised, failed, new_level, do_start_capture, do_end_capture, match_capture, do_back_reference}
 use Rattle.luck_pattern.specs.Captures.{open_by, latest_open}
@@ -31,15 +31,15 @@ all_pairs pairs e = sym (length-map pairs (pair.the_field).into) ∙ e
 
 module _ (start len : ℕ) where
   pub is_open : len ≡ unfinished → capture_of start len ≡ opened start
-  unfolding capture_of if◌then◌else◌
+  unfolding capture_of when◌then◌else◌
   is_open e = rw (eq-eqb len unfinished e)
 
   pub is_position : len ≡ positional → capture_of start len ≡ position start
-  unfolding capture_of if◌then◌else◌
+  unfolding capture_of when◌then◌else◌
   is_position e = rw (ne_eqb len unfinished (λ f. omega arith), eq-eqb len positional e)
 
   pub is_closed : (len ≡ unfinished → ⊥) → (len ≡ positional → ⊥) → capture_of start len ≡ closed start len
-  unfolding capture_of if◌then◌else◌
+  unfolding capture_of when◌then◌else◌
   is_closed e f = rw (ne_eqb len unfinished e, ne_eqb len positional f)
 
   pub start_of_lem : start_of (capture_of start len) ≡ start
@@ -49,7 +49,7 @@ module _ (start len : ℕ) where
       (λ _. by_test (λ c. start_of c ≡ start) (eqb len positional) _ _ (λ _. refl) (λ _. refl))
 
   stays_none : (len ≡ unfinished → ⊥) → open_by (is_finished (capture_of start len)) none ≡ none
-  unfolding capture_of if◌then◌else◌
+  unfolding capture_of when◌then◌else◌
   stays_none e =
       rw (ne_eqb len unfinished e)
       (by_test (λ c. open_by (is_finished c) none ≡ none) (eqb len positional) (position start) (closed start len) (λ _. refl) (λ _. refl))
@@ -184,11 +184,11 @@ module _ (c : Captures) (pairs : length c.pairs ≡ 32) (few : c.count ≤ 32) (
   goes_on cs = new_level l u (λ m. rest s m cs u)
 
   pub all_taken : (x : Capture) → 32 ≤ c.count → raised 8 u ≡ do_start_capture x rest s l (captures_of c) u
-  unfolding do_start_capture if◌then◌else◌
+  unfolding do_start_capture when◌then◌else◌
   all_taken x h = rw (pairs_length c.count c.pairs (omega arith), le-ltb c.count 32 h)
 
   one_left : (x : Capture) → c.count < 32 → do_start_capture x rest s l (captures_of c) u ≡ goes_on (captures_of c ++ (x ∷ []))
-  unfolding do_start_capture if◌then◌else◌
+  unfolding do_start_capture when◌then◌else◌
   one_left x h = rw (pairs_length c.count c.pairs (omega arith), lt-ltb c.count 32 h)
 
   pub starts_capture : (len : ℕ) → c.count < 32 → goes_on (captures_of (started c s len)) ≡ do_start_capture (capture_of s len) rest s l (captures_of c) u
@@ -213,12 +213,12 @@ module _ (sub : List ℕ) (n : ℕ) (pairs : List Pair) (d : ℕ) (rest : Rest) 
   referred = do_back_reference sub d rest s l (pairs_of n pairs) u
 
   pub no_digit : d ≡ 0 → raised 7 u ≡ referred
-  unfolding do_back_reference if◌then◌else◌
+  unfolding do_back_reference when◌then◌else◌
   no_digit e = rw (le-ltb 0 d (omega arith))
 
   module _ (few : n ≤ length pairs) (h : d ≡ 0 → ⊥) where
     pub no_capture : n ≤ d - 1 → raised 7 u ≡ referred
-    unfolding do_back_reference if◌then◌else◌
+    unfolding do_back_reference when◌then◌else◌
     no_capture k = rw (lt-ltb 0 d (omega arith), pairs_length n pairs few, lt-leb d n (omega arith))
 
     module _ (k : d - 1 < n) where
@@ -232,7 +232,7 @@ module _ (sub : List ℕ) (n : ℕ) (pairs : List Pair) (d : ℕ) (rest : Rest) 
       tried c = match_capture sub c rest s l (pairs_of n pairs) u
 
       found : referred ≡ tried (capture_of start len)
-      unfolding do_back_reference if◌then◌else◌
+      unfolding do_back_reference when◌then◌else◌
       found = rw (lt-ltb 0 d (omega arith), pairs_length n pairs few, le-leb d n (omega arith), pairs_get n pairs (d - 1) (opened 0) k few)
 
       pub refers_open : len ≡ unfinished → raised 7 u ≡ referred
@@ -248,15 +248,15 @@ module _ (sub : List ℕ) (n : ℕ) (pairs : List Pair) (d : ℕ) (rest : Rest) 
         refers_closed = found ∙ ap tried (is_closed start len e f)
 
         pub too_long : length sub - s < len → failed u ≡ referred
-        unfolding match_capture if◌then◌else◌
+        unfolding match_capture when◌then◌else◌
         too_long m = sym (refers_closed ∙ rw (lt-leb len (length sub - s) m))
 
         pub other_bytes : same_bytes sub len start s ≡ false → failed u ≡ referred
-        unfolding match_capture if◌then◌else◌
+        unfolding match_capture when◌then◌else◌
         other_bytes q = sym (refers_closed ∙ rw (second_false (leb len (length sub - s)) (same_bytes sub len start s) q))
 
         pub equal_bytes : len ≤ length sub - s → same_bytes sub len start s ≡ true → rest (s + len) l (pairs_of n pairs) u ≡ referred
-        unfolding match_capture if◌then◌else◌
+        unfolding match_capture when◌then◌else◌
         equal_bytes m q = sym (refers_closed ∙ rw (le-leb len (length sub - s) m, q))
 
 -- ---- What is kept: pair j at the places 2 j and 2 j + 1

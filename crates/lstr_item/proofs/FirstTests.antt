@@ -8,7 +8,7 @@ use mathlib.Core.List.{List}
 use mathlib.Core.Option.{Option, none, some}
 use lib.ListN.{length}
 use borrow.Author.Tests.{lt-ltb}
-use Rattle.luck_text.specs.Bytes.{if◌then◌else◌}
+use Rattle.luck_text.specs.Bytes.{when◌then◌else◌}
 use Rattle.luck_pattern.specs.Items.{Repeat, Item, start_capture, position_capture, end_capture}
 use Rattle.lstr_item.specs.Match.{Capture, opened, position, capture_to_close, failed, Rest, new_level, do_start_capture, do_end_capture, do_item}
 use Rattle.lstr_item.specs.Inner.{single_of, has_to_fit, Then, Single-then}
@@ -45,7 +45,7 @@ Opens count is_open i =
 module _ (count : ℕ) (is_open : Bool) where
   starts : (c : Capture) (rest : Rest) (s l : ℕ) (cs : List Capture) (u v : ℕ) → count < 32 → length cs ≤ count
       → ((ds : List Capture) → failed v ≡ new_level l u (λ m. rest s m ds u)) → failed v ≡ do_start_capture c rest s l cs u
-  unfolding do_start_capture if◌then◌else◌
+  unfolding do_start_capture when◌then◌else◌
   starts c rest s l cs u v h n f = rw (lt-ltb (length cs) 32 (omega arith)) (f _)
 
   pub opens_start : count < 32 → Opens count is_open start_capture

@@ -10,7 +10,7 @@ use mathlib.Core.Option.{Option, none, some}
 use lib.ListN.{length, get_or-eq_default}
 use lib.Dec.{eqb}
 use borrow.Author.Tests.{lt-ltb, le-ltb, eq-eqb, ne_eqb}
-use Rattle.luck_text.specs.Bytes.{if◌then◌else◌, byte_at, is_digit}
+use Rattle.luck_text.specs.Bytes.{when◌then◌else◌, byte_at, is_digit}
 use Rattle.luck_text.proofs.Cases.{by_test, if_true, if_false, both_true, first_false, second_false, present}
 use Rattle.luck_text.proofs.Bytes.{within, below, above}
 use Rattle.luck_text.proofs.Walk.{walk_end}
@@ -85,7 +85,7 @@ closed_by (fault a) = none
 
 module _ (pat : List ℕ) (p : ℕ) where
   closed_as_lem : (s : SetEnd) → closed_by (set_as false pat p s) ≡ closing_of s
-  unfolding set_as closed_as reversed_of if◌then◌else◌
+  unfolding set_as closed_as reversed_of when◌then◌else◌
   closed_as_lem (closes_at e) = let k : e + 1 - 1 ≡ e = omega arith in ap some k
   closed_as_lem (cut_at e) = refl
   closed_as_lem unclosed = refl
@@ -110,19 +110,19 @@ module _ (pat : List ℕ) (p : ℕ) where
 
 module _ (b : ℕ) where
   pub of_optional : b ≡ 63 → optional ≡ repeat_of b
-  unfolding repeat_of if◌then◌else◌
+  unfolding repeat_of when◌then◌else◌
   of_optional e = rw e
 
   pub of_star : b ≡ 42 → star ≡ repeat_of b
-  unfolding repeat_of if◌then◌else◌
+  unfolding repeat_of when◌then◌else◌
   of_star e = rw e
 
   pub of_plus : b ≡ 43 → plus ≡ repeat_of b
-  unfolding repeat_of if◌then◌else◌
+  unfolding repeat_of when◌then◌else◌
   of_plus e = rw e
 
   pub of_minus : b ≡ 45 → minus ≡ repeat_of b
-  unfolding repeat_of if◌then◌else◌
+  unfolding repeat_of when◌then◌else◌
   of_minus e = rw e
 
   pub of_once : (b ≡ 63 → ⊥) → (b ≡ 42 → ⊥) → (b ≡ 43 → ⊥) → (b ≡ 45 → ⊥) → once ≡ repeat_of b
@@ -130,7 +130,7 @@ module _ (b : ℕ) where
   of_once k l m n = sym (if_false _ _ _ (ne_eqb b 63 k) ∙ if_false _ _ _ (ne_eqb b 42 l) ∙ if_false _ _ _ (ne_eqb b 43 m) ∙ if_false _ _ _ (ne_eqb b 45 n))
 
 pub of_end : (pat : List ℕ) (q : ℕ) → length pat ≤ q → once ≡ repeat_of (byte_at pat q)
-unfolding repeat_of if◌then◌else◌
+unfolding repeat_of when◌then◌else◌
 of_end pat q h = rw (get_or-eq_default pat 0 {n = q} h)
 
 -- the code's repeat is the one that was read
@@ -205,7 +205,7 @@ module _ (pat : List ℕ) (p : ℕ) (here : p < length pat) where
 
   module _ (b : byte_at pat p ≡ 40) where
     read_open : read_item pat p ≡ read_head pat p at_open
-    read_open = read_as at_open (ap head_of b ∙ (unfold head_of if◌then◌else◌ in refl))
+    read_open = read_as at_open (ap head_of b ∙ (unfold head_of when◌then◌else◌ in refl))
 
     pub position_at : byte_at pat (p + 1) ≡ 41 → Then pat p position_capture (p + 2)
     unfolding read_head
@@ -222,7 +222,7 @@ module _ (pat : List ℕ) (p : ℕ) (here : p < length pat) where
 
   pub end_at : byte_at pat p ≡ 41 → Then pat p end_capture (p + 1)
   unfolding read_head
-  end_at b = then_on end_capture (p + 1) (read_as at_close (ap head_of b ∙ (unfold head_of if◌then◌else◌ in refl))) (omega arith) (omega arith)
+  end_at b = then_on end_capture (p + 1) (read_as at_close (ap head_of b ∙ (unfold head_of when◌then◌else◌ in refl))) (omega arith) (omega arith)
 
   -- ---- A set
 
@@ -230,11 +230,11 @@ module _ (pat : List ℕ) (p : ℕ) (here : p < length pat) where
     read_set_lem : (x : Found) → r ≡ x → read_item pat p ≡ set_by pat p (found_of x)
     unfolding read_head
     read_set_lem x e =
-        read_as at_set (ap head_of b ∙ (unfold head_of if◌then◌else◌ in refl)) ∙ set_by_lem pat p (set_end pat p)
+        read_as at_set (ap head_of b ∙ (unfold head_of when◌then◌else◌ in refl)) ∙ set_by_lem pat p (set_end pat p)
         ∙ ap (set_by pat p) (sym is ∙ ap found_of e)
 
     pub set_at : ClosesIn r p (length pat) → (e : ℕ) → r ≡ found.At e → (t : Coded) → t ≡ repeat_read (e + 1) (repeat_of (byte_at pat (e + 1))) → ItemAt pat p t
-    unfolding single_of if◌then◌else◌
+    unfolding single_of when◌then◌else◌
     set_at within e f =
         let i : (p < e) × (e < length pat) = subst (λ (x : Found). ClosesIn x p (length pat)) f within in
         let k : e ≡ e + 1 - 1 = omega arith in
@@ -273,7 +273,7 @@ module _ (pat : List ℕ) (p : ℕ) (here : p < length pat) where
 
   module _ (b : byte_at pat p ≡ 36) where
     dollar_head : head_of (byte_at pat p) ≡ at_other
-    dollar_head = ap head_of b ∙ (unfold head_of if◌then◌else◌ in refl)
+    dollar_head = ap head_of b ∙ (unfold head_of when◌then◌else◌ in refl)
 
     pub anchor_at : p + 1 ≡ length pat → items pat p ≡ end_anchor ∷ []
     unfolding read_head read_byte
@@ -303,7 +303,7 @@ module _ (pat : List ℕ) (p : ℕ) (here : p < length pat) where
   module _ (b : byte_at pat p ≡ 37) where
     read_escape_lem : (e : Escape) → escape_at pat (p + 1) ≡ e → read_item pat p ≡ read_escape pat p e
     unfolding read_head
-    read_escape_lem e f = read_as at_percent (ap head_of b ∙ (unfold head_of if◌then◌else◌ in refl)) ∙ ap (read_escape pat p) f
+    read_escape_lem e f = read_as at_percent (ap head_of b ∙ (unfold head_of when◌then◌else◌ in refl)) ∙ ap (read_escape pat p) f
 
     pub escape_last : length pat - p ≡ 1 → items pat p ≡ raises 1 ∷ []
     unfolding escape_at read_escape
@@ -322,7 +322,7 @@ module _ (pat : List ℕ) (p : ℕ) (here : p < length pat) where
 
       pub class_at : (byte_at pat (p + 1) < 48) ⊎ (58 ≤ byte_at pat (p + 1)) → (byte_at pat (p + 1) ≡ 98 → ⊥) → (byte_at pat (p + 1) ≡ 102 → ⊥)
           → (r : Coded) → r ≡ repeat_read (p + 2) (repeat_of (byte_at pat (p + 2))) → ItemAt pat p r
-      unfolding read_escape escape_of is_digit single_of if◌then◌else◌
+      unfolding read_escape escape_of is_digit single_of when◌then◌else◌
       class_at d m n =
           let digit : is_digit (byte_at pat (p + 1)) ≡ false = ⊎_elim (below 48 57 (byte_at pat (p + 1))) (above 48 57 (byte_at pat (p + 1))) d in
           let other : escape_of (byte_at pat (p + 1)) ≡ esc_other = rw (digit, ne_eqb (byte_at pat (p + 1)) 98 m, ne_eqb (byte_at pat (p + 1)) 102 n) in
@@ -332,7 +332,7 @@ module _ (pat : List ℕ) (p : ℕ) (here : p < length pat) where
 
       module _ (f : byte_at pat (p + 1) ≡ 98) where
         read_balance : read_item pat p ≡ read_escape pat p esc_balance
-        read_balance = by_byte esc_balance (ap escape_of f ∙ (unfold escape_of is_digit if◌then◌else◌ in refl))
+        read_balance = by_byte esc_balance (ap escape_of f ∙ (unfold escape_of is_digit when◌then◌else◌ in refl))
 
         pub balance_at : p + 3 < length pat → Then pat p (balance (byte_at pat (p + 2)) (byte_at pat (p + 3))) (p + 4)
         unfolding read_escape
@@ -345,7 +345,7 @@ module _ (pat : List ℕ) (p : ℕ) (here : p < length pat) where
 
       module _ (f : byte_at pat (p + 1) ≡ 102) where
         read_frontier_lem : read_item pat p ≡ read_escape pat p esc_frontier
-        read_frontier_lem = by_byte esc_frontier (ap escape_of f ∙ (unfold escape_of is_digit if◌then◌else◌ in refl))
+        read_frontier_lem = by_byte esc_frontier (ap escape_of f ∙ (unfold escape_of is_digit when◌then◌else◌ in refl))
 
         pub frontier_no_set : (byte_at pat (p + 2) ≡ 91 → ⊥) → items pat p ≡ raises 3 ∷ []
         unfolding read_escape

@@ -8,7 +8,7 @@ use mathlib.Core.Bool.{Bool, false, not, ◌&&◌, ◌||◌}
 use mathlib.Core.List.{List, [], ◌∷◌}
 use lib.Dec.{eqb, ltb}
 use borrow.Author.Tests.{lt-ltb, le-ltb, eq-eqb, ne_eqb}
-use Rattle.luck_text.specs.Bytes.{if◌then◌else◌, byte_at, between}
+use Rattle.luck_text.specs.Bytes.{when◌then◌else◌, byte_at, between}
 use Rattle.luck_text.proofs.Cases.{first_false, second_false}
 use Rattle.luck_pattern.specs.Reading.{first_member}
 use Rattle.luck_pattern.specs.Elements.{element_at, width_of, elements_in, elements_of}
@@ -38,16 +38,16 @@ module _ (pat : List ℕ) (e : ℕ) where
 
       module _ (h : q < e) (t : Bool) where
         pub any_escape : byte_at pat q ≡ code "%" → in_class (byte_at pat (q + 1)) c ≡ t → any_from q ≡ (t || any_from (q + 2))
-        unfolding is_any_of is_element element_at width_of if◌then◌else◌
+        unfolding is_any_of is_element element_at width_of when◌then◌else◌
         any_escape b f = rw (elements_at q h, eq-eqb (byte_at pat q) (code "%") b, f)
 
         module _ (b : byte_at pat q ≡ code "%" → ⊥) where
           pub any_range : byte_at pat (q + 1) ≡ code "-" → q + 2 < e → between (byte_at pat q) (byte_at pat (q + 2)) c ≡ t → any_from q ≡ (t || any_from (q + 3))
-          unfolding is_any_of is_element element_at width_of if◌then◌else◌
+          unfolding is_any_of is_element element_at width_of when◌then◌else◌
           any_range d l f = rw (elements_at q h, ne_eqb (byte_at pat q) (code "%") b, eq-eqb (byte_at pat (q + 1)) (code "-") d, lt-ltb (q + 2) e l, f)
 
           pub any_plain : (byte_at pat (q + 1) ≡ code "-" → ⊥) ⊎ (e ≤ q + 2) → eqb (byte_at pat q) c ≡ t → any_from q ≡ (t || any_from (q + 1))
-          unfolding is_any_of is_element element_at width_of if◌then◌else◌
+          unfolding is_any_of is_element element_at width_of when◌then◌else◌
           any_plain d f = rw (elements_at q h, ne_eqb (byte_at pat q) (code "%") b, no_range d, f)
             where
               no_range : (byte_at pat (q + 1) ≡ code "-" → ⊥) ⊎ (e ≤ q + 2) → (eqb (byte_at pat (q + 1)) (code "-") && ltb (q + 2) e) ≡ false
@@ -57,9 +57,9 @@ module _ (pat : List ℕ) (e : ℕ) where
     -- the set from its `[` at p
     module _ (p : ℕ) where
       pub set_complement : byte_at pat (p + 1) ≡ code "^" → not (any_from (p + 2)) ≡ in_set in_class (set_of pat p e) c
-      unfolding in_set set_of first_member if◌then◌else◌
+      unfolding in_set set_of first_member when◌then◌else◌
       set_complement b = rw (eq-eqb (byte_at pat (p + 1)) (code "^") b)
 
       pub set_plain : (byte_at pat (p + 1) ≡ code "^" → ⊥) → any_from (p + 1) ≡ in_set in_class (set_of pat p e) c
-      unfolding in_set set_of first_member if◌then◌else◌
+      unfolding in_set set_of first_member when◌then◌else◌
       set_plain b = rw (ne_eqb (byte_at pat (p + 1)) (code "^") b)

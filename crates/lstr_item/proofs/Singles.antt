@@ -9,7 +9,7 @@ use mathlib.Core.List.{List}
 use lib.ListN.{length}
 use lib.Dec.{eqb, ltb}
 use borrow.Author.Tests.{lt-ltb, le-ltb, ltb-true, ne_eqb}
-use Rattle.luck_text.specs.Bytes.{if◌then◌else◌, byte_at}
+use Rattle.luck_text.specs.Bytes.{when◌then◌else◌, byte_at}
 use Rattle.luck_text.proofs.Cases.{and_left}
 use Rattle.luck_pattern.specs.Items.{Set, Single, class, set_of}
 use Rattle.lstr_item.specs.Single.{in_set, fits}
@@ -29,25 +29,25 @@ module _ (in_class : ℕ → ℕ → Bool) (sub pat : List ℕ) (p e s : ℕ) wh
 
   module _ (h : s < length sub) where
     pub fits_any : byte_at pat p ≡ code "." → Fits true
-    unfolding fits_at single_of fits if◌then◌else◌
+    unfolding fits_at single_of fits when◌then◌else◌
     fits_any b = rw (lt-ltb s (length sub) h, b)
 
     pub fits_class : byte_at pat p ≡ code "%" → Fits (in_class (byte_at pat (p + 1)) (byte_at sub s))
-    unfolding fits_at single_of fits if◌then◌else◌
+    unfolding fits_at single_of fits when◌then◌else◌
     fits_class b = rw (lt-ltb s (length sub) h, b)
 
     pub fits_set : byte_at pat p ≡ code "[" → Fits (in_set in_class (set_of pat p (e - 1)) (byte_at sub s))
-    unfolding fits_at single_of fits if◌then◌else◌
+    unfolding fits_at single_of fits when◌then◌else◌
     fits_set b = rw (lt-ltb s (length sub) h, b)
 
     pub fits_byte : (byte_at pat p ≡ code "." → ⊥) → (byte_at pat p ≡ code "%" → ⊥) → (byte_at pat p ≡ code "[" → ⊥) → Fits (eqb (byte_at pat p) (byte_at sub s))
-    unfolding fits_at single_of fits if◌then◌else◌
+    unfolding fits_at single_of fits when◌then◌else◌
     fits_byte a b d = rw (lt-ltb s (length sub) h, ne_eqb (byte_at pat p) (code ".") a, ne_eqb (byte_at pat p) (code "%") b, ne_eqb (byte_at pat p) (code "[") d)
 
 -- ---- A class
 
 pub of_class : (pat : List ℕ) (p e : ℕ) → byte_at pat p ≡ code "%" → class (byte_at pat (p + 1)) ≡ single_of pat p e
-unfolding single_of if◌then◌else◌
+unfolding single_of when◌then◌else◌
 of_class pat p e b = rw b
 
 module _ (in_class : ℕ → ℕ → Bool) (sub : List ℕ) (letter s : ℕ) where
@@ -83,7 +83,7 @@ module _ (in_class : ℕ → ℕ → Bool) (sub : List ℕ) where
       reach_from t v = reach in_class sub budget x (length sub - t) t v
 
       spent_by : (n : ℕ) → budget ≤ u → reach in_class sub budget x n s u ≡ spent u
-      unfolding reach if◌then◌else◌
+      unfolding reach when◌then◌else◌
       spent_by zero h = rw (le-ltb u budget h)
       spent_by (suc n) h = rw (le-ltb u budget h)
 
@@ -92,7 +92,7 @@ module _ (in_class : ℕ → ℕ → Bool) (sub : List ℕ) where
 
       module _ (h : u < budget) where
         stop_by : (n : ℕ) → fits_at in_class sub x s ≡ false → reach in_class sub budget x n s u ≡ reached s (u + 1)
-        unfolding reach if◌then◌else◌
+        unfolding reach when◌then◌else◌
         stop_by zero e = rw (lt-ltb u budget h)
         stop_by (suc n) e = rw (lt-ltb u budget h, e)
 
@@ -100,7 +100,7 @@ module _ (in_class : ℕ → ℕ → Bool) (sub : List ℕ) where
         reach_stop e = stop_by (length sub - s) e
 
         pub reach_more : fits_at in_class sub x s ≡ true → reach_from s u ≡ reach_from (s + 1) (u + 1)
-        unfolding reach if◌then◌else◌
+        unfolding reach when◌then◌else◌
         reach_more e =
             let n : length sub - s ≡ suc (length sub - (s + 1)) = omega (arith, fits_inside e) in
             rw (n, lt-ltb u budget h, e)

@@ -8,7 +8,7 @@ use mathlib.Core.List.{List, [], ◌∷◌}
 use mathlib.Core.Option.{none, some}
 use lib.ListN.{length}
 use borrow.Author.Tests.{lt-ltb, le-ltb, eq-eqb, ne_eqb}
-use Rattle.luck_text.specs.Bytes.{if◌then◌else◌}
+use Rattle.luck_text.specs.Bytes.{when◌then◌else◌}
 use Rattle.luck_text.proofs.Cases.{if_true, if_false}
 use Rattle.luck_pattern.specs.Items.{Set, Single, Repeat, once, optional, star, plus, minus, repeat_width, Item, start_capture, position_capture, end_capture, end_anchor, balance, frontier, back_reference, single, raises, items}
 use Rattle.lstr_item.specs.Match.{Capture, opened, position, capture_to_close, Outcome, matched, failed, stopped, raised, Rest, due, new_level, do_start_capture, do_end_capture, do_back_reference, goes_on_at, is_frontier, passed_over, fits_at, expand, do_item, match}
@@ -19,11 +19,11 @@ use Rattle.lstr_item.specs.Inner.{Then, is_once, has_to_fit, is_greedy}
 
 module _ (l u : ℕ) (k : ℕ → Outcome) where
   pub too_deep : 200 ≤ l → stopped 28 0 u ≡ new_level l u k
-  unfolding new_level if◌then◌else◌
+  unfolding new_level when◌then◌else◌
   too_deep h = rw (le-ltb l 200 h)
 
   pub level_opens : l < 200 → new_level l u k ≡ k (l + 1)
-  unfolding new_level if◌then◌else◌
+  unfolding new_level when◌then◌else◌
   level_opens h = rw (lt-ltb l 200 h)
 
 -- ---- Repeats
@@ -102,21 +102,21 @@ module _ (in_class : ℕ → ℕ → Bool) (sub pat : List ℕ) (budget : ℕ) w
   on p = match in_class sub budget (items pat p)
 
   pub steps_spent : (is : List Item) (s l : ℕ) (cs : List Capture) (u : ℕ) → budget ≤ u → stopped 27 0 u ≡ match in_class sub budget is s l cs u
-  unfolding match due if◌then◌else◌
+  unfolding match due when◌then◌else◌
   steps_spent [] s l cs u h = rw (le-ltb u budget h)
   steps_spent (i ∷ is) s l cs u h = rw (le-ltb u budget h)
 
   module _ (p s l : ℕ) (cs : List Capture) (u : ℕ) (h : u < budget) where
     pub at_end : items pat p ≡ [] → matched s cs (u + 1) ≡ on p s l cs u
-    unfolding match due if◌then◌else◌
+    unfolding match due when◌then◌else◌
     at_end e = rw (e, lt-ltb u budget h)
 
     last_item : (i : Item) → items pat p ≡ i ∷ [] → do_item in_class sub budget i (match in_class sub budget []) s l cs (u + 1) ≡ on p s l cs u
-    unfolding match due if◌then◌else◌
+    unfolding match due when◌then◌else◌
     last_item i e = rw (e, lt-ltb u budget h)
 
     pub item : (i : Item) (q : ℕ) → Then pat p i q → do_item in_class sub budget i (on q) s l cs (u + 1) ≡ on p s l cs u
-    unfolding match due if◌then◌else◌
+    unfolding match due when◌then◌else◌
     item i q t = rw (t.is, lt-ltb u budget h)
 
     pub at_anchor : items pat p ≡ end_anchor ∷ [] → s ≡ length sub → matched s cs (u + 1) ≡ on p s l cs u

@@ -4,7 +4,7 @@
 use Rattle.std.specs.Prelude.{ℕ, zero, suc, ◌+◌, ◌-◌, ◌<◌, ◌≤◌, ◌≡◌, Bool, true, false, List, [], ◌∷◌, length, get_or, eqb}
 use Prim.Native.Char.{code}
 use Rattle.std.proofs.Math.Option.{Option, none, some}
-use Rattle.luck_text.specs.Bytes.{if◌then◌else◌, byte_at}
+use Rattle.luck_text.specs.Bytes.{when◌then◌else◌, byte_at}
 use Rattle.luck_pattern.specs.Reading.{SetEnd, closes_at, cut_at, unclosed}
 use Rattle.luck_pattern.specs.Items.{
   Single,
@@ -65,9 +65,9 @@ use Rattle.lstr_item.specs.declared.item.Repeat.TheVariants as coded
 unfoldable pub single_of : List ℕ → ℕ → ℕ → Single
 single_of pat p e =
     let b = byte_at pat p in
-    if eqb b (code ".") then any
-    else if eqb b (code "%") then class (byte_at pat (p + 1))
-    else if eqb b (code "[") then among_set (set_of pat p (e - 1)) else byte b
+    when eqb b (code ".") then any
+    else when eqb b (code "%") then class (byte_at pat (p + 1))
+    else when eqb b (code "[") then among_set (set_of pat p (e - 1)) else byte b
 
 -- it lies in the pattern: a class has its byte, a set its brackets
 pub record SingleIn (pat : List ℕ) (p e : ℕ) : Type 0 where
@@ -97,8 +97,8 @@ positional = 0xFFFF_FFFF_FFFF_FFFE
 
 unfoldable pub capture_of : ℕ → ℕ → Capture
 capture_of start len =
-    if eqb len unfinished then opened start
-    else if eqb len positional then position start else closed start len
+    when eqb len unfinished then opened start
+    else when eqb len positional then position start else closed start len
 
 abbrev pub no_pair : Pair
 no_pair = record { start = 0; len = 0 }

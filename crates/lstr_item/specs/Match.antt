@@ -6,7 +6,7 @@
 -- Assumes nothing.
 use Rattle.std.specs.Prelude.{ℕ, zero, suc, ◌+◌, ◌-◌, Bool, true, false, not, ◌&&◌, List, [], ◌∷◌, ◌++◌, length, get_or, set, eqb, leb, ltb}
 use Rattle.std.proofs.Math.Option.{Option, none, some}
-use Rattle.luck_text.specs.Bytes.{if◌then◌else◌, byte_at}
+use Rattle.luck_text.specs.Bytes.{when◌then◌else◌, byte_at}
 use Rattle.luck_pattern.specs.Captures.{max_captures, latest_open}
 use Rattle.luck_pattern.specs.Items.{
   Set,
@@ -79,7 +79,7 @@ Rest = ℕ → ℕ → List Capture → ℕ → Outcome
 
 -- a step is due: 27 where none is left
 unfoldable pub due : ℕ → ℕ → (ℕ → Outcome) → Outcome
-due budget u k = let on = k (u + 1) in if ltb u budget then on else stopped 27 0 u
+due budget u k = let on = k (u + 1) in when ltb u budget then on else stopped 27 0 u
 
 -- MAXCCALLS of lstrlib.c
 abbrev pub max_levels : ℕ
@@ -87,7 +87,7 @@ max_levels = 200
 
 -- a new level is opened: 28 where `max_levels` are open already
 unfoldable pub new_level : ℕ → ℕ → (ℕ → Outcome) → Outcome
-new_level l u k = let on = k (l + 1) in if ltb l max_levels then on else stopped 28 0 u
+new_level l u k = let on = k (l + 1) in when ltb l max_levels then on else stopped 28 0 u
 
 -- what is tried after a failure, with the steps used by then
 unfoldable pub or_else : Outcome → (ℕ → Outcome) → Outcome
@@ -102,7 +102,7 @@ or_else (stopped number kind u) k = stopped number kind u
 unfoldable pub do_start_capture : Capture → Rest → ℕ → ℕ → List Capture → ℕ → Outcome
 do_start_capture c rest s l cs u =
     let on = new_level l u (λ m. rest s m (cs ++ (c ∷ [])) u) in
-    if ltb (length cs) max_captures then on else raised 8 u
+    when ltb (length cs) max_captures then on else raised 8 u
 
 -- end_capture, of the capture i, whose start is s at the latest
 unfoldable pub do_end_capture : Option ℕ → Rest → ℕ → ℕ → List Capture → ℕ → Outcome
@@ -117,13 +117,13 @@ match_capture sub (opened start) rest s l cs u = raised 7 u
 match_capture sub (position start) rest s l cs u = failed u
 match_capture sub (closed start n) rest s l cs u =
     let on = rest (s + n) l cs u in
-    if leb n (length sub - s) && same_bytes sub n start s then on else failed u
+    when leb n (length sub - s) && same_bytes sub n start s then on else failed u
 
 -- `%` and a digit: a capture that is not there raises 7
 unfoldable pub do_back_reference : List ℕ → ℕ → Rest → ℕ → ℕ → List Capture → ℕ → Outcome
 do_back_reference sub d rest s l cs u =
     let on = match_capture sub (get_or cs (d - 1) (opened 0)) rest s l cs u in
-    if ltb 0 d && leb d (length cs) then on else raised 7 u
+    when ltb 0 d && leb d (length cs) then on else raised 7 u
 
 -- `%b`: the items that follow go on after the balanced part
 unfoldable pub goes_on_at : Option ℕ → Rest → ℕ → List Capture → ℕ → Outcome
@@ -165,11 +165,11 @@ module _ (in_class : ℕ → ℕ → Bool) (sub : List ℕ) (budget : ℕ) where
   -- max_expand's first loop, from s on: a step for each test, the failing one and one at the subject's end included. n
   -- bytes are left
   unfoldable pub reach : Single → ℕ → ℕ → ℕ → Reach
-  reach x zero s u = if ltb u budget then reached s (u + 1) else spent u
+  reach x zero s u = when ltb u budget then reached s (u + 1) else spent u
   reach x (suc n) s u =
       let more = reach x n (s + 1) (u + 1) in
-      let tested = if fits_at in_class sub x s then more else reached s (u + 1) in
-      if ltb u budget then tested else spent u
+      let tested = when fits_at in_class sub x s then more else reached s (u + 1) in
+      when ltb u budget then tested else spent u
 
   -- min_expand, once the rest has failed at s: one more byte is tested, with a step, and the rest tried after it. n
   -- bytes are left
@@ -179,7 +179,7 @@ module _ (in_class : ℕ → ℕ → Bool) (sub : List ℕ) (budget : ℕ) where
       due budget u
       (λ v.
       let on = or_else (new_level l v (λ m. rest (s + 1) m cs v)) (λ w. min_expand x rest n (s + 1) l cs w) in
-      if fits_at in_class sub x s then on else failed v)
+      when fits_at in_class sub x s then on else failed v)
 
   -- a single that fits at s
   unfoldable pub expand : Single → Repeat → Rest → ℕ → ℕ → List Capture → ℕ → Outcome
@@ -198,14 +198,14 @@ module _ (in_class : ℕ → ℕ → Bool) (sub : List ℕ) (budget : ℕ) where
   do_item start_capture rest s l cs u = do_start_capture (opened s) rest s l cs u
   do_item position_capture rest s l cs u = do_start_capture (position s) rest s l cs u
   do_item end_capture rest s l cs u = do_end_capture (capture_to_close cs) rest s l cs u
-  do_item end_anchor rest s l cs u = if eqb s (length sub) then matched s cs u else failed u
+  do_item end_anchor rest s l cs u = when eqb s (length sub) then matched s cs u else failed u
   do_item (balance x y) rest s l cs u = goes_on_at (match_balance sub x y s) rest l cs u
-  do_item (frontier x) rest s l cs u = let on = rest s l cs u in if is_frontier in_class sub x s then on else failed u
+  do_item (frontier x) rest s l cs u = let on = rest s l cs u in when is_frontier in_class sub x s then on else failed u
   do_item (back_reference d) rest s l cs u = do_back_reference sub d rest s l cs u
   do_item (single x r) rest s l cs u =
       let fitting = expand x r rest s l cs u in
       let other = passed_over r rest s l cs u in
-      if fits_at in_class sub x s then fitting else other
+      when fits_at in_class sub x s then fitting else other
   do_item (raises kind) rest s l cs u = raised kind u
 
   -- the items from s on; each begins with a step, and so does the pattern's end

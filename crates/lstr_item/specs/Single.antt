@@ -2,7 +2,7 @@
 -- test for classes such as match_class.
 -- Assumes nothing.
 use Rattle.std.specs.Prelude.{ℕ, Bool, true, false, not, ◌||◌, List, [], ◌∷◌, eqb}
-use Rattle.luck_text.specs.Bytes.{if◌then◌else◌, between}
+use Rattle.luck_text.specs.Bytes.{when◌then◌else◌, between}
 use Rattle.luck_pattern.specs.Elements.{Element, escape, range, plain}
 use Rattle.luck_pattern.specs.Items.{Set, Single, any, class, among_set, byte}
 
@@ -20,7 +20,7 @@ module _ (in_class : ℕ → ℕ → Bool) where
 
   -- matchbracketclass: a set with `^` takes what its elements do not
   unfoldable pub in_set : Set → ℕ → Bool
-  in_set set c = if set.complement then not (is_any_of set.elements c) else is_any_of set.elements c
+  in_set set c = when set.complement then not (is_any_of set.elements c) else is_any_of set.elements c
 
   -- singlematch, where a byte is left
   unfoldable pub fits : Single → ℕ → Bool

@@ -10,7 +10,7 @@ use mathlib.Core.Option.{Option, none, some}
 use lib.ListN.{length, set}
 use lib.Dec.{eqb, leb, ltb}
 use borrow.Author.Tests.{ltb-true, leb-true, leb-false, eqb-true}
-use Rattle.luck_text.specs.Bytes.{if◌then◌else◌, byte_at}
+use Rattle.luck_text.specs.Bytes.{when◌then◌else◌, byte_at}
 use Rattle.luck_text.specs.Walk.{Turn, stop, goes, walk_from}
 use Rattle.luck_utf8.specs.Utf8.{ill_formed}
 use Rattle.luck_token.specs.Version.{is_version}
@@ -51,7 +51,7 @@ use Rattle.luck_pattern.specs.Items.{
   items_from,
   items,
 }
-use Rattle.lstr_laws.proofs.Sound.{AllClosed, WellFormed}
+use Rattle.lstr_laws.proofs.WellFormed.{AllClosed, WellFormed}
 use Rattle.luck_pattern.specs.Ranges.{head_set, item_set, reversed_set, item_reversed}
 use Rattle.luck_pattern.proofs.Ranges.{accepted_without}
 use Rattle.luck_pattern.proofs.Exactly.{goes_on}
@@ -67,8 +67,8 @@ same_count : (a b : ℕ) → accepted a ≡ accepted b → a ≡ b
 same_count a b e = ap (λ (x : Answer). x.count) e
 
 -- a test that was passed, where the other branch is a refusal
-pub if_passed : (b : Bool) (x : Answer) (number offset c : ℕ) → 0 < number → (if b then x else refused number offset) ≡ accepted c → (b ≡ true) × (x ≡ accepted c)
-unfolding if◌then◌else◌
+pub if_passed : (b : Bool) (x : Answer) (number offset c : ℕ) → 0 < number → (when b then x else refused number offset) ≡ accepted c → (b ≡ true) × (x ≡ accepted c)
+unfolding when◌then◌else◌
 if_passed true x number offset c h e = (refl, e)
 if_passed false x number offset c h e = refused_accepted (refused number offset) c e h
 
@@ -157,12 +157,12 @@ module _ (pat : List ℕ) (c : ℕ) where
     pub behind : p < at
     pub on : Comes start flags (at + 1) flags
 
-  set_fault : (p : ℕ) → 0 < (if is_empty_set pat p then 9 else 8)
+  set_fault : (p : ℕ) → 0 < (when is_empty_set pat p then 9 else 8)
   set_fault p = by_test (λ (n : ℕ). 0 < n) (is_empty_set pat p) _ _ (λ t. omega arith) (λ t. omega arith)
 
   -- the set's `[` stands at p, and the item that has it at start, before or at p
   after_set : (start p : ℕ) (flags : List Bool) → start ≤ p → After start flags (onward start flags (set_read false pat p)) → Set-accepted start p flags
-  unfolding set_read set_as closed_as reversed_of if◌then◌else◌
+  unfolding set_read set_as closed_as reversed_of when◌then◌else◌
   after_set start p flags h a = go (set_end pat p) refl (set_closes pat p) a
     where
       go : (e : SetEnd) → set_end pat p ≡ e → ClosesFrom pat (first_member pat p) (set_end pat p) → After start flags (onward start flags (set_as false pat p e)) → Set-accepted start p flags
@@ -171,7 +171,7 @@ module _ (pat : List ℕ) (c : ℕ) where
           let k = first_behind pat p in
           record { at = e; closes = q; behind = omega (arith, j.0); on = after_read start flags (e + 1) (omega (arith, j.0)) (omega (arith, j.1)) a }
       go (cut_at e) q i a = after_fault start flags (refused 1 e) (omega arith) a
-      go unclosed q i a = after_fault start flags (refused (if is_empty_set pat p then 9 else 8) p) (set_fault p) a
+      go unclosed q i a = after_fault start flags (refused (when is_empty_set pat p then 9 else 8) p) (set_fault p) a
 
 -- ---- The items
 
@@ -225,7 +225,7 @@ module _ (pat : List ℕ) (c p : ℕ) (flags : List Bool) where
       by_way pat c p q (q + 1) flags flags flags at_other o refl a (after_byte pat c q flags (present pat q (omega arith)) o a.0)
 
   repeat_leads : (x : Single) (q : ℕ) → p < q → Comes pat c p flags q flags → (r : Repeat) → IsRepeat (byte_at pat q) r → Leads (repeated x r q)
-  unfolding repeated repeat_width head_of if◌then◌else◌
+  unfolding repeated repeat_width head_of when◌then◌else◌
   repeat_leads x q g a once e = next _ (q + 0) (omega arith) (λ is w. w) (subst (λ (y : ℕ). Comes pat c p flags y flags) (omega arith) a)
   repeat_leads x q g a optional e = next _ (q + 1) (omega arith) (λ is w. w) (passed q a 63 e (omega arith) refl)
   repeat_leads x q g a star e = next _ (q + 1) (omega arith) (λ is w. w) (passed q a 42 e (omega arith) refl)
@@ -252,7 +252,7 @@ module _ (pat : List ℕ) (c p : ℕ) (flags : List Bool) where
       (λ e. record { behind = omega arith; after = flags ++ (false ∷ []); on = y.1; formed = λ is w. (y.0, w) })
     where
       closing_head : byte_at pat (p + 1) ≡ 41 → head_of (byte_at pat (p + 1)) ≡ at_close
-      closing_head e = ap head_of e ∙ (unfold head_of if◌then◌else◌ in refl)
+      closing_head e = ap head_of e ∙ (unfold head_of when◌then◌else◌ in refl)
 
   close_leads : Closed pat c p flags → Leads (read_head pat p at_close)
   unfolding read_head
@@ -276,11 +276,11 @@ module _ (pat : List ℕ) (c p : ℕ) (flags : List Bool) where
       (λ e. by_test Leads _ _ _ (λ t. single_leads any (p + 1) (omega arith) a) (λ t. single_leads (byte (byte_at pat p)) (p + 1) (omega arith) a))
 
   escape_leads : (e : Escape) → escape_at pat (p + 1) ≡ e → After pat c p flags (onward p flags (escape_as false pat p flags e)) → Leads (read_escape pat p e)
-  unfolding escape_as read_escape if◌then◌else◌
+  unfolding escape_as read_escape when◌then◌else◌
   escape_leads esc_end f a = after_fault pat c p flags (refused 1 p) (omega arith) a
   escape_leads (esc_digit d) f a = go (is_closed flags d) refl a
     where
-      go : (b : Bool) → is_closed flags d ≡ b → After pat c p flags (onward p flags (if b then past (p + 2) else fault (refused 13 (p + 1)))) → Next (back_reference d) (p + 2)
+      go : (b : Bool) → is_closed flags d ≡ b → After pat c p flags (onward p flags (when b then past (p + 2) else fault (refused 13 (p + 1)))) → Next (back_reference d) (p + 2)
       go b e = by_test (λ (r : Found). After pat c p flags (onward p flags r) → Next (back_reference d) (p + 2)) b _ _
           (λ t a. next _ (p + 2) (omega arith) (λ is w. (e ∙ t, w)) (after_read pat c p flags (p + 2) (omega arith) (omega (arith, escape_there pat (p + 1) (esc_digit d) f tt)) a))
           (λ t a. after_fault pat c p flags (refused 13 (p + 1)) (omega arith) a)
@@ -354,7 +354,7 @@ module _ (ranges : Bool) (version : ℕ) (pat : List ℕ) (c : ℕ) (ok : check_
   well_formed = items_fine pat c 0 [] accepts
 
   pub anchored_well_formed : eqb (byte_at pat 0) 94 ≡ true → WellFormed (items pat 1) [] c
-  unfolding head_of if◌then◌else◌
+  unfolding head_of when◌then◌else◌
   anchored_well_formed t =
       let b = eqb-true (byte_at pat 0) 94 t in
       let other : head_of 94 ≡ at_other = refl in

@@ -40,6 +40,7 @@ use Rattle.luck_pattern.specs.Items.{
   items,
 }
 use Rattle.lstr_item.specs.Match.{Capture, opened, position, closed, capture_to_close, Outcome, matched, failed, stopped, Rest, do_start_capture, do_end_capture, match_capture, do_back_reference, do_item, match}
+pub use Rattle.lstr_laws.proofs.Ending.{Ending, HasStops}
 use Rattle.lstr_laws.proofs.Attempts.{AttemptFine, Kept, due_kept, level_kept, single_kept, balance_kept, frontier_kept, closed_kept}
 
 -- ---- The items of a pattern raise kinds 1 to 4
@@ -117,18 +118,6 @@ module _ (pat : List ℕ) where
   items_kinds p = from_kinds (length pat - p) p
 
 -- ---- How an attempt and a trial end
-
-pub record Ending (numbers : List ℕ) (budget number kind steps : ℕ) : Type 0 where
-  pub numbered : among number numbers ≡ true
-  pub spent : number ≡ 27 → steps ≡ budget
-  pub kinded : number ≡ 29 → (1 ≤ kind) × (kind ≤ 10)
-  pub kindless : (number ≡ 29 → ⊥) → kind ≡ 0
-
--- what an attempt stops with is among a trial's numbers
-pub record HasStops (numbers : List ℕ) : Type 0 where
-  pub spent : among 27 numbers ≡ true
-  pub too_deep : among 28 numbers ≡ true
-  pub raised : among 29 numbers ≡ true
 
 module _ (numbers : List ℕ) (budget : ℕ) where
   -- an ending other than 27 and 29

@@ -14,20 +14,14 @@ use Rattle.luck_text.proofs.Cases.{by_test}
 use Rattle.luck_pattern.specs.Items.{Single, Repeat, once, optional, star, plus, minus, Item, start_capture, position_capture, end_capture, end_anchor, balance, frontier, back_reference, single, raises}
 use Rattle.lstr_item.specs.Match.{Capture, opened, position, closed, capture_to_close, Outcome, matched, failed, stopped, Rest, due, new_level, or_else, do_start_capture, do_end_capture, match_capture, do_back_reference, goes_on_at, passed_over, Reach, reached, spent, longest_first, max_expand, reach, min_expand, expand, do_item, match}
 use Rattle.lstr_class.specs.Subject.{balance_end, match_balance}
+use Rattle.lstr_laws.proofs.Onward.{U as Within, Onward as OnwardOutcome}
 
 module _ (in_class : ℕ → ℕ → Bool) (sub : List ℕ) (budget : ℕ) (b w : ℕ) where
-  -- steps from w on, within the budget
   abbrev U : ℕ → Type 0
-  U u = (w ≤ u) × (u ≤ budget)
+  U = Within in_class sub budget b w
 
-  abbrev Ends : Outcome → Type 0
-  Ends (matched e cs u) = (b ≤ e) × U u
-  Ends (failed u) = U u
-  Ends (stopped number kind u) = Unit {0}
-
-  -- wrapped, so that the outcome it is said of can be read off
-  pub record Onward (o : Outcome) : Type 0 where
-    pub ends : Ends o
+  abbrev pub Onward : Outcome → Type 0
+  Onward = OnwardOutcome in_class sub budget b w
 
   stops : (number kind u : ℕ) → Onward (stopped number kind u)
   stops number kind u = record { ends = tt }

@@ -1,7 +1,10 @@
 pub mod Attempts
 pub mod Forward
+pub mod Onward
+pub mod WellFormed
 pub mod Sound
 pub mod Accepted
 pub mod ItemsUpwards
+pub mod Ending
 pub mod Endings
 pub mod Promises

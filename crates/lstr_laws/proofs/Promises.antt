@@ -9,7 +9,7 @@ use mathlib.Core.Bool.{Bool, true, false, not, ◌&&◌, ◌||◌, true≢false}
 use mathlib.Core.List.{List, [], ◌∷◌}
 use lib.Dec.{leb}
 use borrow.Author.Tests.{ltb-true, leb-true, lt-leb}
-use Rattle.luck_text.specs.Bytes.{if◌then◌else◌}
+use Rattle.luck_text.specs.Bytes.{when◌then◌else◌}
 use Rattle.luck_text.proofs.Cases.{by_test, first_false, second_false}
 use Rattle.luck_pattern.specs.Elements.{Element, escape, range, plain, is_reversed}
 use Rattle.luck_answer.specs.Answer.{accepted}
@@ -48,4 +48,4 @@ module _ (in_class : ℕ → ℕ → Bool) where
   pub same_without : (set : Set) (c : ℕ)
       → in_set in_class (record { complement = set.complement; elements = without_reversed set.elements }) c ≡ in_set in_class set c
   unfolding in_set
-  same_without set c = ap (λ fits. if set.complement then not fits else fits) (any_without set.elements c)
+  same_without set c = ap (λ fits. when set.complement then not fits else fits) (any_without set.elements c)

@@ -10,7 +10,7 @@ use lib.ListN.{length, get_or, set}
 use lib.Dec.{eqb, leb, ltb}
 use borrow.Author.Tests.{ltb-true, ltb-false, le-leb}
 use Rattle.luck_text.proofs.Cases.{by_test, and_left, and_right, both_true}
-use Rattle.luck_pattern.specs.Captures.{latest_open, close_at, close_latest, is_closed, all_closed}
+use Rattle.luck_pattern.specs.Captures.{latest_open, close_at, close_latest, is_closed}
 use Rattle.luck_pattern.specs.Items.{
   Item,
   start_capture,
@@ -24,25 +24,8 @@ use Rattle.luck_pattern.specs.Items.{
   raises,
 }
 use Rattle.lstr_item.specs.Match.{Capture, opened, position, closed, start_of, is_finished, flags_of, capture_to_close, Outcome, Rest, do_start_capture, do_end_capture, match_capture, do_back_reference, do_item, match}
+pub use Rattle.lstr_laws.proofs.WellFormed.{AllClosed, WellFormed}
 use Rattle.lstr_laws.proofs.Attempts.{AttemptFine, Kept, due_kept, level_kept, single_kept, balance_kept, frontier_kept, closed_kept}
-
--- n captures, all of them closed
-pub record AllClosed (n : ℕ) (flags : List Bool) : Type 0 where
-  pub count : length flags ≡ n
-  pub closed : all_closed flags ≡ true
-
--- the items are well formed after captures of which these are closed, and end with n captures, all of them closed
-abbrev pub WellFormed : List Item → List Bool → ℕ → Type 0
-WellFormed [] flags n = AllClosed n flags
-WellFormed (start_capture ∷ is) flags n = (length flags < 32) × WellFormed is (flags ++ (false ∷ [])) n
-WellFormed (position_capture ∷ is) flags n = (length flags < 32) × WellFormed is (flags ++ (true ∷ [])) n
-WellFormed (end_capture ∷ is) flags n = (after : List Bool) × (close_latest flags ≡ some after) × WellFormed is after n
-WellFormed (end_anchor ∷ is) flags n = AllClosed n flags
-WellFormed (balance x y ∷ is) flags n = WellFormed is flags n
-WellFormed (frontier x ∷ is) flags n = WellFormed is flags n
-WellFormed (back_reference d ∷ is) flags n = (is_closed flags d ≡ true) × WellFormed is flags n
-WellFormed (single x r ∷ is) flags n = WellFormed is flags n
-WellFormed (raises kind ∷ is) flags n = ⊥
 
 -- ---- The captures and their flags
 

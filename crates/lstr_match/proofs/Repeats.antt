@@ -10,7 +10,7 @@ use mathlib.Core.Option.{Option}
 use lib.ListN.{length}
 use lib.Dec.{eqb}
 use borrow.Author.Tests.{lt-ltb, le-ltb, ne_eqb}
-use Rattle.luck_text.specs.Bytes.{if◌then◌else◌}
+use Rattle.luck_text.specs.Bytes.{when◌then◌else◌}
 use Rattle.luck_text.proofs.Cases.{order}
 use Rattle.luck_pattern.specs.Items.{Single, optional, star, plus, minus}
 use Rattle.lstr_item.specs.Match.{Capture, Outcome, matched, failed, stopped, Rest, due, new_level, or_else, Reach, reached, spent, longest_first, max_expand, fits_at, reach, min_expand, expand}
@@ -139,18 +139,18 @@ module _ (in_class : ℕ → ℕ → Bool) (sub : List ℕ) (budget : ℕ) (x : 
   from i u = or_else (new_level l u (λ m. rest i m cs u)) (λ w. min_expand in_class sub budget x rest (length sub - i) i l cs w)
 
   test_spent : (n i u : ℕ) → budget ≤ u → stopped 27 0 u ≡ min_expand in_class sub budget x rest n i l cs u
-  unfolding min_expand due if◌then◌else◌
+  unfolding min_expand due when◌then◌else◌
   test_spent zero i u h = rw (le-ltb u budget h)
   test_spent (suc n) i u h = rw (le-ltb u budget h)
 
   test_fails : (n i u : ℕ) → u < budget → fits_at in_class sub x i ≡ false → failed (u + 1) ≡ min_expand in_class sub budget x rest n i l cs u
-  unfolding min_expand due if◌then◌else◌
+  unfolding min_expand due when◌then◌else◌
   test_fails zero i u h f = rw (lt-ltb u budget h)
   test_fails (suc n) i u h f = rw (lt-ltb u budget h, f)
 
   test_fits : (i u : ℕ) → u < budget → fits_at in_class sub x i ≡ true → i < length sub
       → from (i + 1) (u + 1) ≡ min_expand in_class sub budget x rest (length sub - i) i l cs u
-  unfolding min_expand due if◌then◌else◌
+  unfolding min_expand due when◌then◌else◌
   test_fits i u h f g =
       let z : length sub - i ≡ suc (length sub - (i + 1)) = omega arith in
       rw (z, lt-ltb u budget h, f)

@@ -9,7 +9,7 @@ use mathlib.Core.List.{List, [], ◌∷◌}
 use lib.ListN.{length, get_or, take, drop, drop_of_length-le}
 use lib.Seq.{drop-cons}
 use borrow.Author.Tests.{eq-eqb, ne_eqb, le-leb, lt-leb}
-use Rattle.luck_text.specs.Bytes.{if◌then◌else◌, byte_at, part, is_digit}
+use Rattle.luck_text.specs.Bytes.{when◌then◌else◌, byte_at, part, is_digit}
 use Rattle.luck_text.proofs.Cases.{if_true, if_false}
 use Rattle.luck_replacement.specs.Replacement.{Piece, literal, digit, percent, other, lone, escaped, pieces}
 use Rattle.lstr_item.specs.Match.{Capture, opened}
@@ -23,16 +23,16 @@ use Rattle.lstr_write.proofs.Outputs.{Upto, is_wrote, is_ended, goes_on}
 
 module _ (sub : List ℕ) (room start len : ℕ) (out : List ℕ) where
   pub is_opened : len ≡ unfinished → ended 29 6 out ≡ add_capture sub room (capture_of start len) out
-  unfolding add_capture capture_of if◌then◌else◌
+  unfolding add_capture capture_of when◌then◌else◌
   is_opened e = rw (eq-eqb len unfinished e)
 
   module _ (n : len ≡ unfinished → ⊥) where
     pub is_position : len ≡ positional → append room (decimal (start + 1)) out ≡ add_capture sub room (capture_of start len) out
-    unfolding add_capture capture_of if◌then◌else◌
+    unfolding add_capture capture_of when◌then◌else◌
     is_position e = rw (ne_eqb len unfinished n, eq-eqb len positional e)
 
     pub is_closed : (len ≡ positional → ⊥) → append room (part sub start (start + len)) out ≡ add_capture sub room (capture_of start len) out
-    unfolding add_capture capture_of if◌then◌else◌
+    unfolding add_capture capture_of when◌then◌else◌
     is_closed m = rw (ne_eqb len unfinished n, ne_eqb len positional m)
 
 -- ---- The captures that were kept
@@ -97,16 +97,16 @@ digit_kept sub room s e n kept d out h z l =
 
 module _ (b : ℕ) where
   escapes_percent : b ≡ 37 → escaped b ≡ percent
-  unfolding escaped if◌then◌else◌
+  unfolding escaped when◌then◌else◌
   escapes_percent e = rw (eq-eqb b 37 e)
 
   module _ (n : b ≡ 37 → ⊥) where
     escapes_digit : is_digit b ≡ true → escaped b ≡ digit (b - 48)
-    unfolding escaped if◌then◌else◌
+    unfolding escaped when◌then◌else◌
     escapes_digit e = rw (ne_eqb b 37 n, e)
 
     escapes_other : is_digit b ≡ false → escaped b ≡ other b
-    unfolding escaped if◌then◌else◌
+    unfolding escaped when◌then◌else◌
     escapes_other e = rw (ne_eqb b 37 n, e)
 
 module _ (sub : List ℕ) (room s e : ℕ) (cs : List Capture) (strict : Bool) (b : ℕ) (out : List ℕ) where
@@ -133,16 +133,16 @@ module _ (sub : List ℕ) (room s e : ℕ) (cs : List Capture) (strict : Bool) (
 -- ---- The pieces of a text at a place
 
 piece_one : (b : ℕ) (more : List ℕ) → (b ≡ 37 → ⊥) → pieces (b ∷ more) ≡ literal b ∷ pieces more
-unfolding pieces if◌then◌else◌
+unfolding pieces when◌then◌else◌
 piece_one b [] h = rw (ne_eqb b 37 h)
 piece_one b (c ∷ more) h = rw (ne_eqb b 37 h)
 
 piece_two : (b c : ℕ) (more : List ℕ) → b ≡ 37 → pieces (b ∷ c ∷ more) ≡ escaped c ∷ pieces more
-unfolding pieces if◌then◌else◌
+unfolding pieces when◌then◌else◌
 piece_two b c more e = rw (eq-eqb b 37 e)
 
 piece_last : (b : ℕ) → b ≡ 37 → pieces (b ∷ []) ≡ lone ∷ []
-unfolding pieces if◌then◌else◌
+unfolding pieces when◌then◌else◌
 piece_last b e = rw (eq-eqb b 37 e)
 
 module _ (text : List ℕ) (p : ℕ) where

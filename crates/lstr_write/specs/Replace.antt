@@ -3,7 +3,7 @@
 -- Assumes nothing.
 use Rattle.std.specs.Prelude.{ℕ, zero, suc, ◌+◌, ◌-◌, ◌/◌, ◌%◌, Bool, List, [], ◌∷◌, ◌++◌, length, get_or, eqb, leb, ltb}
 use Prim.Native.Char.{code}
-use Rattle.luck_text.specs.Bytes.{if◌then◌else◌, part}
+use Rattle.luck_text.specs.Bytes.{when◌then◌else◌, part}
 use Rattle.luck_replacement.specs.Replacement.{Piece, literal, digit, percent, other, lone}
 use Rattle.lstr_item.specs.Match.{Capture, opened, position, closed}
 
@@ -21,14 +21,14 @@ unfoldable pub append : ℕ → List ℕ → List ℕ → Wrote
 append room [] out = wrote out
 append room (b ∷ more) out =
     let on = append room more (out ++ (b ∷ [])) in
-    if ltb (length out) room then on else ended 26 0 out
+    when ltb (length out) room then on else ended 26 0 out
 
 -- a number in decimal; n is more than its digits (`decimal_large` takes it away)
 unfoldable pub decimal_from : ℕ → ℕ → List ℕ
 decimal_from zero x = []
 decimal_from (suc n) x =
     let high = decimal_from n (x / 10) in
-    if ltb x 10 then (code "0" + x) ∷ [] else high ++ ((code "0" + x % 10) ∷ [])
+    when ltb x 10 then (code "0" + x) ∷ [] else high ++ ((code "0" + x % 10) ∷ [])
 
 unfoldable pub decimal : ℕ → List ℕ
 decimal x = decimal_from (suc x) x
@@ -46,9 +46,9 @@ module _ (sub : List ℕ) (room s e : ℕ) (cs : List Capture) where
   add_digit d out =
       let whole = append room (part sub s e) out in
       let capture = add_capture sub room (get_or cs (d - 1) (opened 0)) out in
-      if eqb d 0 then whole
-      else if leb d (length cs) then capture
-      else if eqb d 1 then whole else ended 29 10 out
+      when eqb d 0 then whole
+      else when leb d (length cs) then capture
+      else when eqb d 1 then whole else ended 29 10 out
 
   -- by document 01's row "strict replacement, checked date": 5.1, which is not strict, writes the byte after a `%`, and
   -- C's closing zero byte for a final `%`
@@ -56,8 +56,8 @@ module _ (sub : List ℕ) (room s e : ℕ) (cs : List Capture) where
   add_piece strict (literal b) out = append room (b ∷ []) out
   add_piece strict (digit d) out = add_digit d out
   add_piece strict percent out = append room (code "%" ∷ []) out
-  add_piece strict (other b) out = if strict then ended 29 9 out else append room (b ∷ []) out
-  add_piece strict lone out = if strict then ended 29 9 out else append room (0 ∷ []) out
+  add_piece strict (other b) out = when strict then ended 29 9 out else append room (b ∷ []) out
+  add_piece strict lone out = when strict then ended 29 9 out else append room (0 ∷ []) out
 
   -- add_s
   unfoldable pub add_pieces : Bool → List Piece → List ℕ → Wrote

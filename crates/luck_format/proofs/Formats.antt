@@ -8,7 +8,7 @@ use mathlib.Core.List.{List}
 use lib.ListN.{length, drop, get_or-eq_default}
 use lib.Dec.{eqb}
 use borrow.Author.Tests.{lt-ltb, le-ltb, le-leb, lt-leb, eq-eqb, ne_eqb}
-use Rattle.luck_text.specs.Bytes.{if◌then◌else◌, byte_at, ascii, among, is_digit, run}
+use Rattle.luck_text.specs.Bytes.{when◌then◌else◌, byte_at, ascii, among, is_digit, run}
 use Rattle.luck_utf8.specs.Utf8.{char_at}
 use Rattle.luck_text.specs.Walk.{stop, goes, walk_from}
 use Rattle.luck_token.specs.declared.version.Rules.{Rules}
@@ -55,33 +55,33 @@ none_there text p x h g e = let z = get_or-eq_default text 0 g in omega arith
 module _ (text : List ℕ) (p count : ℕ) where
   module _ (q : count ≡ run (λ b. among b (ascii "-+ #0123456789.")) (drop p text)) where
     pub long_specifier : 21 ≤ count → fault (refused 7 p) ≡ get_format text p
-    unfolding get_format is_modifier if◌then◌else◌
+    unfolding get_format is_modifier when◌then◌else◌
     long_specifier h = rw (← q, le-leb 21 count h)
 
     pub short_specifier : count < 21 → end_at (p + count) ≡ get_format text p
-    unfolding get_format is_modifier if◌then◌else◌
+    unfolding get_format is_modifier when◌then◌else◌
     short_specifier h = rw (← q, lt-leb 21 count h)
 
   module _ (q : count ≡ run is_digit (drop (p + 1) text)) where
     pub long_precision : 2 < count → fault (refused 5 (p + 1)) ≡ scan_precision text p
-    unfolding scan_precision if◌then◌else◌
+    unfolding scan_precision when◌then◌else◌
     long_precision h = rw (← q, lt-ltb 2 count h)
 
     pub short_precision : count ≤ 2 → end_at (p + 1 + count) ≡ scan_precision text p
-    unfolding scan_precision if◌then◌else◌
+    unfolding scan_precision when◌then◌else◌
     short_precision h = rw (← q, le-ltb 2 count h)
 
   module _ (q : count ≡ run is_digit (drop p text)) where
     pub long_width : 2 < count → fault (refused 4 p) ≡ scan_width text p
-    unfolding scan_width if◌then◌else◌
+    unfolding scan_width when◌then◌else◌
     long_width h = rw (← q, lt-ltb 2 count h)
 
     pub width_and_dot : count ≤ 2 → byte_at text (p + count) ≡ 46 → scan_precision text (p + count) ≡ scan_width text p
-    unfolding scan_width if◌then◌else◌
+    unfolding scan_width when◌then◌else◌
     width_and_dot h e = rw (← q, le-ltb 2 count h, eq-eqb (byte_at text (p + count)) 46 e)
 
     pub width_alone : count ≤ 2 → (byte_at text (p + count) ≡ 46 → ⊥) → end_at (p + count) ≡ scan_width text p
-    unfolding scan_width if◌then◌else◌
+    unfolding scan_width when◌then◌else◌
     width_alone h n = rw (← q, le-ltb 2 count h, ne_eqb (byte_at text (p + count)) 46 n)
 
     -- two digits at most
@@ -95,11 +95,11 @@ module _ (text : List ℕ) (p count : ℕ) where
 
   module _ (q : count ≡ run (λ b. among b (ascii "-+ #0")) (drop p text)) where
     pub many_flags : 6 ≤ count → fault (refused_with 3 (p + 5) (byte_at text (p + 5))) ≡ scan_format text p
-    unfolding scan_format is_flag if◌then◌else◌
+    unfolding scan_format is_flag when◌then◌else◌
     many_flags h = rw (← q, le-leb 6 count h)
 
     pub few_flags : count < 6 → scan_width text (p + count) ≡ scan_format text p
-    unfolding scan_format is_flag if◌then◌else◌
+    unfolding scan_format is_flag when◌then◌else◌
     few_flags h = rw (← q, lt-leb 6 count h)
 
   -- such a run lies in the text
@@ -151,26 +151,26 @@ module _ (rules : Rules) (b : ℕ) where
 
 module _ (b : ℕ) where
   pub flags_signed : among b (ascii "di") ≡ true → flags_for b ≡ ascii "-+0 "
-  unfolding flags_for if◌then◌else◌
+  unfolding flags_for when◌then◌else◌
   flags_signed e = rw e
 
   module _ (n : among b (ascii "di") ≡ false) where
     pub flags_unsigned : b ≡ 117 → flags_for b ≡ ascii "-0"
-    unfolding flags_for if◌then◌else◌
+    unfolding flags_for when◌then◌else◌
     flags_unsigned e = rw (n, eq-eqb b 117 e)
 
     module _ (m : b ≡ 117 → ⊥) where
       pub flags_based : among b (ascii "oxX") ≡ true → flags_for b ≡ ascii "-#0"
-      unfolding flags_for if◌then◌else◌
+      unfolding flags_for when◌then◌else◌
       flags_based e = rw (n, ne_eqb b 117 m, e)
 
       module _ (o : among b (ascii "oxX") ≡ false) where
         pub flags_float : among b (ascii "aAeEfgG") ≡ true → flags_for b ≡ ascii "-+#0 "
-        unfolding flags_for if◌then◌else◌
+        unfolding flags_for when◌then◌else◌
         flags_float e = rw (n, ne_eqb b 117 m, o, e)
 
         pub flags_other : among b (ascii "aAeEfgG") ≡ false → flags_for b ≡ ascii "-"
-        unfolding flags_for if◌then◌else◌
+        unfolding flags_for when◌then◌else◌
         flags_other e = rw (n, ne_eqb b 117 m, o, e)
 
   pub no_precision_c : b ≡ 99 → takes_precision b ≡ false
@@ -187,7 +187,7 @@ module _ (b : ℕ) where
 
 -- behind the flags at p stands a width, which may be empty, and ends here
 pub record Widened (b : ℕ) (text : List ℕ) (p width : ℕ) : Type 0 where
-  pub whole : good_modifiers b text p ≡ (if takes_precision b && eqb (byte_at text width) 46 then after_two_digits text (width + 1) else width)
+  pub whole : good_modifiers b text p ≡ (when takes_precision b && eqb (byte_at text width) 46 then after_two_digits text (width + 1) else width)
 
 module _ (b : ℕ) (text : List ℕ) (p : ℕ) where
   pub flags_at : (count : ℕ) (set : List ℕ) → flags_for b ≡ set → count ≡ run (λ x. among x set) (drop p text) → count ≡ flags_run b text p
@@ -199,85 +199,85 @@ module _ (b : ℕ) (text : List ℕ) (p : ℕ) where
   flags_inside h = run_inside (λ x. among x (flags_for b)) text p h
 
   pub no_modifiers : b ≡ 113 → p ≡ good_modifiers b text p
-  unfolding good_modifiers if◌then◌else◌
+  unfolding good_modifiers when◌then◌else◌
   no_modifiers e = rw (eq-eqb b 113 e)
 
   module _ (n : b ≡ 113 → ⊥) (count : ℕ) (q : count ≡ flags_run b text p) where
     pub zero_stays : byte_at text (p + count) ≡ 48 → p + count ≡ good_modifiers b text p
-    unfolding good_modifiers if◌then◌else◌
+    unfolding good_modifiers when◌then◌else◌
     zero_stays e = rw (ne_eqb b 113 n, ← q, eq-eqb (byte_at text (p + count)) 48 e)
 
     pub no_zero : (byte_at text (p + count) ≡ 48 → ⊥) → (width : ℕ) → width ≡ after_two_digits text (p + count) → Widened b text p width
-    unfolding good_modifiers if◌then◌else◌
+    unfolding good_modifiers when◌then◌else◌
     no_zero z width w = record { whole = rw (ne_eqb b 113 n, ← q, ne_eqb (byte_at text (p + count)) 48 z, ← w) }
 
 module _ {b : ℕ} {text : List ℕ} {p width : ℕ} (w : Widened b text p width) where
-  by_dot : (t : Bool) → (takes_precision b && eqb (byte_at text width) 46) ≡ t → (if t then after_two_digits text (width + 1) else width) ≡ good_modifiers b text p
-  by_dot t e = ap (λ (x : Bool). if x then after_two_digits text (width + 1) else width) (sym e) ∙ sym w.whole
+  by_dot : (t : Bool) → (takes_precision b && eqb (byte_at text width) 46) ≡ t → (when t then after_two_digits text (width + 1) else width) ≡ good_modifiers b text p
+  by_dot t e = ap (λ (x : Bool). when x then after_two_digits text (width + 1) else width) (sym e) ∙ sym w.whole
 
   pub dot_stays : takes_precision b ≡ false → width ≡ good_modifiers b text p
-  unfolding if◌then◌else◌
+  unfolding when◌then◌else◌
   dot_stays t = by_dot false (first_false (takes_precision b) _ t)
 
   pub dot_passed : takes_precision b ≡ true → byte_at text width ≡ 46 → after_two_digits text (width + 1) ≡ good_modifiers b text p
-  unfolding if◌then◌else◌
+  unfolding when◌then◌else◌
   dot_passed t e = by_dot true (both_true (takes_precision b) _ t (eq-eqb (byte_at text width) 46 e))
 
   pub no_dot : (byte_at text width ≡ 46 → ⊥) → width ≡ good_modifiers b text p
-  unfolding if◌then◌else◌
+  unfolding when◌then◌else◌
   no_dot e = by_dot false (second_false (takes_precision b) _ (ne_eqb (byte_at text width) 46 e))
 
 -- ---- A specifier
 
 module _ (rules : Rules) (text : List ℕ) (p e count : ℕ) where
   pub cut_off : length text ≤ e → stop (refused 1 p) ≡ conversion_turn rules text p count e
-  unfolding conversion_turn if◌then◌else◌
+  unfolding conversion_turn when◌then◌else◌
   cut_off h = rw (le-leb (length text) e h)
 
   module _ (h : e < length text) where
     pub unknown : is_conversion rules (byte_at text e) ≡ false → stop (refused_with 2 e (char_at text e).code) ≡ conversion_turn rules text p count e
-    unfolding conversion_turn if◌then◌else◌
+    unfolding conversion_turn when◌then◌else◌
     unknown n = rw (lt-leb (length text) e h, n)
 
     module _ (k : is_conversion rules (byte_at text e) ≡ true) where
       pub bad_modifier : (good : ℕ) → good ≡ good_modifiers (byte_at text e) text (p + 1) → rules.checked_format_modifiers ≡ true → good < e
           → stop (refused_both 6 good (byte_at text good) (byte_at text e)) ≡ conversion_turn rules text p count e
-      unfolding conversion_turn if◌then◌else◌
+      unfolding conversion_turn when◌then◌else◌
       bad_modifier good q r g = rw (lt-leb (length text) e h, k, r, ← q, lt-ltb good e g)
 
       pub good_modifiers_lem : (good : ℕ) → good ≡ good_modifiers (byte_at text e) text (p + 1) → rules.checked_format_modifiers ≡ true → e ≤ good
           → goes (e + 1 - p) (count + 1) ≡ conversion_turn rules text p count e
-      unfolding conversion_turn if◌then◌else◌
+      unfolding conversion_turn when◌then◌else◌
       good_modifiers_lem good q r g = rw (lt-leb (length text) e h, k, r, ← q, le-ltb good e g)
 
       pub unchecked : rules.checked_format_modifiers ≡ false → goes (e + 1 - p) (count + 1) ≡ conversion_turn rules text p count e
-      unfolding conversion_turn if◌then◌else◌
+      unfolding conversion_turn when◌then◌else◌
       unchecked r = rw (lt-leb (length text) e h, k, r)
 
 module _ (rules : Rules) (text : List ℕ) (p count : ℕ) where
   pub lone_percent : length text ≤ p + 1 → stop (refused 1 p) ≡ percent_turn rules text p count
-  unfolding percent_turn if◌then◌else◌
+  unfolding percent_turn when◌then◌else◌
   lone_percent h = rw (le-leb (length text) (p + 1) h)
 
   module _ (h : p + 1 < length text) where
     pub two_percents : byte_at text (p + 1) ≡ 37 → goes 2 count ≡ percent_turn rules text p count
-    unfolding percent_turn if◌then◌else◌
+    unfolding percent_turn when◌then◌else◌
     two_percents e = rw (lt-leb (length text) (p + 1) h, eq-eqb (byte_at text (p + 1)) 37 e)
 
     module _ (n : byte_at text (p + 1) ≡ 37 → ⊥) where
       pub star : byte_at text (p + 1) ≡ 42 → rules.star_format ≡ true → goes 2 (count + 1) ≡ percent_turn rules text p count
-      unfolding percent_turn if◌then◌else◌
+      unfolding percent_turn when◌then◌else◌
       star e r = rw (lt-leb (length text) (p + 1) h, ne_eqb (byte_at text (p + 1)) 37 n, eq-eqb (byte_at text (p + 1)) 42 e, r)
 
       module _ (m : (eqb (byte_at text (p + 1)) 42 && rules.star_format) ≡ false) where
         pub after_modifiers : (e : ℕ) → end_at e ≡ modifiers_at rules.checked_format_modifiers text (p + 1)
             → conversion_turn rules text p count e ≡ percent_turn rules text p count
-        unfolding percent_turn specifier_turn if◌then◌else◌
+        unfolding percent_turn specifier_turn when◌then◌else◌
         after_modifiers e q = rw (lt-leb (length text) (p + 1) h, ne_eqb (byte_at text (p + 1)) 37 n, m, ← q)
 
         pub faulty_modifiers : (answer : Answer) → fault answer ≡ modifiers_at rules.checked_format_modifiers text (p + 1)
             → stop answer ≡ percent_turn rules text p count
-        unfolding percent_turn specifier_turn if◌then◌else◌
+        unfolding percent_turn specifier_turn when◌then◌else◌
         faulty_modifiers answer q = rw (lt-leb (length text) (p + 1) h, ne_eqb (byte_at text (p + 1)) 37 n, m, ← q)
 
 -- what is known of modifiers that were read at p
@@ -313,7 +313,7 @@ module _ (rules : Rules) (text : List ℕ) where
 
     module _ (h : p < length text) where
       plain_step : (byte_at text p ≡ 37 → ⊥) → format_turn rules text p count ≡ goes 1 count
-      unfolding format_turn if◌then◌else◌
+      unfolding format_turn when◌then◌else◌
       plain_step n = rw (ne_eqb (byte_at text p) 37 n)
 
       pub plain_turn : (byte_at text p ≡ 37 → ⊥) → on (p + 1) count ≡ whole
@@ -321,7 +321,7 @@ module _ (rules : Rules) (text : List ℕ) where
 
       module _ (e : byte_at text p ≡ 37) where
         percent_step : format_turn rules text p count ≡ percent_turn rules text p count
-        unfolding format_turn if◌then◌else◌
+        unfolding format_turn when◌then◌else◌
         percent_step = rw (eq-eqb (byte_at text p) 37 e)
 
         goes_on : (width count' : ℕ) → goes width count' ≡ percent_turn rules text p count → (0 < width) × (p + width ≤ length text) → GoesOn p count' width whole

@@ -3,7 +3,7 @@
 -- Assumes nothing.
 use Rattle.std.specs.Prelude.{ℕ, ◌+◌, Bool, not, ◌&&◌, ◌||◌, List, [], length, eqb, leb}
 use Prim.Native.Char.{code}
-use Rattle.luck_text.specs.Bytes.{if◌then◌else◌, byte_at, ascii, among}
+use Rattle.luck_text.specs.Bytes.{when◌then◌else◌, byte_at, ascii, among}
 use Rattle.luck_token.specs.Version.{rules_of}
 use Rattle.luck_token.specs.declared.version.Rules.{Rules}
 use Rattle.luck_text.specs.Walk.{Turn, stop, goes, walk_from}
@@ -27,33 +27,33 @@ with_options = ascii "CDeFgGhnrRtTuV"
 -- the bytes of which one must follow this one
 unfoldable pub second_bytes : ℕ → List ℕ
 second_bytes b =
-    if eqb b (code "E") then ascii "cCxXyY"
-    else if eqb b (code "O") then ascii "deHImMSuUVwWy"
-    else if eqb b (code "#") then ascii "cxdHIjmMpSUwWyY" else []
+    when eqb b (code "E") then ascii "cCxXyY"
+    else when eqb b (code "O") then ascii "deHImMSuUVwWy"
+    else when eqb b (code "#") then ascii "cxdHIjmMpSUwWyY" else []
 
 unfoldable pub is_pair : ℕ → Bool
 is_pair b = among b (ascii "EO#")
 
 -- how many bytes a conversion of one letter has with its `%`, 0 where there is none such
 unfoldable pub single_width : Bool → ℕ → ℕ
-single_width options b = if among b everywhere || (options && among b with_options) then 2 else 0
+single_width options b = when among b everywhere || (options && among b with_options) then 2 else 0
 
 -- one of two letters, the second at place p
 unfoldable pub pair_width : List ℕ → ℕ → ℕ → ℕ
-pair_width text p b = if among (byte_at text p) (second_bytes b) then 3 else 0
+pair_width text p b = when among (byte_at text p) (second_bytes b) then 3 else 0
 
 -- the conversion whose `%` stands at p
 unfoldable pub conversion_width : Bool → List ℕ → ℕ → ℕ
 conversion_width options text p =
     let b = byte_at text (p + 1) in
-    if options && is_pair b then pair_width text (p + 2) b else single_width options b
+    when options && is_pair b then pair_width text (p + 2) b else single_width options b
 
 unfoldable pub date_turn : Bool → List ℕ → ℕ → Unit {0} → Turn (Unit {0}) Answer
 date_turn options text p u =
     let width = conversion_width options text p in
-    if not (eqb (byte_at text p) (code "%")) then goes 1 tt
-    else if leb (length text) (p + 1) then (if options then stop (refused 19 p) else goes 1 tt)
-    else if eqb width 0 then stop (refused 22 (p + 1)) else goes width tt
+    when not (eqb (byte_at text p) (code "%")) then goes 1 tt
+    else when leb (length text) (p + 1) then (when options then stop (refused 19 p) else goes 1 tt)
+    else when eqb width 0 then stop (refused 22 (p + 1)) else goes width tt
 
 unfoldable pub date_end : ℕ → Unit {0} → Answer
 date_end p u = accepted 0
@@ -63,7 +63,7 @@ unfoldable pub is_star_t : List ℕ → ℕ → Bool
 is_star_t text p = eqb (length text) (p + 2) && eqb (byte_at text p) (code "*") && eqb (byte_at text (p + 1)) (code "t")
 
 unfoldable pub is_table : List ℕ → Bool
-is_table text = if eqb (byte_at text 0) (code "!") then is_star_t text 1 else is_star_t text 0
+is_table text = when eqb (byte_at text 0) (code "!") then is_star_t text 1 else is_star_t text 0
 
 unfoldable pub conversions_walk : Bool → List ℕ → Answer
 conversions_walk options text = walk_from (date_turn options text) date_end (length text) 0 tt
@@ -72,7 +72,7 @@ conversions_walk options text = walk_from (date_turn options text) date_end (len
 unfoldable pub date_walk : Bool → Bool → List ℕ → Answer
 date_walk checked options text =
     let walk = conversions_walk options text in
-    if not checked || is_table text then accepted 0 else walk
+    when not checked || is_table text then accepted 0 else walk
 
 unfoldable pub check_date : ℕ → List ℕ → Answer
 check_date version text =

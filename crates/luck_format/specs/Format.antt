@@ -3,7 +3,7 @@
 -- Assumes nothing.
 use Rattle.std.specs.Prelude.{ℕ, ◌+◌, ◌-◌, min, Bool, true, false, not, ◌&&◌, ◌||◌, List, length, drop, eqb, leb, ltb}
 use Prim.Native.Char.{code}
-use Rattle.luck_text.specs.Bytes.{if◌then◌else◌, byte_at, ascii, among, is_digit, run}
+use Rattle.luck_text.specs.Bytes.{when◌then◌else◌, byte_at, ascii, among, is_digit, run}
 use Rattle.luck_utf8.specs.Utf8.{char_at}
 use Rattle.luck_token.specs.Version.{rules_of}
 use Rattle.luck_text.specs.Walk.{Turn, stop, goes, walk_from}
@@ -35,20 +35,20 @@ pub data Modifiers : Type 0 where
 unfoldable pub get_format : List ℕ → ℕ → Modifiers
 get_format text p =
     let count = run is_modifier (drop p text) in
-    if leb 21 count then fault (refused 7 p) else end_at (p + count)
+    when leb 21 count then fault (refused 7 p) else end_at (p + count)
 
 -- a precision of at most two digits, its dot at p
 unfoldable pub scan_precision : List ℕ → ℕ → Modifiers
 scan_precision text p =
     let count = run is_digit (drop (p + 1) text) in
-    if ltb 2 count then fault (refused 5 (p + 1)) else end_at (p + 1 + count)
+    when ltb 2 count then fault (refused 5 (p + 1)) else end_at (p + 1 + count)
 
 -- a width of at most two digits at p, and a precision
 unfoldable pub scan_width : List ℕ → ℕ → Modifiers
 scan_width text p =
     let count = run is_digit (drop p text) in
     let precision = scan_precision text (p + count) in
-    if ltb 2 count then fault (refused 4 p) else if eqb (byte_at text (p + count)) (code ".") then precision
+    when ltb 2 count then fault (refused 4 p) else when eqb (byte_at text (p + count)) (code ".") then precision
     else end_at (p + count)
 
 -- scanformat: at most five flags, a width and a precision
@@ -56,7 +56,7 @@ unfoldable pub scan_format : List ℕ → ℕ → Modifiers
 scan_format text p =
     let count = run is_flag (drop p text) in
     let width = scan_width text (p + count) in
-    if leb 6 count then fault (refused_with 3 (p + 5) (byte_at text (p + 5))) else width
+    when leb 6 count then fault (refused_with 3 (p + 5) (byte_at text (p + 5))) else width
 
 unfoldable pub modifiers_at : Bool → List ℕ → ℕ → Modifiers
 modifiers_at true text p = get_format text p
@@ -72,10 +72,10 @@ is_conversion rules b =
 -- what str_format hands checkformat for a conversion: the flags that it takes, and whether a precision
 unfoldable pub flags_for : ℕ → List ℕ
 flags_for b =
-    if among b (ascii "di") then ascii "-+0 "
-    else if eqb b (code "u") then ascii "-0"
-    else if among b (ascii "oxX") then ascii "-#0"
-    else if among b (ascii "aAeEfgG") then ascii "-+#0 " else ascii "-"
+    when among b (ascii "di") then ascii "-+0 "
+    else when eqb b (code "u") then ascii "-0"
+    else when among b (ascii "oxX") then ascii "-#0"
+    else when among b (ascii "aAeEfgG") then ascii "-+#0 " else ascii "-"
 
 -- how many of them stand at p
 unfoldable pub flags_run : ℕ → List ℕ → ℕ → ℕ
@@ -94,9 +94,9 @@ good_modifiers conversion text p =
     let flags = p + flags_run conversion text p in
     let width = after_two_digits text flags in
     let precision = after_two_digits text (width + 1) in
-    if eqb conversion (code "q") then p
-    else if eqb (byte_at text flags) (code "0") then flags
-    else if takes_precision conversion && eqb (byte_at text width) (code ".") then precision else width
+    when eqb conversion (code "q") then p
+    else when eqb (byte_at text flags) (code "0") then flags
+    else when takes_precision conversion && eqb (byte_at text width) (code ".") then precision else width
 
 -- ---- The walk, with the number of specifiers so far
 
@@ -105,9 +105,9 @@ unfoldable pub conversion_turn : Rules → List ℕ → ℕ → ℕ → ℕ → 
 conversion_turn rules text p count e =
     let conversion = byte_at text e in
     let good = good_modifiers conversion text (p + 1) in
-    if leb (length text) e then stop (refused 1 p)
-    else if not (is_conversion rules conversion) then stop (refused_with 2 e (char_at text e).code)
-    else if checks_modifiers rules && ltb good e then stop (refused_both 6 good (byte_at text good) conversion)
+    when leb (length text) e then stop (refused 1 p)
+    else when not (is_conversion rules conversion) then stop (refused_with 2 e (char_at text e).code)
+    else when checks_modifiers rules && ltb good e then stop (refused_both 6 good (byte_at text good) conversion)
     else goes (e + 1 - p) (count + 1)
 
 unfoldable pub specifier_turn : Rules → List ℕ → ℕ → ℕ → Modifiers → Turn ℕ Answer
@@ -118,12 +118,12 @@ unfoldable pub percent_turn : Rules → List ℕ → ℕ → ℕ → Turn ℕ An
 percent_turn rules text p count =
     let next = byte_at text (p + 1) in
     let specifier = specifier_turn rules text p count (modifiers_at (checks_modifiers rules) text (p + 1)) in
-    if leb (length text) (p + 1) then stop (refused 1 p)
-    else if eqb next (code "%") then goes 2 count
-    else if eqb next (code "*") && rules.star_format then goes 2 (count + 1) else specifier
+    when leb (length text) (p + 1) then stop (refused 1 p)
+    else when eqb next (code "%") then goes 2 count
+    else when eqb next (code "*") && rules.star_format then goes 2 (count + 1) else specifier
 
 unfoldable pub format_turn : Rules → List ℕ → ℕ → ℕ → Turn ℕ Answer
-format_turn rules text p count = if eqb (byte_at text p) (code "%") then percent_turn rules text p count else goes 1 count
+format_turn rules text p count = when eqb (byte_at text p) (code "%") then percent_turn rules text p count else goes 1 count
 
 unfoldable pub format_end : ℕ → ℕ → Answer
 format_end p count = accepted count

@@ -9,7 +9,7 @@ use mathlib.Core.Option.{Option, none, some}
 use lib.ListN.{length, drop, length-drop}
 use lib.Dec.{ltb}
 use borrow.Author.Tests.{ltb-false}
-use Rattle.luck_text.specs.Bytes.{if◌then◌else◌, byte_at, among}
+use Rattle.luck_text.specs.Bytes.{when◌then◌else◌, byte_at, among}
 use Rattle.luck_text.proofs.Cases.{by_test}
 use Rattle.luck_answer.specs.Answer.{Answer, refused}
 use Rattle.luck_answer.proofs.Answers.{Whole, whole}
@@ -24,7 +24,7 @@ Fits len a = (a.offset ≤ len) × (among a.number line_numbers ≡ true) × (a.
 
 -- the numbers of each check are among those of a line
 all : (check : Check) → Every (λ n. among n line_numbers ≡ true) (numbers check)
-unfolding among if◌then◌else◌ allows_digit
+unfolding among when◌then◌else◌ allows_digit
 all (pattern false) = (refl, (refl, (refl, (refl, (refl, (refl, (refl, (refl, (refl, (refl, tt))))))))))
 all (pattern true) = (refl, (refl, (refl, (refl, (refl, (refl, (refl, (refl, (refl, (refl, (refl, tt)))))))))))
 all format = (refl, (refl, (refl, (refl, (refl, (refl, (refl, (refl, (refl, (refl, tt))))))))))

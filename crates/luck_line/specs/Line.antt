@@ -4,7 +4,7 @@
 use Rattle.std.specs.Prelude.{ℕ, ◌+◌, ◌*◌, ◌-◌, Bool, true, ◌&&◌, List, ◌∷◌, ◌++◌, length, drop, eqb, leb, ltb}
 use Prim.Native.Char.{code}
 use Rattle.std.proofs.Math.Option.{Option, none, some}
-use Rattle.luck_text.specs.Bytes.{if◌then◌else◌, byte_at, is_digit}
+use Rattle.luck_text.specs.Bytes.{when◌then◌else◌, byte_at, is_digit}
 use Rattle.luck_answer.specs.Answer.{Answer, refused}
 use Rattle.luck_pattern.specs.Captures.{max_captures}
 use Rattle.luck_linter.specs.Checks.{Check, format, pattern, pack, date, replacement, check_of, answer, numbers}
@@ -24,27 +24,27 @@ decimal_digit b = b - code "0"
 unfoldable pub two_digits : ℕ → ℕ → Option (Option ℕ)
 two_digits tens units =
     let count = decimal_digit tens * 10 + decimal_digit units in
-    if is_digit tens && is_digit units && leb 10 count && leb count max_captures then some (some count) else none
+    when is_digit tens && is_digit units && leb 10 count && leb count max_captures then some (some count) else none
 
 -- the captures of a replacement in their two columns, right-justified, blank where their count is not known; `none`
 -- where they do not fit
 unfoldable pub capture_columns : ℕ → ℕ → Option (Option ℕ)
 capture_columns tens units =
-    if is_blank tens && is_blank units then some none
-    else if is_blank tens && is_digit units then some (some (decimal_digit units))
+    when is_blank tens && is_blank units then some none
+    else when is_blank tens && is_digit units then some (some (decimal_digit units))
     else two_digits tens units
 
 -- by the kind and the columns, which are blank but for G
 unfoldable pub check_with : ℕ → Option (Option ℕ) → Option Check
 check_with kind none = none
 check_with kind (some none) = check_of kind none
-check_with kind (some (some count)) = if eqb kind (code "G") then check_of kind (some count) else none
+check_with kind (some (some count)) = when eqb kind (code "G") then check_of kind (some count) else none
 
 -- by the head; a line of fewer than five bytes has no space at its fifth place, which reads as 0
 unfoldable pub head_check : List ℕ → Option Check
 head_check line =
     let check = check_with (byte_at line 0) (capture_columns (byte_at line 2) (byte_at line 3)) in
-    if is_digit (byte_at line 1) && is_blank (byte_at line 4) then check else none
+    when is_digit (byte_at line 1) && is_blank (byte_at line 4) then check else none
 
 -- 30 where the head does not fit; else the check of the body, which gives 25 for a digit that is no version
 unfoldable pub body_answer : Option Check → ℕ → List ℕ → Answer
@@ -55,7 +55,7 @@ body_answer (some check) version body = answer check version body
 unfoldable pub line_answer : List ℕ → Answer
 line_answer line =
     let body = body_answer (head_check line) (decimal_digit (byte_at line 1)) (drop 5 line) in
-    if ltb longest (length line) then refused 31 0 else body
+    when ltb longest (length line) then refused 31 0 else body
 
 -- the numbers of these answers: 31, 30, and those of the checks; packsize has all of a pack format's, and a replacement
 -- without captures all of the others'

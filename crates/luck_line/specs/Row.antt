@@ -4,7 +4,7 @@
 -- Assumes nothing.
 use Rattle.std.specs.Prelude.{ℕ, ◌+◌, ◌/◌, ◌%◌, min, List, [], ◌∷◌, ◌++◌, ltb}
 use Prim.Native.Char.{code}
-use Rattle.luck_text.specs.Bytes.{if◌then◌else◌}
+use Rattle.luck_text.specs.Bytes.{when◌then◌else◌}
 use Rattle.luck_answer.specs.Answer.{Answer}
 
 -- LF
@@ -13,7 +13,7 @@ newline = code "\n"
 
 -- the digit of n at a power of ten, or a blank where it would be a leading zero
 unfoldable pub column : ℕ → ℕ → ℕ
-column power n = if ltb n power then code " " else code "0" + n / power % 10
+column power n = when ltb n power then code " " else code "0" + n / power % 10
 
 abbrev pub last_column : ℕ → ℕ
 last_column n = code "0" + n % 10

@@ -8,7 +8,7 @@ use mathlib.Core.List.{List, [], ◌∷◌, ◌++◌, append_assoc}
 use lib.ListN.{length, length-append}
 use lib.Dec.{eqb, ltb}
 use borrow.Author.Tests.{eq-eqb, ne_eqb}
-use Rattle.luck_text.specs.Bytes.{if◌then◌else◌}
+use Rattle.luck_text.specs.Bytes.{when◌then◌else◌}
 use Rattle.luck_text.proofs.Cases.{by_test}
 use Rattle.luck_answer.specs.Answer.{Answer}
 use Rattle.luck_line.specs.Row.{column, justified, four_columns, seven_columns, listing_row, answer_row, totals_row}
@@ -45,11 +45,11 @@ unfolding is_empty
 something_left rest more b e = ap is_empty (sym e)
 
 at_newline : (k b : ℕ) (out : List ℕ) → b ≡ 10 → ends_in_14_columns k (b ∷ out) ≡ ((is_empty out && eqb k 14) || ends_in_14_columns 0 out)
-unfolding ends_in_14_columns if◌then◌else◌
+unfolding ends_in_14_columns when◌then◌else◌
 at_newline k b out e = rw (eq-eqb b 10 e)
 
 in_line : (k b : ℕ) (out : List ℕ) → eqb b 10 ≡ false → ends_in_14_columns k (b ∷ out) ≡ ends_in_14_columns (k + 1) out
-unfolding ends_in_14_columns if◌then◌else◌
+unfolding ends_in_14_columns when◌then◌else◌
 in_line k b out e = rw e
 
 -- What holds from a line's newline on holds from its beginning, with k columns before it.

@@ -9,7 +9,7 @@ use mathlib.Core.List.{List, [], ◌∷◌, ◌++◌, append-nil, append_assoc}
 use lib.ListN.{length, take, drop, replicate, length-append, length-replicate}
 use lib.Seq.{append_snoc}
 use lib.Dec.{eqb}
-use Rattle.luck_text.specs.Bytes.{if◌then◌else◌, run}
+use Rattle.luck_text.specs.Bytes.{when◌then◌else◌, run}
 use Rattle.luck_answer.specs.Answer.{Answer, refused}
 use Rattle.luck_line.specs.Line.{line_answer}
 use Rattle.luck_line.specs.Row.{justified, seven_columns, answer_row, totals_row}
@@ -22,10 +22,10 @@ use Rattle.luck_line.proofs.Heads.{too_long_lem}
 
 at_newline : (t : Bool) (line : List ℕ) (b : ℕ) (xs rest : List ℕ)
     → ((l : List ℕ) → line_length xs < length xs → lines_from l (xs ++ rest) ≡ (l ++ take (line_length xs) xs) ∷ lines_from [] (drop (suc (line_length xs)) xs ++ rest))
-    → (if not t then suc (line_length xs) else 0) < suc (length xs)
-    → (if t then line ∷ lines_from [] (xs ++ rest) else lines_from (line ++ (b ∷ [])) (xs ++ rest))
-    ≡ (line ++ take (if not t then suc (line_length xs) else 0) (b ∷ xs)) ∷ lines_from [] (drop (suc (if not t then suc (line_length xs) else 0)) (b ∷ xs) ++ rest)
-unfolding if◌then◌else◌
+    → (when not t then suc (line_length xs) else 0) < suc (length xs)
+    → (when t then line ∷ lines_from [] (xs ++ rest) else lines_from (line ++ (b ∷ [])) (xs ++ rest))
+    ≡ (line ++ take (when not t then suc (line_length xs) else 0) (b ∷ xs)) ∷ lines_from [] (drop (suc (when not t then suc (line_length xs) else 0)) (b ∷ xs) ++ rest)
+unfolding when◌then◌else◌
 at_newline true line b xs rest ih h = ap (λ (l : List ℕ). l ∷ lines_from [] (xs ++ rest)) (sym (append-nil line))
 at_newline false line b xs rest ih h =
     ih (line ++ (b ∷ [])) (le_of_suc-le-suc h)
@@ -41,9 +41,9 @@ lines_newline line (b ∷ xs) rest h = at_newline (eqb b 10) line b xs rest (λ 
 
 past_none : (t : Bool) (line : List ℕ) (b : ℕ) (xs rest : List ℕ)
     → ((l : List ℕ) → line_length xs ≡ length xs → lines_from l (xs ++ rest) ≡ lines_from (l ++ xs) rest)
-    → (if not t then suc (line_length xs) else 0) ≡ suc (length xs)
-    → (if t then line ∷ lines_from [] (xs ++ rest) else lines_from (line ++ (b ∷ [])) (xs ++ rest)) ≡ lines_from (line ++ b ∷ xs) rest
-unfolding if◌then◌else◌
+    → (when not t then suc (line_length xs) else 0) ≡ suc (length xs)
+    → (when t then line ∷ lines_from [] (xs ++ rest) else lines_from (line ++ (b ∷ [])) (xs ++ rest)) ≡ lines_from (line ++ b ∷ xs) rest
+unfolding when◌then◌else◌
 past_none true line b xs rest ih h = absurd (suc-ne-zero (length xs) (sym h))
 past_none false line b xs rest ih h = ih (line ++ (b ∷ [])) (suc_inj h) ∙ ap (λ (l : List ℕ). lines_from l rest) (append_snoc line b xs)
 
@@ -66,8 +66,8 @@ longer : (l : List ℕ) (b : ℕ) → 4005 < length l → 4005 < length (l ++ (b
 longer l b h = omega (arith, length-append l (b ∷ []))
 
 same_next : (t : Bool) (l m : List ℕ) (next : List (List ℕ)) (on on' : List (List ℕ)) → 4005 < length l → 4005 < length m → answers on ≡ answers on'
-    → answers (if t then l ∷ next else on) ≡ answers (if t then m ∷ next else on')
-unfolding if◌then◌else◌ answers
+    → answers (when t then l ∷ next else on) ≡ answers (when t then m ∷ next else on')
+unfolding when◌then◌else◌ answers
 same_next true l m next on on' hl hm e = ap (λ (a : Answer). a ∷ answers next) (long_answer l hl ∙ sym (long_answer m hm))
 same_next false l m next on on' hl hm e = e
 
@@ -134,13 +134,13 @@ shown_more total n = omega arith
 abbrev listed : ℕ → ℕ → List Answer → List ℕ
 listed read refused all = rows all ++ totals_row (read + length all) (refused + refused_count all)
 
-refused_more : (t : Bool) (total n : ℕ) → min (total + ((if t then 1 else 0) + n)) 9999999 ≡ min ((if t then min (total + 1) 9999999 else total) + n) 9999999
-unfolding if◌then◌else◌
+refused_more : (t : Bool) (total n : ℕ) → min (total + ((when t then 1 else 0) + n)) 9999999 ≡ min ((when t then min (total + 1) 9999999 else total) + n) 9999999
+unfolding when◌then◌else◌
 refused_more true total n = omega arith
 refused_more false total n = omega arith
 
 totals_more : (s : State) (a : Answer) (n m : ℕ)
-    → totals_row (s.read + suc n) (s.refused + ((if is_refused a.number then 1 else 0) + m)) ≡ totals_row ((counted s a.number).read + n) ((counted s a.number).refused + m)
+    → totals_row (s.read + suc n) (s.refused + ((when is_refused a.number then 1 else 0) + m)) ≡ totals_row ((counted s a.number).read + n) ((counted s a.number).refused + m)
 unfolding totals_row counted
 totals_more s a n m = rw (shown_more s.read n, refused_more (is_refused a.number) s.refused m)
 

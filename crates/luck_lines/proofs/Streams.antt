@@ -11,7 +11,7 @@ use lib.Seq.{take_at, drop_at, take_all, length-take-le, take-append-add, take-a
 use lib.Dec.{eqb, ltb}
 use borrow.Author.Tests.{lt-ltb, le-ltb, ne_eqb, eq-eqb}
 use borrow.Rule.Slice.PartMut.{put_mid}
-use Rattle.luck_text.specs.Bytes.{if◌then◌else◌, byte_at, part, in_front}
+use Rattle.luck_text.specs.Bytes.{when◌then◌else◌, byte_at, part, in_front}
 use Rattle.luck_text.specs.Walk.{stop, goes, walk_from}
 use Rattle.luck_text.proofs.Walk.{walk_end, walk_stop, walk_goes}
 use Rattle.luck_text.proofs.Bytes.{run_more, run_stop, run_end, run_inside}
@@ -74,8 +74,8 @@ pub of_short : (long : Bool) (line : List ℕ) → long ≡ false → line_answe
 unfolding answer_after
 of_short long line e = rw e
 
-fed_if : (b : Bool) (x y : Taken) → (if b then fed_of x else fed_of y) ≡ fed_of (if b then x else y)
-unfolding if◌then◌else◌
+fed_if : (b : Bool) (x y : Taken) → (when b then fed_of x else fed_of y) ≡ fed_of (when b then x else y)
+unfolding when◌then◌else◌
 fed_if true x y = refl
 fed_if false x y = refl
 
@@ -94,7 +94,7 @@ module _ (input : List ℕ) (room : ℕ) where
   at_end p s h = walk_end (feed_turn input room) (unended input) (length input) p s h
 
   turn_none : (p : ℕ) (s : FeedState) → p + line_length (drop p input) ≡ length input → feed_turn input room p s ≡ stop (unended input p s)
-  unfolding feed_turn if◌then◌else◌
+  unfolding feed_turn when◌then◌else◌
   turn_none p s e = rw (eq-eqb (p + line_length (drop p input)) (length input) e)
 
   pub no_newline : (p : ℕ) (s : FeedState) → p < length input → p + line_length (drop p input) ≡ length input → on p s ≡ unended input p s
@@ -102,7 +102,7 @@ module _ (input : List ℕ) (room : ℕ) where
 
   module _ (p : ℕ) (written : List ℕ) (s : State) (h : p < length input) (n : p + line_length (drop p input) ≡ length input → ⊥) where
     turn_full : room - length written < 19 → feed_turn input room p (feed_state written s) ≡ stop (taken p written s)
-    unfolding feed_turn line_turn if◌then◌else◌
+    unfolding feed_turn line_turn when◌then◌else◌
     turn_full r = rw (ne_eqb (p + line_length (drop p input)) (length input) n, lt-ltb (room - length written) 19 r)
 
     pub no_room : room - length written < 19 → on p (feed_state written s) ≡ taken p written s
@@ -116,7 +116,7 @@ module _ (input : List ℕ) (room : ℕ) where
     after = feed_state (written ++ answer_row answer) (counted s answer.number)
 
     turn_line : 19 ≤ room - length written → feed_turn input room p (feed_state written s) ≡ goes (line_length (drop p input) + 1) after
-    unfolding feed_turn line_turn if◌then◌else◌
+    unfolding feed_turn line_turn when◌then◌else◌
     turn_line r = rw (ne_eqb (p + line_length (drop p input)) (length input) n, le-ltb (room - length written) 19 r)
 
     pub line_taken : 19 ≤ room - length written → on p (feed_state written s) ≡ on (p + (line_length (drop p input) + 1)) after
@@ -264,20 +264,20 @@ last_put s all number line first out part h m n e p =
 
 module _ (s : State) (left : List ℕ) (room : ℕ) where
   pub finish_full : room < 34 → finish s left room ≡ []
-  unfolding finish if◌then◌else◌
+  unfolding finish when◌then◌else◌
   finish_full h = rw (lt-ltb room 34 h)
 
   module _ (h : 34 ≤ room) where
     pub finish_long : s.long ≡ true → finish s left room ≡ last_row_and_totals s left
-    unfolding finish if◌then◌else◌
+    unfolding finish when◌then◌else◌
     finish_long e = rw (le-ltb room 34 h, e)
 
     pub finish_empty : s.long ≡ false → length left ≡ 0 → finish s left room ≡ totals_of s
-    unfolding finish if◌then◌else◌
+    unfolding finish when◌then◌else◌
     finish_empty e l = rw (le-ltb room 34 h, e, eq-eqb (length left) 0 l)
 
     pub finish_row : s.long ≡ false → (length left ≡ 0 → ⊥) → finish s left room ≡ last_row_and_totals s left
-    unfolding finish if◌then◌else◌
+    unfolding finish when◌then◌else◌
     finish_row e l = rw (le-ltb room 34 h, e, ne_eqb (length left) 0 l)
 
     -- with the row of a last line

@@ -2,7 +2,7 @@
 -- (document 02, F-9).
 -- Assumes nothing.
 use Rattle.std.specs.Prelude.{ℕ, ◌+◌, Bool, true, false, not, ◌&&◌, ◌||◌, List, [], ◌∷◌, ◌++◌, length, eqb}
-use Rattle.luck_text.specs.Bytes.{if◌then◌else◌}
+use Rattle.luck_text.specs.Bytes.{when◌then◌else◌}
 use Rattle.luck_answer.specs.Answer.{Answer}
 use Rattle.luck_line.specs.Line.{line_answer}
 use Rattle.luck_line.specs.Row.{newline, answer_row, totals_row}
@@ -18,7 +18,7 @@ lines_from line [] = last_line line
 lines_from line (b ∷ input) =
     let next = line ∷ lines_from [] input in
     let on = lines_from (line ++ (b ∷ [])) input in
-    if eqb b newline then next else on
+    when eqb b newline then next else on
 
 unfoldable pub lines : List ℕ → List (List ℕ)
 lines input = lines_from [] input
@@ -38,7 +38,7 @@ is_refused number = not (eqb number 0)
 -- how many of these lines are refused
 unfoldable pub refused_count : List Answer → ℕ
 refused_count [] = 0
-refused_count (a ∷ more) = (if is_refused a.number then 1 else 0) + refused_count more
+refused_count (a ∷ more) = (when is_refused a.number then 1 else 0) + refused_count more
 
 -- what the program writes
 unfoldable pub listing : List ℕ → List ℕ
@@ -59,7 +59,7 @@ ends_in_14_columns columns [] = false
 ends_in_14_columns columns (b ∷ text) =
     let next = (is_empty text && eqb columns totals_columns) || ends_in_14_columns 0 text in
     let on = ends_in_14_columns (columns + 1) text in
-    if eqb b newline then next else on
+    when eqb b newline then next else on
 
 unfoldable pub is_whole : List ℕ → Bool
 is_whole text = ends_in_14_columns 0 text

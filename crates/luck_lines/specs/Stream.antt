@@ -3,7 +3,7 @@
 -- (proofs/Promises.antt).
 -- Assumes nothing.
 use Rattle.std.specs.Prelude.{ℕ, ◌+◌, ◌-◌, ◌≤◌, min, ◌≡◌, Bool, true, false, not, ◌||◌, List, [], ◌++◌, length, drop, replicate, eqb, ltb}
-use Rattle.luck_text.specs.Bytes.{if◌then◌else◌, part, run}
+use Rattle.luck_text.specs.Bytes.{when◌then◌else◌, part, run}
 use Rattle.luck_text.specs.Walk.{Turn, stop, goes, walk_from}
 use Rattle.luck_answer.specs.Answer.{Answer, refused}
 use Rattle.luck_line.specs.Line.{longest, line_answer}
@@ -43,7 +43,7 @@ unfoldable pub counted : State → ℕ → State
 counted s number = record {
   long = false;
   read = min (s.read + 1) most_shown;
-  refused = if is_refused number then min (s.refused + 1) most_shown else s.refused;
+  refused = when is_refused number then min (s.refused + 1) most_shown else s.refused;
 }
 
 abbrev pub totals_of : State → List ℕ
@@ -71,7 +71,7 @@ feed_state written s = record { written = written; state = s }
 -- no newline is left after place p: what there is stays for the next call, unless the line is too long already
 unfoldable pub unended : List ℕ → ℕ → FeedState → Taken
 unended input p s =
-    if s.state.long || ltb longest (length input - p) then taken (length input) s.written (too_long s.state)
+    when s.state.long || ltb longest (length input - p) then taken (length input) s.written (too_long s.state)
     else taken p s.written s.state
 
 module _ (input : List ℕ) (room : ℕ) where
@@ -79,13 +79,13 @@ module _ (input : List ℕ) (room : ℕ) where
   unfoldable pub line_turn : ℕ → FeedState → ℕ → Turn FeedState Taken
   line_turn p s n =
       let a = answer_after s.state.long (part input p (p + n)) in
-      if ltb (room - length s.written) row_length then stop (taken p s.written s.state)
+      when ltb (room - length s.written) row_length then stop (taken p s.written s.state)
       else goes (n + 1) (feed_state (s.written ++ answer_row a) (counted s.state a.number))
 
   unfoldable pub feed_turn : ℕ → FeedState → Turn FeedState Taken
   feed_turn p s =
       let n = line_length (drop p input) in
-      if eqb (p + n) (length input) then stop (unended input p s) else line_turn p s n
+      when eqb (p + n) (length input) then stop (unended input p s) else line_turn p s n
 
   -- whole lines from the front, while there is room
   unfoldable pub feed : State → Taken
@@ -99,8 +99,8 @@ last_row_and_totals s line = let a = answer_after s.long line in answer_row a ++
 -- anything; nothing is written if there is no room for a row and the totals
 unfoldable pub finish : State → List ℕ → ℕ → List ℕ
 finish s left room =
-    if ltb room (row_length + totals_length) then []
-    else if s.long || not (eqb (length left) 0) then last_row_and_totals s left else totals_of s
+    when ltb room (row_length + totals_length) then []
+    else when s.long || not (eqb (length left) 0) then last_row_and_totals s left else totals_of s
 
 -- the code's answer
 abbrev pub fed_of : Taken → Fed

@@ -10,7 +10,7 @@ use mathlib.Core.Option.{Option, none, some}
 use lib.Dec.{eqb, ltb}
 use lib.ListN.{length, length-append, length-set}
 use borrow.Author.Tests.{eqb-true}
-use Rattle.luck_text.specs.Bytes.{if◌then◌else◌, byte_at, among}
+use Rattle.luck_text.specs.Bytes.{when◌then◌else◌, byte_at, among}
 use Rattle.luck_text.specs.Walk.{Turn}
 use Rattle.luck_text.proofs.Cases.{by_test, and_left, and_right, both_true, present}
 use Rattle.luck_text.proofs.Among.{Every, every_among}
@@ -69,7 +69,7 @@ module _ (text : List ℕ) where
   end_in p = walk_every (member_turn text) members_end (length text) (EndIn (length text)) members_in no_member_in (first_member text p) _
 
   set_as_in : (p : ℕ) (end : SetEnd) → p < length text → EndIn (length text) end → ReadIn (length text) (set_as false text p end)
-  unfolding set_as closed_as reversed_of if◌then◌else◌ among
+  unfolding set_as closed_as reversed_of when◌then◌else◌ among
   set_as_in p (closes_at e) h i = tt
   set_as_in p (cut_at e) h i = (omega arith, refl, omega arith)
   set_as_in p unclosed h i = (

@@ -12,7 +12,7 @@ use mathlib.Core.Option.{Option, none, some}
 use lib.ListN.{length}
 use lib.Dec.{eqb, leb}
 use borrow.Author.Tests.{leb-true, eqb-true}
-use Rattle.luck_text.specs.Bytes.{if◌then◌else◌, byte_at}
+use Rattle.luck_text.specs.Bytes.{when◌then◌else◌, byte_at}
 use Rattle.luck_text.proofs.Cases.{by_test, if_true, if_false, and_left, and_right}
 use Rattle.luck_utf8.specs.Utf8.{ill_formed, is_char, utf8_bytes}
 use Rattle.luck_utf8.proofs.Parts.{between_ascii}
@@ -75,16 +75,16 @@ span_keeps start body a = by_test (λ (l : LiteralAnswer). (l.skipped ≡ false)
 
 -- the two tests of whether to skip
 abbrev skipping : Bool → Bool → LiteralAnswer → LiteralAnswer
-skipping short numeric a = if short then (if numeric then skipped_answer else a) else skipped_answer
+skipping short numeric a = when short then (when numeric then skipped_answer else a) else skipped_answer
 
 skips : (short numeric : Bool) (a : LiteralAnswer) → a.skipped ≡ false → (skipping short numeric a).skipped ≡ (not short || numeric)
-unfolding if◌then◌else◌
+unfolding when◌then◌else◌
 skips true true a h = refl
 skips true false a h = h
 skips false numeric a h = refl
 
 passed : (short numeric : Bool) (a : LiteralAnswer) → (skipping short numeric a).skipped ≡ false → (short ≡ true) × (skipping short numeric a ≡ a)
-unfolding if◌then◌else◌
+unfolding when◌then◌else◌
 passed true true a h = absurd (true≢false h)
 passed true false a h = (refl, refl)
 passed false numeric a h = absurd (true≢false h)
@@ -131,7 +131,7 @@ module _ (kind version : ℕ) (captures : Option ℕ) (start : ℕ) (text : List
 
   -- a literal that is answered 39 is not skipped
   shown : (short numeric : Bool) (a : LiteralAnswer) → (skipping short numeric a).answer.number ≡ 39 → skipping short numeric a ≡ a
-  unfolding if◌then◌else◌
+  unfolding when◌then◌else◌
   shown true true a e = absurd (omega arith)
   shown true false a e = refl
   shown false numeric a e = absurd (omega arith)
@@ -158,7 +158,7 @@ module _ (version : ℕ) (known : is_version version ≡ true) (text : List ℕ)
   tested : (walked : Answer) → check_text version text walked ≡ refused 23 place
   tested walked = sym (text_ill_formed version text walked known place (sym e))
 
-  -- every check of a body answers 23 at its first ill_formed_lem sequence,
+  -- every check of a body answers 23 at its first ill-formed sequence,
   pub ill_formed_checked : (check : Check) → answer check version text ≡ refused 23 place
   ill_formed_checked check = whole_check check version text ∙ tested (walk_of check (rules_of version) text)
 

@@ -8,7 +8,7 @@ use mathlib.Core.Logic.{⊎_elim}
 use mathlib.Core.Bool.{Bool, true, false, true≢false}
 use mathlib.Core.List.{List, [], ◌∷◌}
 use borrow.Author.Tests.{ne_eqb}
-use Rattle.luck_text.specs.Bytes.{if◌then◌else◌, among}
+use Rattle.luck_text.specs.Bytes.{when◌then◌else◌, among}
 use Rattle.luck_text.proofs.Cases.{by_test, and_right, if_false}
 use Rattle.luck_utf8.specs.Utf8.{char_at}
 use Rattle.luck_utf8.proofs.Width.{one_wide}
@@ -84,8 +84,8 @@ no_backslash : (check : Check) (body : List ℕ) → tests_ranges (literal_check
 unfolding literal_check
 no_backslash check body e = go (has_backslash body) refl e
   where
-    go : (b : Bool) → has_backslash body ≡ b → tests_ranges (if b then without_ranges check else check) ≡ true → has_backslash body ≡ false
-    go true q e = absurd (true≢false (sym e ∙ (unfold if◌then◌else◌ in untested check)))
+    go : (b : Bool) → has_backslash body ≡ b → tests_ranges (when b then without_ranges check else check) ≡ true → has_backslash body ≡ false
+    go true q e = absurd (true≢false (sym e ∙ (unfold when◌then◌else◌ in untested check)))
     go false q e = q
 
 pub reversed_body : (check : Check) (rules : Rules) (start : ℕ) (body : List ℕ)

@@ -11,7 +11,7 @@ use lib.ListN.{length, drop, drop_of_length-le}
 use lib.Seq.{drop-cons}
 use lib.Dec.{eqb}
 use borrow.Author.Tests.{eq-eqb, ne_eqb}
-use Rattle.luck_text.specs.Bytes.{if◌then◌else◌, byte_at, part, among}
+use Rattle.luck_text.specs.Bytes.{when◌then◌else◌, byte_at, part, among}
 use Rattle.luck_token.specs.Version.{rules_of}
 use Rattle.luck_token.specs.Literal.{is_short, short_string_body}
 use Rattle.luck_token.specs.Span.{u32_max, span_of, shifted_by}
@@ -40,12 +40,12 @@ use Rattle.luck_linter.specs.StringLiteral.{
 -- ---- Numeric escapes
 
 plain : (b : ℕ) (more : List ℕ) → (b ≡ 92 → ⊥) → has_numeric_escape (b ∷ more) ≡ has_numeric_escape more
-unfolding has_numeric_escape if◌then◌else◌
+unfolding has_numeric_escape when◌then◌else◌
 plain b [] h = refl
 plain b (c ∷ more) h = rw (ne_eqb b 92 h)
 
 pair : (b c : ℕ) (more : List ℕ) → b ≡ 92 → has_numeric_escape (b ∷ c ∷ more) ≡ (is_numeric_escape c || has_numeric_escape more)
-unfolding has_numeric_escape if◌then◌else◌
+unfolding has_numeric_escape when◌then◌else◌
 pair b c more e = rw (eq-eqb b 92 e)
 
 last : (b : ℕ) → has_numeric_escape (b ∷ []) ≡ false
@@ -171,17 +171,17 @@ module _ (check : Check) (rules : Rules) (start : ℕ) (body : List ℕ) where
 
   module _ (e : has_numeric_escape body ≡ false) where
     walked : (backslash : Bool) → among 92 body ≡ backslash
-        → with_span start body (walk_of (if backslash then without_ranges check else check) rules body) ≡ check_body check rules start body
+        → with_span start body (walk_of (when backslash then without_ranges check else check) rules body) ≡ check_body check rules start body
     unfolding check_body literal_check
     walked backslash b =
-        ap (λ t. with_span start body (walk_of (if t then without_ranges check else check) rules body)) (sym b) ∙ sym (if_false _ _ _ e)
+        ap (λ t. with_span start body (walk_of (when t then without_ranges check else check) rules body)) (sym b) ∙ sym (if_false _ _ _ e)
 
     pub body_bare : among 92 body ≡ false → with_span start body (walk_of check rules body) ≡ check_body check rules start body
-    unfolding if◌then◌else◌
+    unfolding when◌then◌else◌
     body_bare b = walked false b
 
     pub body_escaped : among 92 body ≡ true → with_span start body (walk_of (without_ranges check) rules body) ≡ check_body check rules start body
-    unfolding if◌then◌else◌
+    unfolding when◌then◌else◌
     body_escaped b = walked true b
 
 -- ---- The literal

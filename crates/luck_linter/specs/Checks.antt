@@ -4,7 +4,7 @@
 use Rattle.std.specs.Prelude.{ℕ, Bool, true, false, List, [], ◌∷◌, eqb}
 use Prim.Native.Char.{code}
 use Rattle.std.proofs.Math.Option.{Option, none, some}
-use Rattle.luck_text.specs.Bytes.{if◌then◌else◌}
+use Rattle.luck_text.specs.Bytes.{when◌then◌else◌}
 use Rattle.luck_token.specs.declared.version.Rules.{Rules}
 use Rattle.luck_answer.specs.Answer.{Answer}
 use Rattle.luck_pattern.specs.Pattern.{pattern_walk, check_pattern_as}
@@ -27,12 +27,12 @@ pub data Check : Type 0 where
 -- the check that a kind letter names, a replacement's with this count of captures; none for another byte
 unfoldable pub check_of : ℕ → Option ℕ → Option Check
 check_of kind captures =
-    if eqb kind (code "F") then some format
-    else if eqb kind (code "P") then some (pattern true)
-    else if eqb kind (code "K") then some (pack false)
-    else if eqb kind (code "S") then some (pack true)
-    else if eqb kind (code "G") then some (replacement captures)
-    else if eqb kind (code "D") then some date else none
+    when eqb kind (code "F") then some format
+    else when eqb kind (code "P") then some (pattern true)
+    else when eqb kind (code "K") then some (pack false)
+    else when eqb kind (code "S") then some (pack true)
+    else when eqb kind (code "G") then some (replacement captures)
+    else when eqb kind (code "D") then some date else none
 
 -- a pattern's check without its test of ranges; every other check as it is
 unfoldable pub without_ranges : Check → Check
@@ -66,7 +66,7 @@ numbers (pattern false) = 0 ∷ 1 ∷ 8 ∷ 9 ∷ 10 ∷ 11 ∷ 12 ∷ 13 ∷ 23
 numbers (pattern true) = 0 ∷ 1 ∷ 8 ∷ 9 ∷ 10 ∷ 11 ∷ 12 ∷ 13 ∷ 23 ∷ 25 ∷ 39 ∷ []
 numbers date = 0 ∷ 19 ∷ 22 ∷ 23 ∷ 25 ∷ []
 numbers (replacement captures) =
-    0 ∷ 19 ∷ 20 ∷ 23 ∷ 25 ∷ (if allows_digit captures 9 then [] else 21 ∷ [])
+    0 ∷ 19 ∷ 20 ∷ 23 ∷ 25 ∷ (when allows_digit captures 9 then [] else 21 ∷ [])
 numbers (pack false) = 0 ∷ 14 ∷ 15 ∷ 16 ∷ 17 ∷ 23 ∷ 25 ∷ []
 numbers (pack true) = 0 ∷ 14 ∷ 15 ∷ 16 ∷ 17 ∷ 18 ∷ 23 ∷ 25 ∷ []
 

@@ -5,7 +5,7 @@
 use Rattle.std.specs.Prelude.{ℕ, ◌+◌, ◌-◌, Bool, true, false, ◌||◌, List, [], ◌∷◌, length, eqb}
 use Prim.Native.Char.{code}
 use Rattle.std.proofs.Math.Option.{Option, none, some}
-use Rattle.luck_text.specs.Bytes.{if◌then◌else◌, part, among, is_digit}
+use Rattle.luck_text.specs.Bytes.{when◌then◌else◌, part, among, is_digit}
 use Rattle.luck_token.specs.Version.{rules_of}
 use Rattle.luck_utf8.specs.Utf8.{char_at}
 use Rattle.luck_token.specs.Literal.{is_short}
@@ -26,14 +26,14 @@ has_numeric_escape (b ∷ []) = false
 has_numeric_escape (b ∷ c ∷ more) =
     let pair = is_numeric_escape c || has_numeric_escape more in
     let byte = has_numeric_escape (c ∷ more) in
-    if eqb b (code "\\") then pair else byte
+    when eqb b (code "\\") then pair else byte
 
 abbrev pub has_backslash : List ℕ → Bool
 has_backslash body = among (code "\\") body
 
 -- an escape may stand for an end of a range, as in `[\n-a]`, so ranges are not tested in a body with a backslash
 unfoldable pub literal_check : Check → List ℕ → Check
-literal_check check body = if has_backslash body then without_ranges check else check
+literal_check check body = when has_backslash body then without_ranges check else check
 
 -- skipped; or an answer, with a span where it is a refusal of the body
 pub record LiteralAnswer : Type 0 where
@@ -68,7 +68,7 @@ span_at start body offset = span_of (start + 1 + offset) (start + 1 + offset + (
 
 unfoldable pub with_span : ℕ → List ℕ → Answer → LiteralAnswer
 with_span start body answer =
-    if eqb answer.number 0 then unspanned answer else spanned_answer answer (span_at start body answer.offset)
+    when eqb answer.number 0 then unspanned answer else spanned_answer answer (span_at start body answer.offset)
 
 -- the body of a short string: what stands between its quotes
 abbrev pub body_of : List ℕ → List ℕ
@@ -77,12 +77,12 @@ body_of text = part text 1 (length text - 1)
 unfoldable pub check_body : Check → Rules → ℕ → List ℕ → LiteralAnswer
 check_body check rules start body =
     let walked = with_span start body (walk_of (literal_check check body) rules body) in
-    if has_numeric_escape body then skipped_answer else walked
+    when has_numeric_escape body then skipped_answer else walked
 
 unfoldable pub check_short : Check → Rules → ℕ → List ℕ → LiteralAnswer
 check_short check rules start text =
     let body = check_body check rules start (body_of text) in
-    if is_short text then body else skipped_answer
+    when is_short text then body else skipped_answer
 
 -- what comes before every check comes before this one too, without a span; then whether to skip
 unfoldable pub check_named_literal : Option Check → ℕ → ℕ → List ℕ → LiteralAnswer
@@ -90,7 +90,7 @@ check_named_literal none version start text = unspanned (refused 30 0)
 check_named_literal (some check) version start text =
     let tested = check_text version text (accepted 0) in
     let short = check_short check (rules_of version) start text in
-    if eqb tested.number 0 then short else unspanned tested
+    when eqb tested.number 0 then short else unspanned tested
 
 -- 30, 25, 23, then the body of the text
 unfoldable pub check_literal : ℕ → ℕ → Option ℕ → ℕ → List ℕ → LiteralAnswer

@@ -2,8 +2,8 @@
 -- Assumes nothing.
 use Rattle.std.specs.Prelude.{ℕ, ◌+◌, List, length, leb}
 use Rattle.std.proofs.lemmas.List.Edits.{sets}
-use Rattle.luck_text.specs.Bytes.{if◌then◌else◌}
+use Rattle.luck_text.specs.Bytes.{when◌then◌else◌}
 
 -- the output with these bytes at a place, where they fit
 unfoldable pub stores : List ℕ → ℕ → List ℕ → List ℕ
-stores output p bytes = if leb (p + length bytes) (length output) then sets output p bytes else output
+stores output p bytes = when leb (p + length bytes) (length output) then sets output p bytes else output

@@ -12,7 +12,7 @@ use mathlib.Core.List.{List, [], ◌∷◌}
 use mathlib.Core.Option.{Option, none, some}
 use lib.ListN.{length}
 use borrow.Author.Tests.{le-leb, leb-false}
-use Rattle.luck_text.specs.Bytes.{if◌then◌else◌, byte_at, among, is_digit}
+use Rattle.luck_text.specs.Bytes.{when◌then◌else◌, byte_at, among, is_digit}
 use Rattle.luck_text.specs.Walk.{Turn, walk_from}
 use Rattle.luck_text.specs.Walk.Turn.{stop, goes}
 use Rattle.luck_text.proofs.Cases.{by_test, if_true, order}
@@ -104,11 +104,11 @@ values false (first ∷ more) = let kind = kind_of first.read.letter in values_o
 
 -- a letter with a number is no `X`
 limited_letter : (letter : ℕ) → among letter limited_letters ≡ true → is_paddalign (kind_of letter) ≡ false
-unfolding kind_of is_paddalign among if◌then◌else◌
+unfolding kind_of is_paddalign among when◌then◌else◌
 limited_letter = every_among (λ (x : ℕ). is_paddalign (kind_of x) ≡ false) limited_letters (refl, (refl, (refl, (refl, tt))))
 
 fixed_letter : is_paddalign (kind_of (code "c")) ≡ false
-unfolding kind_of is_paddalign among if◌then◌else◌
+unfolding kind_of is_paddalign among when◌then◌else◌
 fixed_letter = refl
 
 module _ (text : List ℕ) where

@@ -11,7 +11,7 @@ use mathlib.Core.Option.{Option, none, some}
 use lib.ListN.{length, drop}
 use lib.Dec.{eqb}
 use borrow.Author.Tests.{lt-ltb, le-ltb, le-leb, lt-leb, eq-eqb, ne_eqb}
-use Rattle.luck_text.specs.Bytes.{if◌then◌else◌, byte_at, part, ascii, among, is_digit, run, numeral}
+use Rattle.luck_text.specs.Bytes.{when◌then◌else◌, byte_at, part, ascii, among, is_digit, run, numeral}
 use Rattle.luck_utf8.specs.Utf8.{char_at}
 use Rattle.luck_text.specs.Scan.{most}
 use Rattle.luck_text.specs.Walk.{Turn, walk_from}
@@ -99,35 +99,35 @@ use Rattle.luck_pack.specs.declared.pack.Turn.TheVariants as packturn
 
 module _ (b : ℕ) where
   pub byte_sized : among b (ascii "bB") ≡ true → some (Sized 1) ≡ kept_plain b
-  unfolding kept_plain kept kept_as kind_of luck_size luck_sizeof number_or among if◌then◌else◌
+  unfolding kept_plain kept kept_as kind_of luck_size luck_sizeof number_or among when◌then◌else◌
   byte_sized = every_among (λ x. some (Sized 1) ≡ kept_plain x) (ascii "bB") (refl, (refl, tt)) b
 
   pub short_sized : among b (ascii "hH") ≡ true → some (Sized 2) ≡ kept_plain b
-  unfolding kept_plain kept kept_as kind_of luck_size luck_sizeof number_or among if◌then◌else◌
+  unfolding kept_plain kept kept_as kind_of luck_size luck_sizeof number_or among when◌then◌else◌
   short_sized = every_among (λ x. some (Sized 2) ≡ kept_plain x) (ascii "hH") (refl, (refl, tt)) b
 
   pub int_sized : among b (ascii "lLjJTf") ≡ true → some (Sized 4) ≡ kept_plain b
-  unfolding kept_plain kept kept_as kind_of luck_size luck_sizeof number_or among if◌then◌else◌
+  unfolding kept_plain kept kept_as kind_of luck_size luck_sizeof number_or among when◌then◌else◌
   int_sized = every_among (λ x. some (Sized 4) ≡ kept_plain x) (ascii "lLjJTf") (refl, (refl, (refl, (refl, (refl, (refl, tt)))))) b
 
   pub double_sized : among b (ascii "dn") ≡ true → some (Sized 8) ≡ kept_plain b
-  unfolding kept_plain kept kept_as kind_of luck_size luck_sizeof number_or among if◌then◌else◌
+  unfolding kept_plain kept kept_as kind_of luck_size luck_sizeof number_or among when◌then◌else◌
   double_sized = every_among (λ x. some (Sized 8) ≡ kept_plain x) (ascii "dn") (refl, (refl, tt)) b
 
   pub zero_terminated : b ≡ code "z" → some ZeroTerminated ≡ kept_plain b
-  unfolding kept_plain kept kept_as kind_of among if◌then◌else◌
+  unfolding kept_plain kept kept_as kind_of among when◌then◌else◌
   zero_terminated e = rw e
 
   pub padding : b ≡ code "x" → some Padding ≡ kept_plain b
-  unfolding kept_plain kept kept_as kind_of among if◌then◌else◌
+  unfolding kept_plain kept kept_as kind_of among when◌then◌else◌
   padding e = rw e
 
   pub aligning : b ≡ code "X" → some AlignToNext ≡ kept_plain b
-  unfolding kept_plain kept kept_as kind_of among if◌then◌else◌
+  unfolding kept_plain kept kept_as kind_of among when◌then◌else◌
   aligning e = rw e
 
   pub control : among b (ascii " <>=") ≡ true → some Control ≡ kept_plain b
-  unfolding kept_plain kept kept_as kind_of among if◌then◌else◌
+  unfolding kept_plain kept kept_as kind_of among when◌then◌else◌
   control = every_among (λ x. some Control ≡ kept_plain x) (ascii " <>=") (refl, (refl, (refl, (refl, tt)))) b
 
   pub no_plain : among b (ascii "bB") ≡ false → among b (ascii "hH") ≡ false → among b (ascii "lLjJTf") ≡ false → among b (ascii "dn") ≡ false
@@ -154,7 +154,7 @@ module _ (letter : ℕ) (make : ℕ → PackOption) (default : ℕ) (makes : Mak
   numbered n = makes (some n)
 
   pub default_size : count ≡ 0 → keeps (make default) 1 ≡ kept_read (getnumlimit letter text p)
-  unfolding getnumlimit kept_read if◌then◌else◌
+  unfolding getnumlimit kept_read when◌then◌else◌
   default_size h = rw (eq-eqb (run is_digit (drop p text)) 0 (sym digits ∙ h), bare)
 
   module _ (some_digit : count ≡ 0 → ⊥) (n : ℕ) (number : n ≡ min (numeral 10 (part text p (p + count))) most) where
@@ -165,15 +165,15 @@ module _ (letter : ℕ) (make : ℕ → PackOption) (default : ℕ) (makes : Mak
     spelt = number ∙ ap (λ (k : ℕ). min (numeral 10 (part text p (p + k))) most) digits
 
     pub size_too_small : n < 1 → faults (refused 16 p) ≡ kept_read (getnumlimit letter text p)
-    unfolding getnumlimit kept_read if◌then◌else◌
+    unfolding getnumlimit kept_read when◌then◌else◌
     size_too_small h = rw (there, below 1 16 (numeral 10 (part text p (p + run is_digit (drop p text)))) (omega (arith, spelt)))
 
     pub size_too_large : 16 < n → faults (refused 16 p) ≡ kept_read (getnumlimit letter text p)
-    unfolding getnumlimit kept_read if◌then◌else◌
+    unfolding getnumlimit kept_read when◌then◌else◌
     size_too_large h = rw (there, above 1 16 (numeral 10 (part text p (p + run is_digit (drop p text)))) (omega (arith, spelt)))
 
     pub size_within : 1 ≤ n → n ≤ 16 → keeps (make n) (1 + count) ≡ kept_read (getnumlimit letter text p)
-    unfolding getnumlimit kept_read if◌then◌else◌
+    unfolding getnumlimit kept_read when◌then◌else◌
     size_within l h =
         let value = numeral 10 (part text p (p + run is_digit (drop p text))) in
         let exact : n ≡ value = omega (arith, spelt) in
@@ -181,11 +181,11 @@ module _ (letter : ℕ) (make : ℕ → PackOption) (default : ℕ) (makes : Mak
 
 module _ (text : List ℕ) (p count : ℕ) (digits : count ≡ run is_digit (drop p text)) where
   pub no_fixed_size : count ≡ 0 → faults (refused 15 p) ≡ kept_read (fixed_string text p)
-  unfolding fixed_string kept_read if◌then◌else◌
+  unfolding fixed_string kept_read when◌then◌else◌
   no_fixed_size h = rw (eq-eqb (run is_digit (drop p text)) 0 (sym digits ∙ h))
 
   pub fixed_size : (count ≡ 0 → ⊥) → keeps FixedString (1 + count) ≡ kept_read (fixed_string text p)
-  unfolding fixed_string kept_read kept kept_as kind_of among if◌then◌else◌
+  unfolding fixed_string kept_read kept kept_as kind_of among when◌then◌else◌
   fixed_size h =
       ap (λ (w : ℕ). keeps FixedString (1 + w)) digits ∙ rw (ne_eqb (run is_digit (drop p text)) 0 (λ z. h (digits ∙ z)))
 
@@ -202,18 +202,18 @@ pub record Limited (text : List ℕ) (p : ℕ) (make : ℕ → PackOption) (defa
 
 module _ (text : List ℕ) (p : ℕ) where
   pub number_letter : among (byte_at text p) (ascii "iI") ≡ true → Limited text p Sized 4
-  unfolding kept kept_as kind_of luck_size luck_sizeof among if◌then◌else◌
+  unfolding kept kept_as kind_of luck_size luck_sizeof among when◌then◌else◌
   number_letter e = record {
     makes = every_among (Makes Sized 4) (ascii "iI") ((λ number. refl), ((λ number. refl), tt)) (byte_at text p) e;
     limited = every_among (λ x. among x limited_letters ≡ true) (ascii "iI") (refl, (refl, tt)) (byte_at text p) e;
   }
 
   pub string_letter : byte_at text p ≡ code "s" → Limited text p Counted 4
-  unfolding kept kept_as kind_of luck_size luck_sizeof among if◌then◌else◌
+  unfolding kept kept_as kind_of luck_size luck_sizeof among when◌then◌else◌
   string_letter e = record { makes = subst (Makes Counted 4) (sym e) (λ number. refl); limited = rw e }
 
   pub alignment_letter : byte_at text p ≡ code "!" → Limited text p SetMaxAlignment 8
-  unfolding kept kept_as kind_of among if◌then◌else◌
+  unfolding kept kept_as kind_of among when◌then◌else◌
   alignment_letter e = record { makes = subst (Makes SetMaxAlignment 8) (sym e) (λ number. refl); limited = rw e }
 
   module _ (no_number : among (byte_at text p) (ascii "iI") ≡ false) (no_string : byte_at text p ≡ code "s" → ⊥) (no_largest : byte_at text p ≡ code "!" → ⊥) where
@@ -223,11 +223,11 @@ module _ (text : List ℕ) (p : ℕ) where
         (none_among (byte_at text p) (ascii "s") (ascii "!") (not_among (byte_at text p) (code "s") no_string) (not_among (byte_at text p) (code "!") no_largest))
 
     pub fixed_string_lem : byte_at text p ≡ code "c" → kept_read (fixed_string text (p + 1)) ≡ kept_read (numbered_option text p)
-    unfolding numbered_option if◌then◌else◌
+    unfolding numbered_option when◌then◌else◌
     fixed_string_lem e = rw (unlimited, eq-eqb (byte_at text p) (code "c") e)
 
     pub unknown_option : (byte_at text p ≡ code "c" → ⊥) → faults (refused_with 14 p (char_at text p).code) ≡ kept_read (numbered_option text p)
-    unfolding numbered_option kept_read if◌then◌else◌
+    unfolding numbered_option kept_read when◌then◌else◌
     unknown_option e = rw (unlimited, ne_eqb (byte_at text p) (code "c") e)
 
   -- the option at p with a size that was read for it
@@ -249,7 +249,7 @@ module _ (text : List ℕ) (p : ℕ) where
   -- ---- The option at p
 
   pub no_option : length text ≤ p → faults (refused 15 p) ≡ kept_read (getoption text p)
-  unfolding getoption kept_read if◌then◌else◌
+  unfolding getoption kept_read when◌then◌else◌
   no_option h = rw (le-leb (length text) p h)
 
   unfoldable plain_by : Option PackOption → Kept
@@ -258,7 +258,7 @@ module _ (text : List ℕ) (p : ℕ) where
 
   module _ (h : p < length text) where
     by_plain : plain_by (kept_plain (byte_at text p)) ≡ kept_read (getoption text p)
-    unfolding plain_by kept_plain getoption kept_read if◌then◌else◌
+    unfolding plain_by kept_plain getoption kept_read when◌then◌else◌
     by_plain = go (among (byte_at text p) bare_letters) refl
       where
         go : (t : Bool) → among (byte_at text p) bare_letters ≡ t → plain_by (kept_plain (byte_at text p)) ≡ kept_read (getoption text p)
@@ -325,7 +325,7 @@ kept_alignment_lem Knop o = by_test (λ x. kept_alignment x ≡ none) _ _ _ (λ 
 
 module _ (packsize : Bool) (text : List ℕ) (p : ℕ) (s : PackState) where
   kept_nop : (o : Given) (width : ℕ) → kept_turn packsize text p s (keeps (kept_as Knop o) width) ≡ kind_turn luck_size packsize text p s width o Knop
-  unfolding kept_turn kept_as kind_turn maxalign if◌then◌else◌
+  unfolding kept_turn kept_as kind_turn maxalign when◌then◌else◌
   kept_nop o width = go (eqb o.letter (code "!")) refl
     where
       go : (t : Bool) → eqb o.letter (code "!") ≡ t → kept_turn packsize text p s (keeps (kept_as Knop o) width) ≡ kind_turn luck_size packsize text p s width o Knop

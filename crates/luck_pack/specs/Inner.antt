@@ -3,7 +3,7 @@
 use Rattle.std.specs.Prelude.{ℕ, ◌+◌, ◌<◌, ◌≤◌, ◌≡◌, Bool, true, false, List, eqb}
 use Prim.Native.Char.{code}
 use Rattle.std.proofs.Math.Option.{Option, none, some}
-use Rattle.luck_text.specs.Bytes.{if◌then◌else◌, among}
+use Rattle.luck_text.specs.Bytes.{when◌then◌else◌, among}
 use Rattle.luck_text.specs.Walk.{Turn, stop, goes}
 use Rattle.luck_answer.specs.Answer.{Answer, refusal}
 use Rattle.luck_pack.specs.Pack as pack
@@ -33,7 +33,7 @@ kept_as pack.Kzstr o = option.ZeroTerminated
 kept_as pack.Kpadding o = option.Padding
 kept_as pack.Kpaddalign o = option.AlignToNext
 kept_as pack.Knop o =
-    if eqb o.letter (code "!") then option.SetMaxAlignment (pack.number_or 8 o.number) else option.Control
+    when eqb o.letter (code "!") then option.SetMaxAlignment (pack.number_or 8 o.number) else option.Control
 
 unfoldable pub kept : pack.PackOption → PackOption
 kept o = kept_as (pack.kind_of o.letter) o
@@ -88,7 +88,7 @@ SizeIn (size.Fault e) p len = Unit {0}
 
 -- a letter without a number
 unfoldable pub kept_plain : ℕ → Option PackOption
-kept_plain letter = if among letter pack.bare_letters then some (kept (pack.pack_option letter none)) else none
+kept_plain letter = when among letter pack.bare_letters then some (kept (pack.pack_option letter none)) else none
 
 abbrev pub plain_read : Plain → Option PackOption
 plain_read (plain.Of o) = some o

@@ -7,7 +7,7 @@
 use Rattle.std.specs.Prelude.{ℕ, zero, suc, ◌+◌, ◌-◌, min, Bool, not, ◌&&◌, List, [], ◌∷◌, length, drop, eqb, leb, ltb}
 use Prim.Native.Char.{code}
 use Rattle.std.proofs.Math.Option.{Option, none, some}
-use Rattle.luck_text.specs.Bytes.{if◌then◌else◌, byte_at, part, ascii, between, among, is_digit, run, numeral}
+use Rattle.luck_text.specs.Bytes.{when◌then◌else◌, byte_at, part, ascii, between, among, is_digit, run, numeral}
 use Rattle.luck_utf8.specs.Utf8.{char_at}
 use Rattle.luck_text.specs.Walk.{Turn, stop, goes, walk_from}
 use Rattle.luck_answer.specs.Answer.{Answer, accepted, refused, refused_with, check_text}
@@ -32,15 +32,15 @@ unfoldable pub getnumlimit : ℕ → List ℕ → ℕ → OptionRead
 getnumlimit letter text p =
     let digits = run is_digit (drop p text) in
     let number = numeral 10 (part text p (p + digits)) in
-    if eqb digits 0 then option (pack_option letter none) 1
-    else if between 1 16 number then option (pack_option letter (some number)) (1 + digits) else fault (refused 16 p)
+    when eqb digits 0 then option (pack_option letter none) 1
+    else when between 1 16 number then option (pack_option letter (some number)) (1 + digits) else fault (refused 16 p)
 
 -- `c` needs a number, whose digits stand at p
 unfoldable pub fixed_string : List ℕ → ℕ → OptionRead
 fixed_string text p =
     let digits = run is_digit (drop p text) in
     let number = numeral 10 (part text p (p + digits)) in
-    if eqb digits 0 then fault (refused 15 p) else option (pack_option (code "c") (some number)) (1 + digits)
+    when eqb digits 0 then fault (refused 15 p) else option (pack_option (code "c") (some number)) (1 + digits)
 
 -- the letters of getoption behind which it reads no number, and those with getnumlimit
 abbrev pub bare_letters : List ℕ
@@ -53,15 +53,15 @@ limited_letters = ascii "iIs!"
 unfoldable pub numbered_option : List ℕ → ℕ → OptionRead
 numbered_option text p =
     let b = byte_at text p in
-    if among b limited_letters then getnumlimit b text (p + 1)
-    else if eqb b (code "c") then fixed_string text (p + 1) else fault (refused_with 14 p (char_at text p).code)
+    when among b limited_letters then getnumlimit b text (p + 1)
+    else when eqb b (code "c") then fixed_string text (p + 1) else fault (refused_with 14 p (char_at text p).code)
 
 -- the option at place p
 unfoldable pub getoption : List ℕ → ℕ → OptionRead
 getoption text p =
     let b = byte_at text p in
-    if leb (length text) p then fault (refused 15 p)
-    else if among b bare_letters then option (pack_option b none) 1 else numbered_option text p
+    when leb (length text) p then fault (refused 15 p)
+    else when among b bare_letters then option (pack_option b none) 1 else numbered_option text p
 
 -- ---- Kind and size
 
@@ -74,16 +74,16 @@ pub data KOption : Type 0 where
 -- the kind of a letter that getoption reads
 unfoldable pub kind_of : ℕ → KOption
 kind_of letter =
-    if among letter (ascii "bhlji") then Kint
-    else if among letter (ascii "BHLJTI") then Kuint
-    else if eqb letter (code "f") then Kfloat
-    else if eqb letter (code "n") then Knumber
-    else if eqb letter (code "d") then Kdouble
-    else if eqb letter (code "s") then Kstring
-    else if eqb letter (code "c") then Kchar
-    else if eqb letter (code "z") then Kzstr
-    else if eqb letter (code "x") then Kpadding
-    else if eqb letter (code "X") then Kpaddalign else Knop
+    when among letter (ascii "bhlji") then Kint
+    else when among letter (ascii "BHLJTI") then Kuint
+    else when eqb letter (code "f") then Kfloat
+    else when eqb letter (code "n") then Knumber
+    else when eqb letter (code "d") then Kdouble
+    else when eqb letter (code "s") then Kstring
+    else when eqb letter (code "c") then Kchar
+    else when eqb letter (code "z") then Kzstr
+    else when eqb letter (code "x") then Kpadding
+    else when eqb letter (code "X") then Kpaddalign else Knop
 
 -- an option's number, or the default where it has none
 unfoldable pub number_or : ℕ → Option ℕ → ℕ
@@ -93,17 +93,17 @@ number_or default (some number) = number
 -- the size of a letter without a number, as luck takes it; 0 where no size is asked for
 unfoldable pub luck_sizeof : ℕ → ℕ
 luck_sizeof letter =
-    if among letter (ascii "bB") then 1
-    else if among letter (ascii "hH") then 2
-    else if among letter (ascii "lLjJTfiIs") then 4
-    else if among letter (ascii "dn") then 8 else 0
+    when among letter (ascii "bB") then 1
+    else when among letter (ascii "hH") then 2
+    else when among letter (ascii "lLjJTfiIs") then 4
+    else when among letter (ascii "dn") then 8 else 0
 
 unfoldable pub luck_size : PackOption → ℕ
 luck_size o = number_or (luck_sizeof o.letter) o.number
 
 -- the maximum alignment after an option: `!` sets it, to 8 where no number stands behind it
 unfoldable pub maxalign : PackOption → ℕ → ℕ
-maxalign o before = if eqb o.letter (code "!") then number_or 8 o.number else before
+maxalign o before = when eqb o.letter (code "!") then number_or 8 o.number else before
 
 -- ---- The walk, with the number of values and the maximum alignment so far
 
@@ -128,11 +128,11 @@ is_misaligned size alignment = ltb 1 size && not (is_power_of_two (min size alig
 -- the option at p, of this width and size
 unfoldable pub aligned : ℕ → ℕ → ℕ → PackState → PackState → Turn PackState Answer
 aligned p width size before after =
-    if is_misaligned size before.alignment then stop (refused 17 p) else goes width after
+    when is_misaligned size before.alignment then stop (refused 17 p) else goes width after
 
 -- packsize takes no option of variable length; luck tests this before the alignment, str_packsize after it
 unfoldable pub variable : Bool → List ℕ → ℕ → Turn PackState Answer → Turn PackState Answer
-variable packsize text p step = if packsize then stop (refused_with 18 p (char_at text p).code) else step
+variable packsize text p step = when packsize then stop (refused_with 18 p (char_at text p).code) else step
 
 -- `X` at p, before an option of this width, which is passed over; none where `X` can't stand before it
 unfoldable pub align_by : List ℕ → ℕ → PackState → ℕ → Option ℕ → Turn PackState Answer

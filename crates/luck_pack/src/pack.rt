@@ -2,7 +2,7 @@
 ghost use Rattle.std.specs.Prelude.{◌≡◌, ℕ, ◌+◌, ◌-◌, ◌<◌, ◌≤◌, length};
 ghost use Rattle.luck_utf8.specs.Utf8.{char_at};
 ghost use Rattle.luck_answer.specs.Answer.{walked_of, answer_of};
-ghost use Rattle.luck_pack.specs.Pack.{getnumlimit, fixed_string, numbered_option, getoption, luck_size, pack_state, is_power_of_two, is_misaligned, aligned as alignedOf, align_to_next, pack_turn, pack_walk, check_pack};
+ghost use Rattle.luck_pack.specs.Pack.{getnumlimit, fixed_string, numbered_option, getoption, luck_size, pack_state, is_power_of_two, is_misaligned, aligned as aligned_of, align_to_next, pack_turn, pack_walk, check_pack};
 ghost use Rattle.luck_pack.specs.Inner.{kept_read, kept_plain, keeps, kept_alignment, kept_turn, Makes, size_read, SizeIn, plain_read, option_read, OptionIn, alignment_read, with_value, pack_turn_of, GoesBy, PackGoesIn};
 
 use luck_answer::format_pattern;
@@ -218,7 +218,7 @@ pub enum Turn {
 
 // The option at `at`, of this width and size.
 fn aligned(at: usize, width: usize, size: u32, alignment: u32, has_value: bool) -> Turn
-    ensures { ((values : ℕ) → pack_turn_of values result ≡ alignedOf at width size (pack_state values alignment) (with_value has_value values alignment)) × (GoesBy result width) }
+    ensures { ((values : ℕ) → pack_turn_of values result ≡ aligned_of at width size (pack_state values alignment) (with_value has_value values alignment)) × (GoesBy result width) }
 {
     if is_misaligned(size, alignment) {
         return Turn::Fault(PatternError::BadPackAlignment { offset: at });

@@ -12,7 +12,7 @@ use mathlib.Core.List.{List, [], ◌∷◌}
 use mathlib.Core.Option.{Option, none, some}
 use lib.Dec.{eqb, leb, ltb}
 use borrow.Author.Tests.{ltb-true, ltb-false, eqb-true, eqb-false, le-leb, lt-leb, lt-ltb, le-ltb, eq-eqb, ne_eqb}
-use Rattle.luck_text.specs.Bytes.{if◌then◌else◌, byte_at}
+use Rattle.luck_text.specs.Bytes.{when◌then◌else◌, byte_at}
 use Rattle.luck_text.proofs.Cases.{by_test, if_true, if_false, and_left, and_right, first_false, second_false}
 use Rattle.luck_pattern.specs.Elements.{Element, escape, range, plain, element_at, width_of, PlacedElement, ◌at◌, placed_from, placed_elements, elements_in, elements_of, is_reversed, reversed_in, first_reversed}
 use Rattle.luck_pattern.specs.Ranges.{Upwards}
@@ -27,7 +27,7 @@ wide (plain b) = omega arith
 
 module _ (pat : List ℕ) (e : ℕ) where
   from_end : (n q : ℕ) → e ≤ q → placed_from pat e n q ≡ []
-  unfolding placed_from if◌then◌else◌
+  unfolding placed_from when◌then◌else◌
   from_end zero q h = refl
   from_end (suc n) q h = rw (le-leb e q h)
 
@@ -59,33 +59,33 @@ module _ (pat : List ℕ) (e : ℕ) where
   reversed_end q h = rw (placed_end q h)
 
   pub reversed_at : (q : ℕ) → q < e
-      → first_reversed pat e q ≡ (if is_reversed (element_at pat e q) then some q else first_reversed pat e (q + width_of (element_at pat e q)))
+      → first_reversed pat e q ≡ (when is_reversed (element_at pat e q) then some q else first_reversed pat e (q + width_of (element_at pat e q)))
   unfolding first_reversed reversed_in
   reversed_at q h = rw (placed_at q h)
 
   -- the same by the bytes there
   module _ (q : ℕ) (h : q < e) where
     pub reversed_escape : byte_at pat q ≡ code "%" → first_reversed pat e q ≡ first_reversed pat e (q + 2)
-    unfolding element_at width_of is_reversed if◌then◌else◌
+    unfolding element_at width_of is_reversed when◌then◌else◌
     reversed_escape b = rw (reversed_at q h, eq-eqb (byte_at pat q) (code "%") b)
 
     module _ (b : byte_at pat q ≡ code "%" → ⊥) where
       pub reversed_here : byte_at pat (q + 1) ≡ code "-" → q + 2 < e → byte_at pat (q + 2) < byte_at pat q
           → first_reversed pat e q ≡ some q
-      unfolding element_at width_of is_reversed if◌then◌else◌
+      unfolding element_at width_of is_reversed when◌then◌else◌
       reversed_here d l r =
           rw (reversed_at q h, ne_eqb (byte_at pat q) (code "%") b, eq-eqb (byte_at pat (q + 1)) (code "-") d, lt-ltb (q + 2) e l)
           (if_true _ _ _ (lt-ltb (byte_at pat (q + 2)) (byte_at pat q) r))
 
       pub upwards_here : byte_at pat (q + 1) ≡ code "-" → q + 2 < e → byte_at pat q ≤ byte_at pat (q + 2)
           → first_reversed pat e q ≡ first_reversed pat e (q + 3)
-      unfolding element_at width_of is_reversed if◌then◌else◌
+      unfolding element_at width_of is_reversed when◌then◌else◌
       upwards_here d l r =
           rw (reversed_at q h, ne_eqb (byte_at pat q) (code "%") b, eq-eqb (byte_at pat (q + 1)) (code "-") d, lt-ltb (q + 2) e l)
           (if_false _ _ _ (le-ltb (byte_at pat (q + 2)) (byte_at pat q) r))
 
       pub plain_here : (byte_at pat (q + 1) ≡ code "-" → ⊥) ⊎ (e ≤ q + 2) → first_reversed pat e q ≡ first_reversed pat e (q + 1)
-      unfolding element_at width_of is_reversed if◌then◌else◌
+      unfolding element_at width_of is_reversed when◌then◌else◌
       plain_here d = rw (reversed_at q h, ne_eqb (byte_at pat q) (code "%") b, no_range d)
         where
           no_range : (byte_at pat (q + 1) ≡ code "-" → ⊥) ⊎ (e ≤ q + 2)

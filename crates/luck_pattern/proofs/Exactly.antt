@@ -12,7 +12,7 @@ use mathlib.Core.Option.{Option, none, some}
 use lib.ListN.{length}
 use lib.Dec.{eqb, ltb}
 use borrow.Author.Tests.{ltb-true}
-use Rattle.luck_text.specs.Bytes.{if◌then◌else◌, byte_at}
+use Rattle.luck_text.specs.Bytes.{when◌then◌else◌, byte_at}
 use Rattle.luck_text.specs.Walk.{Turn, stop, goes, walk_from}
 use Rattle.luck_text.proofs.Cases.{by_test, order}
 use Rattle.luck_text.proofs.Walk.{walk_end, walk_stop, walk_goes}
@@ -46,7 +46,7 @@ module _ (pat : List ℕ) where
 
   sane_set : (start p : ℕ) (captures : List Bool) → start ≤ p → (e : SetEnd) → ClosesFrom pat (first_member pat p) e
       → Sane start (onward start captures (set_as false pat p e))
-  unfolding set_as closed_as reversed_of if◌then◌else◌
+  unfolding set_as closed_as reversed_of when◌then◌else◌
   sane_set start p captures h (closes_at e) c = let f = first_behind pat p in sane_past start captures (e + 1) (omega (arith, c.0)) (omega (arith, c.1))
   sane_set start p captures h (cut_at e) c = sane_fault start captures (refused 1 e) (omega arith)
   sane_set start p captures h unclosed c =
@@ -263,14 +263,14 @@ module _ (version : ℕ) (pat : List ℕ) where
   -- what the check of a text says of its walk, where the answer is neither 25 nor 23
   text_gives : (walked a : Answer) → (a.number ≡ 25 → ⊥) → (a.number ≡ 23 → ⊥)
       → (check_text version pat walked ≡ a) ↔ ((is_version version ≡ true) × (ill_formed pat ≡ none) × (walked ≡ a))
-  unfolding check_text after_text after_version after_utf8 if◌then◌else◌
+  unfolding check_text after_text after_version after_utf8 when◌then◌else◌
   text_gives walked a n25 n23 = (
     λ e. there (is_version version) (ill_formed pat) refl refl e,
     λ y. rw (y.0, y.1) y.2,
   )
     where
       there : (v : Bool) (o : Option ℕ) → is_version version ≡ v → ill_formed pat ≡ o
-          → (if v then after_utf8 refused o walked else refused 25 0) ≡ a
+          → (when v then after_utf8 refused o walked else refused 25 0) ≡ a
           → (is_version version ≡ true) × (ill_formed pat ≡ none) × (walked ≡ a)
       there true none e f g = (e, f, g)
       there true (some place) e f g = absurd (n23 (sym (ap (λ (x : Answer). x.number) g)))

@@ -8,7 +8,7 @@ use mathlib.Core.List.{List}
 use mathlib.Core.Option.{Option, none, some}
 use lib.ListN.{length}
 use lib.Dec.{eqb, ltb}
-use Rattle.luck_text.specs.Bytes.{if◌then◌else◌, byte_at}
+use Rattle.luck_text.specs.Bytes.{when◌then◌else◌, byte_at}
 use Rattle.luck_text.proofs.Cases.{by_test}
 use Rattle.luck_pattern.specs.Reading.{Head, at_open, at_close, at_percent, at_set, at_other, head_of, Escape, esc_digit, esc_balance, esc_frontier, esc_other, esc_end, escape_at, SetEnd, closes_at, cut_at, unclosed, first_member, set_end}
 use Rattle.luck_pattern.specs.Items.{raises, Read, last, set_of, repeated, read_single, read_set, read_frontier, read_escape, read_byte, read_head, read_item}
@@ -38,8 +38,8 @@ module _ (pat : List ℕ) where
 
   -- `%f`, with a set at place q or without
   after_frontier : (q : ℕ) (b : Bool)
-      → Alike (reversed_set pat (if b then some q else none)) (if b then read_frontier pat q (set_end pat q) else last (raises 3))
-  unfolding reversed_set if◌then◌else◌
+      → Alike (reversed_set pat (when b then some q else none)) (when b then read_frontier pat q (set_end pat q) else last (raises 3))
+  unfolding reversed_set when◌then◌else◌
   after_frontier q true = frontier_alike q (set_end pat q)
   after_frontier q false = no_set
 

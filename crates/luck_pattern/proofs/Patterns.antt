@@ -9,7 +9,7 @@ use mathlib.Core.Option.{Option, none, some}
 use lib.ListN.{length, get_or-eq_default}
 use lib.Dec.{eqb}
 use borrow.Author.Tests.{lt-ltb, le-ltb, eq-eqb, ne_eqb}
-use Rattle.luck_text.specs.Bytes.{if◌then◌else◌, byte_at, is_digit}
+use Rattle.luck_text.specs.Bytes.{when◌then◌else◌, byte_at, is_digit}
 use Rattle.luck_text.specs.Walk.{stop, goes, walk_from}
 use Rattle.luck_text.proofs.Cases.{if_true, if_false, first_false, second_false}
 use Rattle.luck_text.proofs.Bytes.{within, below, above}
@@ -28,23 +28,23 @@ use Rattle.luck_pattern.specs.declared.pattern.Scan.TheVariants.{Past, Fault}
 
 module _ (text : List ℕ) (at : ℕ) (first : Bool) where
   closing : byte_at text at ≡ 93 → first ≡ false → member_turn text at first ≡ stop (closes_at at)
-  unfolding member_turn member_at member_by if◌then◌else◌
+  unfolding member_turn member_at member_by when◌then◌else◌
   closing e f = rw (e, f)
 
   first_bracket : byte_at text at ≡ 93 → first ≡ true → member_turn text at first ≡ goes 1 false
-  unfolding member_turn member_at member_by if◌then◌else◌
+  unfolding member_turn member_at member_by when◌then◌else◌
   first_bracket e f = rw (e, f)
 
   escaped : byte_at text at ≡ 37 → at + 1 < length text → member_turn text at first ≡ goes 2 false
-  unfolding member_turn member_at member_by if◌then◌else◌
+  unfolding member_turn member_at member_by when◌then◌else◌
   escaped e h = rw (e, lt-ltb (at + 1) (length text) h)
 
   cut : byte_at text at ≡ 37 → length text ≤ at + 1 → member_turn text at first ≡ stop (cut_at at)
-  unfolding member_turn member_at member_by if◌then◌else◌
+  unfolding member_turn member_at member_by when◌then◌else◌
   cut e h = rw (e, le-ltb (at + 1) (length text) h)
 
   plain : (byte_at text at ≡ 93 → ⊥) → (byte_at text at ≡ 37 → ⊥) → member_turn text at first ≡ goes 1 false
-  unfolding member_turn member_at member_by if◌then◌else◌
+  unfolding member_turn member_at member_by when◌then◌else◌
   plain p q = rw (ne_eqb (byte_at text at) 93 p, ne_eqb (byte_at text at) 37 q)
 
 -- ---- A set
@@ -58,9 +58,9 @@ unfolding set_read
 set_as_lem ranges text start end e = ap (set_as ranges text start) e
 
 set_open : (ranges : Bool) (text : List ℕ) (start : ℕ) (empty : Bool) → is_empty_set text start ≡ empty → unclosed ≡ set_end text start
-    → fault (refused (if empty then 9 else 8) start) ≡ set_read ranges text start
+    → fault (refused (when empty then 9 else 8) start) ≡ set_read ranges text start
 unfolding set_as
-set_open ranges text start empty e f = ap (λ (b : Bool). fault (refused (if b then 9 else 8) start)) (sym e) ∙ set_as_lem ranges text start unclosed f
+set_open ranges text start empty e f = ap (λ (b : Bool). fault (refused (when b then 9 else 8) start)) (sym e) ∙ set_as_lem ranges text start unclosed f
 
 module _ (text : List ℕ) (start m : ℕ) (is : m ≡ first_member text start) where
   pub set_begins : members text m (eqb m m) ≡ set_end text start
@@ -76,7 +76,7 @@ module _ (text : List ℕ) (start m : ℕ) (is : m ≡ first_member text start) 
   no_end l h = rw (← is) (second_false (eqb (byte_at text m) 93) (eqb (m + 1) (length text)) (ne_eqb (m + 1) (length text) (λ e. h (omega arith))))
 
   pub set_empty : (ranges : Bool) → length text - m ≡ 1 → byte_at text m ≡ 93 → fault (refused 9 start) ≡ set_read ranges text start
-  unfolding is_empty_set members_end if◌then◌else◌
+  unfolding is_empty_set members_end when◌then◌else◌
   set_empty ranges h b =
       let last : m + 1 ≡ length text = omega arith in
       let empty : is_empty_set text start ≡ true = rw (← is, b, eq-eqb (m + 1) (length text) last) in
@@ -110,7 +110,7 @@ module _ (text : List ℕ) (start m at : ℕ) (whole : members text at (eqb at m
   ends ranges end h e = set_as_lem ranges text start end (sym (walk_stop (member_turn text) members_end (length text) at (eqb at m) end h e) ∙ whole)
 
   pub set_unclosed : (ranges : Bool) → is_empty_set text start ≡ false → length text ≤ at → fault (refused 8 start) ≡ set_read ranges text start
-  unfolding members_end if◌then◌else◌
+  unfolding members_end when◌then◌else◌
   set_unclosed ranges e h = set_open ranges text start false e (sym (walk_end (member_turn text) members_end (length text) at (eqb at m) h) ∙ whole)
 
   module _ (inside : at < length text) where
@@ -145,11 +145,11 @@ module _ (b : ℕ) where
   of_digit l h = if_true _ _ _ (within 48 57 b l (omega arith))
 
   of_balance : b ≡ 98 → escape_of b ≡ esc_balance
-  unfolding escape_of is_digit if◌then◌else◌
+  unfolding escape_of is_digit when◌then◌else◌
   of_balance e = rw e
 
   of_frontier : b ≡ 102 → escape_of b ≡ esc_frontier
-  unfolding escape_of is_digit if◌then◌else◌
+  unfolding escape_of is_digit when◌then◌else◌
   of_frontier e = rw e
 
   of_other : is_digit b ≡ false → (b ≡ 98 → ⊥) → (b ≡ 102 → ⊥) → escape_of b ≡ esc_other
@@ -219,19 +219,19 @@ within_from (Fault e) p q len h w = tt
 
 module _ (b : ℕ) where
   of_open : b ≡ 40 → head_of b ≡ at_open
-  unfolding head_of if◌then◌else◌
+  unfolding head_of when◌then◌else◌
   of_open e = rw e
 
   of_close : b ≡ 41 → head_of b ≡ at_close
-  unfolding head_of if◌then◌else◌
+  unfolding head_of when◌then◌else◌
   of_close e = rw e
 
   of_percent : b ≡ 37 → head_of b ≡ at_percent
-  unfolding head_of if◌then◌else◌
+  unfolding head_of when◌then◌else◌
   of_percent e = rw e
 
   of_set : b ≡ 91 → head_of b ≡ at_set
-  unfolding head_of if◌then◌else◌
+  unfolding head_of when◌then◌else◌
   of_set e = rw e
 
   of_plain : (b ≡ 37 → ⊥) → (b ≡ 91 → ⊥) → (b ≡ 40 → ⊥) → (b ≡ 41 → ⊥) → head_of b ≡ at_other
@@ -301,8 +301,8 @@ module _ (ranges : Bool) (text : List ℕ) (p : ℕ) (captures : List Bool) wher
 
 -- at the end: b says whether all captures are closed, and n is their number
 pub turn_end : (ranges : Bool) (text : List ℕ) (p : ℕ) (captures : List Bool) (b : Bool) (n : ℕ) → b ≡ all_closed captures → length captures ≡ n → length text ≤ p
-    → items ranges text p captures ≡ pattern_walk ranges text → (if b then accepted n else refused 11 (length text)) ≡ pattern_walk ranges text
+    → items ranges text p captures ≡ pattern_walk ranges text → (when b then accepted n else refused 11 (length text)) ≡ pattern_walk ranges text
 unfolding pattern_end
 turn_end ranges text p captures b n e f h whole =
-    ap₂ (λ (x : Bool) (y : ℕ). if x then accepted y else refused 11 (length text)) e (sym f)
+    ap₂ (λ (x : Bool) (y : ℕ). when x then accepted y else refused 11 (length text)) e (sym f)
     ∙ sym (walk_end (pattern_turn ranges text) (pattern_end text) (length text) p captures h) ∙ whole

@@ -11,7 +11,7 @@ use mathlib.Core.List.{List, []}
 use mathlib.Core.Option.{Option, none, some}
 use lib.ListN.{length}
 use lib.Dec.{eqb}
-use Rattle.luck_text.specs.Bytes.{if◌then◌else◌, byte_at}
+use Rattle.luck_text.specs.Bytes.{when◌then◌else◌, byte_at}
 use Rattle.luck_text.specs.Walk.{Turn, stop, goes, walk, walk_from}
 use Rattle.luck_token.specs.Version.{is_version}
 use Rattle.luck_utf8.specs.Utf8.{ill_formed}
@@ -35,7 +35,7 @@ module _ (pat : List ℕ) where
   -- the set's `[` stands at p, and the item that has it at start
   set_tested : (start p : ℕ) (captures : List Bool) (e : SetEnd)
       → onward start captures (set_as true pat p e) ≡ tested (reversed_before pat p e) (onward start captures (set_as false pat p e))
-  unfolding set_as reversed_of reversed_before tested if◌then◌else◌
+  unfolding set_as reversed_of reversed_before tested when◌then◌else◌
   set_tested start p captures (closes_at e) = go (first_reversed pat e (first_member pat p))
     where
       go : (o : Option ℕ) → onward start captures (closed_as e o) ≡ tested o (onward start captures (closed_as e none))
@@ -46,7 +46,7 @@ module _ (pat : List ℕ) where
 
   escape_tested : (p : ℕ) (captures : List Bool) (e : Escape)
       → onward p captures (escape_as true pat p captures e) ≡ tested (reversed_set pat (escape_set pat p e)) (onward p captures (escape_as false pat p captures e))
-  unfolding escape_as escape_set reversed_set tested set_read if◌then◌else◌
+  unfolding escape_as escape_set reversed_set tested set_read when◌then◌else◌
   escape_tested p captures esc_end = refl
   escape_tested p captures (esc_digit d) = refl
   escape_tested p captures esc_balance = refl
@@ -54,8 +54,8 @@ module _ (pat : List ℕ) where
     where
       go : (b : Bool)
           → onward p captures (set_as true pat (p + 2) (set_end pat (p + 2))) ≡ tested (reversed_before pat (p + 2) (set_end pat (p + 2))) (onward p captures (set_as false pat (p + 2) (set_end pat (p + 2))))
-          → onward p captures (if b then set_as true pat (p + 2) (set_end pat (p + 2)) else fault (record { number = 10; offset = p; first = 102; second = 0; count = 0 }))
-          ≡ tested (reversed_set pat (if b then some (p + 2) else none)) (onward p captures (if b then set_as false pat (p + 2) (set_end pat (p + 2)) else fault (record { number = 10; offset = p; first = 102; second = 0; count = 0 })))
+          → onward p captures (when b then set_as true pat (p + 2) (set_end pat (p + 2)) else fault (record { number = 10; offset = p; first = 102; second = 0; count = 0 }))
+          ≡ tested (reversed_set pat (when b then some (p + 2) else none)) (onward p captures (when b then set_as false pat (p + 2) (set_end pat (p + 2)) else fault (record { number = 10; offset = p; first = 102; second = 0; count = 0 })))
       go true same = same
       go false same = refl
   escape_tested p captures esc_other = refl
@@ -147,12 +147,12 @@ module _ (pat : List ℕ) where
 module _ (version : ℕ) (pat : List ℕ) where
   text_or : (a b : Answer) → (a ≡ b) ⊎ Reversed pat a
       → (check_text version pat a ≡ check_text version pat b) ⊎ Reversed pat (check_text version pat a)
-  unfolding check_text after_text after_version after_utf8 if◌then◌else◌
+  unfolding check_text after_text after_version after_utf8 when◌then◌else◌
   text_or a b (inl e) = inl (ap (check_text version pat) e)
   text_or a b (inr y) = go (is_version version) (ill_formed pat)
     where
       go : (v : Bool) (o : Option ℕ)
-          → ((if v then after_utf8 refused o a else refused 25 0) ≡ (if v then after_utf8 refused o b else refused 25 0)) ⊎ Reversed pat (if v then after_utf8 refused o a else refused 25 0)
+          → ((when v then after_utf8 refused o a else refused 25 0) ≡ (when v then after_utf8 refused o b else refused 25 0)) ⊎ Reversed pat (when v then after_utf8 refused o a else refused 25 0)
       go false o = inl refl
       go true none = inr y
       go true (some place) = inl refl

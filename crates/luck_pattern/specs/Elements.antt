@@ -5,7 +5,7 @@
 use Rattle.std.specs.Prelude.{ℕ, zero, suc, ◌+◌, ◌-◌, Bool, false, ◌&&◌, List, [], ◌∷◌, eqb, leb, ltb}
 use Prim.Native.Char.{code}
 use Rattle.std.proofs.Math.Option.{Option, none, some}
-use Rattle.luck_text.specs.Bytes.{if◌then◌else◌, byte_at}
+use Rattle.luck_text.specs.Bytes.{when◌then◌else◌, byte_at}
 
 -- what matchbracketclass tests a byte for
 pub data Element : Type 0 where
@@ -16,8 +16,8 @@ pub data Element : Type 0 where
 -- the element at place q of a set whose closing `]` stands at e, behind q. A `%` just before that `]` takes the `]`
 unfoldable pub element_at : List ℕ → ℕ → ℕ → Element
 element_at pat e q =
-    if eqb (byte_at pat q) (code "%") then escape (byte_at pat (q + 1))
-    else if eqb (byte_at pat (q + 1)) (code "-") && ltb (q + 2) e then range (byte_at pat q) (byte_at pat (q + 2))
+    when eqb (byte_at pat q) (code "%") then escape (byte_at pat (q + 1))
+    else when eqb (byte_at pat (q + 1)) (code "-") && ltb (q + 2) e then range (byte_at pat q) (byte_at pat (q + 2))
     else plain (byte_at pat q)
 
 -- how many bytes of the pattern an element is: `%` and a byte; left, `-`, right; a byte
@@ -34,14 +34,14 @@ pub record PlacedElement : Type 0 where
 abbrev pub ◌at◌ : Element → ℕ → PlacedElement
 ◌at◌ x q = record { place = q; element = x }
 
--- the elements from place q up to the closing `]` at place e; n is at least the bytes between (`placed_at_lem` takes it
+-- the elements from place q up to the closing `]` at place e; n is at least the bytes between (`placed_at` takes it
 -- away)
 unfoldable pub placed_from : List ℕ → ℕ → ℕ → ℕ → List PlacedElement
 placed_from pat e zero q = []
 placed_from pat e (suc n) q =
     let x = element_at pat e q in
     let all = ◌at◌ x q ∷ placed_from pat e n (q + width_of x) in
-    if leb e q then [] else all
+    when leb e q then [] else all
 
 unfoldable pub placed_elements : List ℕ → ℕ → ℕ → List PlacedElement
 placed_elements pat e q = placed_from pat e (e - q) q
@@ -64,7 +64,7 @@ is_reversed (plain b) = false
 -- the place of the first reversed range, which is that of its left byte
 unfoldable pub reversed_in : List PlacedElement → Option ℕ
 reversed_in [] = none
-reversed_in (x ∷ more) = let later = reversed_in more in if is_reversed x.element then some x.place else later
+reversed_in (x ∷ more) = let later = reversed_in more in when is_reversed x.element then some x.place else later
 
 -- of the elements from place q up to the closing `]` at place e
 unfoldable pub first_reversed : List ℕ → ℕ → ℕ → Option ℕ

@@ -4,7 +4,7 @@
 -- Assumes nothing.
 use Rattle.std.specs.Prelude.{ℕ, zero, suc, ◌+◌, ◌-◌, Bool, ◌&&◌, List, [], ◌∷◌, length, eqb, leb, ltb}
 use Prim.Native.Char.{code}
-use Rattle.luck_text.specs.Bytes.{if◌then◌else◌, byte_at}
+use Rattle.luck_text.specs.Bytes.{when◌then◌else◌, byte_at}
 use Rattle.luck_pattern.specs.Elements.{Element, elements_of}
 use Rattle.luck_pattern.specs.Reading.{
   Head,
@@ -70,10 +70,10 @@ pub data Read : Type 0 where
 
 unfoldable pub repeat_of : ℕ → Repeat
 repeat_of b =
-    if eqb b (code "?") then optional
-    else if eqb b (code "*") then star
-    else if eqb b (code "+") then plus
-    else if eqb b (code "-") then minus else once
+    when eqb b (code "?") then optional
+    else when eqb b (code "*") then star
+    else when eqb b (code "+") then plus
+    else when eqb b (code "-") then minus else once
 
 unfoldable pub repeat_width : Repeat → ℕ
 repeat_width once = 0
@@ -105,21 +105,21 @@ unfoldable pub read_escape : List ℕ → ℕ → Escape → Read
 read_escape pat p esc_end = last (raises 1)
 read_escape pat p (esc_digit d) = item (back_reference d) (p + 2)
 read_escape pat p esc_balance =
-    if ltb (p + 3) (length pat) then item (balance (byte_at pat (p + 2)) (byte_at pat (p + 3))) (p + 4)
+    when ltb (p + 3) (length pat) then item (balance (byte_at pat (p + 2)) (byte_at pat (p + 3))) (p + 4)
     else last (raises 4)
 read_escape pat p esc_frontier =
-    if eqb (byte_at pat (p + 2)) (code "[") then read_frontier pat (p + 2) (set_end pat (p + 2)) else last (raises 3)
+    when eqb (byte_at pat (p + 2)) (code "[") then read_frontier pat (p + 2) (set_end pat (p + 2)) else last (raises 3)
 read_escape pat p esc_other = read_single pat (class (byte_at pat (p + 1))) (p + 2)
 
 unfoldable pub read_byte : List ℕ → ℕ → Read
 read_byte pat p =
     let b = byte_at pat p in
-    if eqb b (code "$") && eqb (p + 1) (length pat) then last end_anchor
-    else if eqb b (code ".") then read_single pat any (p + 1) else read_single pat (byte b) (p + 1)
+    when eqb b (code "$") && eqb (p + 1) (length pat) then last end_anchor
+    else when eqb b (code ".") then read_single pat any (p + 1) else read_single pat (byte b) (p + 1)
 
 unfoldable pub read_head : List ℕ → ℕ → Head → Read
 read_head pat p at_open =
-    if eqb (byte_at pat (p + 1)) (code ")") then item position_capture (p + 2) else item start_capture (p + 1)
+    when eqb (byte_at pat (p + 1)) (code ")") then item position_capture (p + 2) else item start_capture (p + 1)
 read_head pat p at_close = item end_capture (p + 1)
 read_head pat p at_percent = read_escape pat p (escape_at pat (p + 1))
 read_head pat p at_set = read_set pat p (set_end pat p)
@@ -138,7 +138,7 @@ unfoldable pub items_from : List ℕ → ℕ → ℕ → List Item
 items_from pat zero p = []
 items_from pat (suc n) p =
     let here = then_items (items_from pat n) (read_item pat p) in
-    if leb (length pat) p then [] else here
+    when leb (length pat) p then [] else here
 
 unfoldable pub items : List ℕ → ℕ → List Item
 items pat p = items_from pat (length pat - p) p

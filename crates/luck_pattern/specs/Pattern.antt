@@ -7,7 +7,7 @@
 use Rattle.std.specs.Prelude.{ℕ, ◌+◌, ◌-◌, Bool, true, false, ◌&&◌, List, [], ◌∷◌, ◌++◌, length, eqb, ltb}
 use Prim.Native.Char.{code}
 use Rattle.std.proofs.Math.Option.{Option, none, some}
-use Rattle.luck_text.specs.Bytes.{if◌then◌else◌, byte_at}
+use Rattle.luck_text.specs.Bytes.{when◌then◌else◌, byte_at}
 use Rattle.luck_text.specs.Walk.{Turn, stop, goes, walk_from}
 use Rattle.luck_answer.specs.Answer.{Answer, accepted, refused, refused_with, check_text}
 use Rattle.luck_pattern.specs.Reading.{
@@ -53,7 +53,7 @@ after_close p none = stop (refused 11 p)
 after_close p (some captures) = goes 1 captures
 
 unfoldable pub pattern_end : List ℕ → ℕ → List Bool → Answer
-pattern_end pat p captures = if all_closed captures then accepted (length captures) else refused 11 (length pat)
+pattern_end pat p captures = when all_closed captures then accepted (length captures) else refused 11 (length pat)
 
 -- a set that closes at place e is passed over, unless it has a reversed range
 unfoldable pub closed_as : ℕ → Option ℕ → Scanned
@@ -64,12 +64,12 @@ module _ (ranges : Bool) (pat : List ℕ) where
   -- the first reversed range of the set from its `[` at place p to its closing `]` at place e; none where ranges are
   -- not tested
   unfoldable pub reversed_of : ℕ → ℕ → Option ℕ
-  reversed_of p e = if ranges then first_reversed pat e (first_member pat p) else none
+  reversed_of p e = when ranges then first_reversed pat e (first_member pat p) else none
 
   unfoldable pub set_as : ℕ → SetEnd → Scanned
   set_as p (closes_at e) = closed_as e (reversed_of p e)
   set_as p (cut_at e) = fault (refused 1 e)
-  set_as p unclosed = fault (refused (if is_empty_set pat p then 9 else 8) p)
+  set_as p unclosed = fault (refused (when is_empty_set pat p then 9 else 8) p)
 
   -- the set whose `[` stands at p
   unfoldable pub set_read : ℕ → Scanned
@@ -78,11 +78,11 @@ module _ (ranges : Bool) (pat : List ℕ) where
   -- the escape whose `%` stands at p, after these captures
   unfoldable pub escape_as : ℕ → List Bool → Escape → Scanned
   escape_as p captures esc_end = fault (refused 1 p)
-  escape_as p captures (esc_digit d) = if is_closed captures d then past (p + 2) else fault (refused 13 (p + 1))
-  escape_as p captures esc_balance = if ltb (p + 3) (length pat) then past (p + 4) else fault (refused 1 p)
+  escape_as p captures (esc_digit d) = when is_closed captures d then past (p + 2) else fault (refused 13 (p + 1))
+  escape_as p captures esc_balance = when ltb (p + 3) (length pat) then past (p + 4) else fault (refused 1 p)
   escape_as p captures esc_frontier =
       let set = set_read (p + 2) in
-      if eqb (byte_at pat (p + 2)) (code "[") then set else fault (refused_with 10 p (code "f"))
+      when eqb (byte_at pat (p + 2)) (code "[") then set else fault (refused_with 10 p (code "f"))
   escape_as p captures esc_other = past (p + 2)
 
   unfoldable pub escape_read : ℕ → List Bool → Scanned
@@ -91,7 +91,7 @@ module _ (ranges : Bool) (pat : List ℕ) where
   -- what is passed over at place p, after these captures: an item, or the repeat behind one
   unfoldable pub head_turn : ℕ → List Bool → Head → Turn (List Bool) Answer
   head_turn p captures at_open =
-      if ltb (length captures) max_captures then goes 1 (captures ++ (false ∷ [])) else stop (refused 12 p)
+      when ltb (length captures) max_captures then goes 1 (captures ++ (false ∷ [])) else stop (refused 12 p)
   head_turn p captures at_close = after_close p (close_latest captures)
   head_turn p captures at_percent = onward p captures (escape_read p captures)
   head_turn p captures at_set = onward p captures (set_read p)

@@ -6,7 +6,7 @@ use Rattle.std.specs.Prelude.{ℕ, ◌+◌, ◌≤◌, ◌<◌, ◌≡◌, Bool,
 use Prim.Native.Char.{code}
 use mathlib.Core.List.{List, [], ◌∷◌, Memᴰ}
 use Rattle.std.proofs.Math.Option.{Option, none, some}
-use Rattle.luck_text.specs.Bytes.{if◌then◌else◌, byte_at}
+use Rattle.luck_text.specs.Bytes.{when◌then◌else◌, byte_at}
 use Rattle.luck_text.specs.Walk.{goes}
 use Rattle.luck_pattern.specs.Reading.{
   Head,
@@ -59,7 +59,7 @@ unfoldable pub escape_set : List ℕ → ℕ → Escape → Option ℕ
 escape_set pat p esc_end = none
 escape_set pat p (esc_digit d) = none
 escape_set pat p esc_balance = none
-escape_set pat p esc_frontier = if eqb (byte_at pat (p + 2)) (code "[") then some (p + 2) else none
+escape_set pat p esc_frontier = when eqb (byte_at pat (p + 2)) (code "[") then some (p + 2) else none
 escape_set pat p esc_other = none
 
 unfoldable pub head_set : List ℕ → ℕ → Head → Option ℕ
@@ -121,7 +121,7 @@ unfoldable pub without_reversed : List Element → List Element
 without_reversed [] = []
 without_reversed (element ∷ more) =
     let rest = without_reversed more in
-    if is_reversed element then rest else element ∷ rest
+    when is_reversed element then rest else element ∷ rest
 
 -- at place k stand three bytes of the text that a set can read as a reversed range
 pub record RangeAt (pat : List ℕ) (k : ℕ) : Type 0 where

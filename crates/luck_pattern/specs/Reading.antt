@@ -5,7 +5,7 @@
 -- Assumes nothing.
 use Rattle.std.specs.Prelude.{ℕ, ◌+◌, ◌-◌, Bool, true, false, not, ◌&&◌, List, length, eqb, ltb}
 use Prim.Native.Char.{code}
-use Rattle.luck_text.specs.Bytes.{if◌then◌else◌, byte_at, is_digit}
+use Rattle.luck_text.specs.Bytes.{when◌then◌else◌, byte_at, is_digit}
 use Rattle.luck_text.specs.Walk.{Turn, stop, goes, walk_from}
 
 -- the switch on the byte at a place
@@ -14,24 +14,24 @@ pub data Head : Type 0 where
 
 unfoldable pub head_of : ℕ → Head
 head_of b =
-    if eqb b (code "(") then at_open
-    else if eqb b (code ")") then at_close
-    else if eqb b (code "%") then at_percent
-    else if eqb b (code "[") then at_set else at_other
+    when eqb b (code "(") then at_open
+    else when eqb b (code ")") then at_close
+    else when eqb b (code "%") then at_percent
+    else when eqb b (code "[") then at_set else at_other
 
 -- the switch on the byte after a `%`
 pub data Escape : Type 0 where
-  esc_digit : ℕ → Escape  -- a back_reference
+  esc_digit : ℕ → Escape  -- a back-reference
   esc_balance esc_frontier esc_other esc_end : Escape
 
 unfoldable pub escape_of : ℕ → Escape
 escape_of b =
-    if is_digit b then esc_digit (b - code "0")
-    else if eqb b (code "b") then esc_balance
-    else if eqb b (code "f") then esc_frontier else esc_other
+    when is_digit b then esc_digit (b - code "0")
+    else when eqb b (code "b") then esc_balance
+    else when eqb b (code "f") then esc_frontier else esc_other
 
 unfoldable pub escape_at : List ℕ → ℕ → Escape
-escape_at pat p = if ltb p (length pat) then escape_of (byte_at pat p) else esc_end
+escape_at pat p = when ltb p (length pat) then escape_of (byte_at pat p) else esc_end
 
 -- the switch on the byte at a place of a set: the first member is taken even if it is a `]`, and `%` takes one more
 -- byte
@@ -40,9 +40,9 @@ pub data Member : Type 0 where
 
 unfoldable pub member_at : List ℕ → Bool → ℕ → Member
 member_at pat first p =
-    let escape = if ltb (p + 1) (length pat) then escaped_member else cut_escape in
-    let member = if eqb (byte_at pat p) (code "%") then escape else byte_member in
-    if eqb (byte_at pat p) (code "]") && not first then closing_bracket else member
+    let escape = when ltb (p + 1) (length pat) then escaped_member else cut_escape in
+    let member = when eqb (byte_at pat p) (code "%") then escape else byte_member in
+    when eqb (byte_at pat p) (code "]") && not first then closing_bracket else member
 
 -- where a set ends: at its closing `]`; nowhere, since a `%` at this place ends the pattern; or nowhere
 pub data SetEnd : Type 0 where
@@ -63,7 +63,7 @@ members_end p first = unclosed
 
 -- the place of the first member of the set whose `[` stands at p, after `[` or `[^`
 unfoldable pub first_member : List ℕ → ℕ → ℕ
-first_member pat p = if eqb (byte_at pat (p + 1)) (code "^") then p + 2 else p + 1
+first_member pat p = when eqb (byte_at pat (p + 1)) (code "^") then p + 2 else p + 1
 
 unfoldable pub set_end : List ℕ → ℕ → SetEnd
 set_end pat p = walk_from (member_turn pat) members_end (length pat) (first_member pat p) true

@@ -10,7 +10,7 @@ use mathlib.Core.List.{List, [], ◌∷◌}
 use mathlib.Core.Option.{Option, none, some}
 use lib.Dec.{leb, ltb}
 use borrow.Author.Tests.{not-true, leb-true, le-leb, lt-ltb, le-ltb}
-use Rattle.luck_text.specs.Bytes.{if◌then◌else◌}
+use Rattle.luck_text.specs.Bytes.{when◌then◌else◌}
 use Rattle.luck_text.proofs.Cases.{by_test, if_true, if_false, and_left, and_right, both_true, order}
 use Rattle.luck_token.specs.Version.{is_version, rules_of}
 use Rattle.luck_utf8.specs.Utf8.{ill_formed}
@@ -256,8 +256,8 @@ unfolding for_range
 single check count = let n : count + 1 - count ≡ 1 = omega arith in rw n (one (is_accepted (check count)) refl)
   where
     one : (b : Bool) → is_accepted (check count) ≡ b → for_counts check 1 count ≡ alone (check count)
-    one true e = unfold for_counts accepted_for_all smallest_accepted alone if◌then◌else◌ in rw e
-    one false e = unfold for_counts accepted_for_all smallest_accepted refused_or_depends alone if◌then◌else◌ in rw e
+    one true e = unfold for_counts accepted_for_all smallest_accepted alone when◌then◌else◌ in rw e
+    one false e = unfold for_counts accepted_for_all smallest_accepted refused_or_depends alone when◌then◌else◌ in rw e
 
 -- a check that no count alters is dependent on none
 pub constant : (check : ℕ → Answer) → ((c d : ℕ) → check c ≡ check d) → (low high m : ℕ)
@@ -277,7 +277,7 @@ constant check same low high m =
 -- accepted for a known count: accepted where it is not known, and no digit is above the count, or 1
 down : (strict : Bool) (c : ℕ) (ps : List Piece) (p : ℕ) → Accepted (pieces_walk strict (some c) ps p)
     → Accepted (pieces_walk strict none ps p) × (largest_digit ps ≤ max c 1)
-unfolding pieces_walk allows_digit largest_digit is_accepted if◌then◌else◌
+unfolding pieces_walk allows_digit largest_digit is_accepted when◌then◌else◌
 down strict c [] p a = (refl, omega arith)
 down strict c (literal b ∷ ps) p a = down strict c ps (p + 1) a
 down strict c (digit d ∷ ps) p a =
@@ -291,7 +291,7 @@ down false c (lone ∷ ps) p a = down false c ps (p + 1) a
 
 up : (strict : Bool) (c : ℕ) (ps : List Piece) (p : ℕ) → Accepted (pieces_walk strict none ps p)
     → largest_digit ps ≤ max c 1 → Accepted (pieces_walk strict (some c) ps p)
-unfolding pieces_walk allows_digit largest_digit is_accepted if◌then◌else◌
+unfolding pieces_walk allows_digit largest_digit is_accepted when◌then◌else◌
 up strict c [] p a h = refl
 up strict c (literal b ∷ ps) p a h = up strict c ps (p + 1) a h
 up strict c (digit d ∷ ps) p a h = rw (le-leb d (max c 1) (omega arith)) (up strict c ps (p + 2) a (omega arith))
@@ -325,21 +325,21 @@ walked strict count (lone ∷ ps) p = by_test Walked strict _ _ (λ t. (λ a. ab
 module _ (version : ℕ) (text : List ℕ) where
   text_up : (a b : Answer) → (Accepted a → Accepted b) → Accepted (check_text version text a)
       → Accepted (check_text version text b)
-  unfolding check_text after_text after_version after_utf8 is_accepted if◌then◌else◌
+  unfolding check_text after_text after_version after_utf8 is_accepted when◌then◌else◌
   text_up a b f = go (is_version version) (ill_formed text)
     where
-      go : (v : Bool) (o : Option ℕ) → Accepted (if v then after_utf8 refused o a else refused 25 0)
-          → Accepted (if v then after_utf8 refused o b else refused 25 0)
+      go : (v : Bool) (o : Option ℕ) → Accepted (when v then after_utf8 refused o a else refused 25 0)
+          → Accepted (when v then after_utf8 refused o b else refused 25 0)
       go true none t = f t
       go true (some place) t = t
       go false o t = t
 
   text_walk : (a : Answer) → Accepted (check_text version text a) → Accepted a × (check_text version text a ≡ a)
-  unfolding check_text after_text after_version after_utf8 is_accepted if◌then◌else◌
+  unfolding check_text after_text after_version after_utf8 is_accepted when◌then◌else◌
   text_walk a = go (is_version version) (ill_formed text)
     where
-      go : (v : Bool) (o : Option ℕ) → Accepted (if v then after_utf8 refused o a else refused 25 0)
-          → Accepted a × ((if v then after_utf8 refused o a else refused 25 0) ≡ a)
+      go : (v : Bool) (o : Option ℕ) → Accepted (when v then after_utf8 refused o a else refused 25 0)
+          → Accepted a × ((when v then after_utf8 refused o a else refused 25 0) ≡ a)
       go true none t = (t, refl)
       go true (some place) t = absurd (true≢false (sym t))
       go false o t = absurd (true≢false (sym t))
@@ -485,13 +485,13 @@ module _ (version low high : ℕ) (text : List ℕ) where
 
   -- 35 where the lowest exceeds the highest, before the text is looked at
   pub downwards : is_version version ≡ true → high < low → ranged ≡ for_none (refused 35 0)
-  unfolding check_ranged if◌then◌else◌
+  unfolding check_ranged when◌then◌else◌
   downwards v h = rw (v, lt-ltb high low h)
 
 -- 25 comes first
 pub no_version : (version : ℕ) (counts : Counts) (text : List ℕ) → is_version version ≡ false
     → check_ranged version counts text ≡ for_none (refused 25 0)
-unfolding check_ranged alone is_accepted if◌then◌else◌
+unfolding check_ranged alone is_accepted when◌then◌else◌
 no_version version unknown text e = rw (unversioned version text none e)
 no_version version (from_to low high) text e = rw e
 

@@ -3,7 +3,7 @@
 -- Assumes nothing.
 use Prim.Native.Nat.{ℕ, ◌≤◌, ◌<◌}
 use native.Mathlib.Omega.{arith}
-use mathlib.Core.Path.{◌≡◌, sym, ◌∙◌}
+use mathlib.Core.Path.{◌≡◌}
 use mathlib.Core.Logic.{◌⊎◌, inl, inr, ⊎_elim}
 use mathlib.Core.Bool.{true, false}
 use mathlib.Core.List.{List}
@@ -13,9 +13,8 @@ use Rattle.luck_text.proofs.Cases.{order}
 use Rattle.luck_token.specs.Version.{is_version}
 use Rattle.luck_utf8.specs.Utf8.{ill_formed}
 use Rattle.luck_answer.specs.Answer.{accepted, refused, check_text}
-use Rattle.luck_answer.proofs.Texts.{text_fine}
 use Rattle.luck_replacement.specs.Replacement.{pieces, pieces_walk, check_replacement}
-use Rattle.luck_replacement.proofs.Unread.{unknown_allows, from_nine_allows, unread, is_version_1, check_of_walk, nine_refused, lone_refused}
+use Rattle.luck_replacement.proofs.Unread.{unknown_allows, from_nine_allows, unread, no_more_tested, accepts_utf8, nine_refused, lone_refused}
 
 abbrev pub UnknownOrFromNine : Option ℕ → Type 0
 UnknownOrFromNine none = Unit {0}
@@ -32,11 +31,13 @@ walk_accepts (some count) text h = unread (some count) text (from_nine_allows co
 
 -- so under 5.1 no more is tested than the version and UTF-8
 pub only_utf8 : (captures : Option ℕ) (text : List ℕ) → UnknownOrFromNine captures → check_replacement 1 captures text ≡ check_text 1 text (accepted 0)
-only_utf8 captures text h = check_of_walk captures text (walk_accepts captures text h)
+only_utf8 none text h = no_more_tested none text unknown_allows
+only_utf8 (some count) text h = no_more_tested (some count) text (from_nine_allows count (omega (arith, h)))
 
 pub accepted_once_utf8 : (captures : Option ℕ) (text : List ℕ) → UnknownOrFromNine captures → ill_formed text ≡ none
     → check_replacement 1 captures text ≡ accepted 0
-accepted_once_utf8 captures text h utf8 = only_utf8 captures text h ∙ sym (text_fine 1 text (accepted 0) is_version_1 (sym utf8))
+accepted_once_utf8 none text h utf8 = accepts_utf8 none text unknown_allows utf8
+accepted_once_utf8 (some count) text h utf8 = accepts_utf8 (some count) text (from_nine_allows count (omega (arith, h))) utf8
 
 -- with every other count 5.1 refuses some text
 pub refused_below_nine : (captures : Option ℕ) → BelowNine captures → check_replacement 1 captures (ascii "%9") ≡ refused 21 1

@@ -13,7 +13,7 @@ use lib.ListN.{length, drop, drop_of_length-le}
 use lib.Seq.{drop-cons}
 use lib.Dec.{eqb, leb, ltb}
 use borrow.Author.Tests.{eq-eqb, ne_eqb, not-false, leb-true, lt-ltb, le-ltb, lt-leb, le-leb}
-use Rattle.luck_text.specs.Bytes.{if◌then◌else◌, byte_at, is_digit}
+use Rattle.luck_text.specs.Bytes.{when◌then◌else◌, byte_at, is_digit}
 use Rattle.luck_text.proofs.Cases.{by_test, if_true, if_false, and_right, order}
 use Rattle.luck_text.proofs.Others.{passes_others}
 use Rattle.luck_answer.specs.Answer.{Answer, accepted, refused}
@@ -24,16 +24,16 @@ use Rattle.luck_replacement.specs.Inner.{can_refuse, is_refused, rank}
 
 -- a byte that is no `%`, whatever follows
 one : (b : ℕ) (more : List ℕ) → (b ≡ 37 → ⊥) → pieces (b ∷ more) ≡ literal b ∷ pieces more
-unfolding pieces if◌then◌else◌
+unfolding pieces when◌then◌else◌
 one b [] h = rw (ne_eqb b 37 h)
 one b (c ∷ more) h = rw (ne_eqb b 37 h)
 
 two : (b c : ℕ) (more : List ℕ) → b ≡ 37 → pieces (b ∷ c ∷ more) ≡ escaped c ∷ pieces more
-unfolding pieces if◌then◌else◌
+unfolding pieces when◌then◌else◌
 two b c more e = rw (eq-eqb b 37 e)
 
 last : (b : ℕ) → b ≡ 37 → pieces (b ∷ []) ≡ lone ∷ []
-unfolding pieces if◌then◌else◌
+unfolding pieces when◌then◌else◌
 last b e = rw (eq-eqb b 37 e)
 
 module _ (text : List ℕ) (p : ℕ) (h : p < length text) where
@@ -62,9 +62,9 @@ module _ (strict : Bool) (b : ℕ) where
   unfolding rank
   rank_other d = ten strict ∙ sym (if_false _ _ _ d)
     where
-      ten : (s : Bool) → 10 * bool_byte s ≡ (if s then 10 else 0)
-      ten true = unfold if◌then◌else◌ in refl
-      ten false = unfold if◌then◌else◌ in refl
+      ten : (s : Bool) → 10 * bool_byte s ≡ (when s then 10 else 0)
+      ten true = unfold when◌then◌else◌ in refl
+      ten false = unfold when◌then◌else◌ in refl
 
 -- the code's comparison
 module _ (limit : ℕ) (l : 1 ≤ limit) (h : limit ≤ 9) where
@@ -77,15 +77,15 @@ module _ (limit : ℕ) (l : 1 ≤ limit) (h : limit ≤ 9) where
       (order limit d)
 
   of_no_percent : (strict : Bool) (b : ℕ) (is_a_digit : Bool)
-      → ltb (limit + 0) (if is_a_digit then b - 48 else if strict then 10 else 0)
-      ≡ (if is_a_digit then not (allows_digit (some limit) (b - 48)) else strict)
-  unfolding if◌then◌else◌
+      → ltb (limit + 0) (when is_a_digit then b - 48 else when strict then 10 else 0)
+      ≡ (when is_a_digit then not (allows_digit (some limit) (b - 48)) else strict)
+  unfolding when◌then◌else◌
   of_no_percent strict b true = of_digit (b - 48)
   of_no_percent true b false = lt-ltb (limit + 0) 10 (omega arith)
   of_no_percent false b false = le-ltb (limit + 0) 0 (omega arith)
 
   pub compared : (strict : Bool) (b : ℕ) → ltb (limit + 16 * bool_byte (eqb b 37)) (rank strict b) ≡ is_refused strict (some limit) b
-  unfolding rank is_digit is_refused if◌then◌else◌
+  unfolding rank is_digit is_refused when◌then◌else◌
   compared strict b = go (eqb b 37)
     where
       small : rank strict b ≤ 10
@@ -96,20 +96,20 @@ module _ (limit : ℕ) (l : 1 ≤ limit) (h : limit ≤ 9) where
 
       go : (is_percent : Bool)
           → ltb (limit + 16 * bool_byte is_percent) (rank strict b)
-          ≡ (if is_percent then false else if is_digit b then not (allows_digit (some limit) (b - 48)) else strict)
+          ≡ (when is_percent then false else when is_digit b then not (allows_digit (some limit) (b - 48)) else strict)
       go true = le-ltb (limit + 16) (rank strict b) (omega (arith, small))
       go false = of_no_percent strict b (is_digit b)
 
 -- the walk at the piece that the byte makes
 refusal_of : (strict : Bool) (captures : Option ℕ) (b : ℕ) (more : List Piece) (p : ℕ) (is_percent is_a_digit : Bool)
-    → pieces_walk strict captures ((if is_percent then percent else if is_a_digit then digit (b - 48) else other b) ∷ more) p
-    ≡ (if if is_percent then false else if is_a_digit then not (allows_digit captures (b - 48)) else strict
-    then (if is_a_digit then refused 21 (p + 1) else refused 20 (p + 1)) else pieces_walk strict captures more (p + 2))
-unfolding pieces_walk if◌then◌else◌
+    → pieces_walk strict captures ((when is_percent then percent else when is_a_digit then digit (b - 48) else other b) ∷ more) p
+    ≡ (when when is_percent then false else when is_a_digit then not (allows_digit captures (b - 48)) else strict
+    then (when is_a_digit then refused 21 (p + 1) else refused 20 (p + 1)) else pieces_walk strict captures more (p + 2))
+unfolding pieces_walk when◌then◌else◌
 refusal_of strict captures b more p true is_a_digit = refl
 refusal_of strict captures b more p false true = go (allows_digit captures (b - 48))
   where
-    go : (t : Bool) → (if t then pieces_walk strict captures more (p + 2) else refused 21 (p + 1)) ≡ (if not t then refused 21 (p + 1) else pieces_walk strict captures more (p + 2))
+    go : (t : Bool) → (when t then pieces_walk strict captures more (p + 2) else refused 21 (p + 1)) ≡ (when not t then refused 21 (p + 1) else pieces_walk strict captures more (p + 2))
     go true = refl
     go false = refl
 refusal_of strict captures b more p false false = refl
@@ -159,7 +159,7 @@ module _ (strict : Bool) (captures : Option ℕ) (text : List ℕ) where
       abbrev next : ℕ
       next = byte_at text (p + 1)
 
-      turn : on p ≡ (if is_refused strict captures next then (if is_digit next then refused 21 (p + 1) else refused 20 (p + 1)) else on (p + 2))
+      turn : on p ≡ (when is_refused strict captures next then (when is_digit next then refused 21 (p + 1) else refused 20 (p + 1)) else on (p + 2))
       unfolding escaped is_refused
       turn =
           ap (λ (x : List Piece). pieces_walk strict captures x p) (at_escape text p h e l)

@@ -9,7 +9,7 @@ use mathlib.Core.List.{List, [], ◌∷◌}
 use mathlib.Core.Option.{Option, none, some}
 use lib.Dec.{eqb, leb}
 use borrow.Author.Tests.{leb-true, le-leb, lt-leb}
-use Rattle.luck_text.specs.Bytes.{if◌then◌else◌, ascii, is_digit}
+use Rattle.luck_text.specs.Bytes.{when◌then◌else◌, ascii, is_digit}
 use Rattle.luck_text.proofs.Bytes.{above}
 use Rattle.luck_text.proofs.Cases.{by_test, and_right}
 use Rattle.luck_token.specs.Version.{is_version, rules_of}
@@ -44,15 +44,15 @@ unfolding pieces_walk largest_digit
 same_digits strict a b same [] p h = refl
 same_digits strict a b same (literal c ∷ ps) p h = same_digits strict a b same ps (p + 1) h
 same_digits strict a b same (digit d ∷ ps) p h =
-    ap (λ (t : Bool). if t then pieces_walk strict a ps (p + 2) else refused 21 (p + 1)) (same d (omega arith))
-    ∙ ap (λ (on : Answer). if allows_digit b d then on else refused 21 (p + 1)) (same_digits strict a b same ps (p + 2) (omega arith))
+    ap (λ (t : Bool). when t then pieces_walk strict a ps (p + 2) else refused 21 (p + 1)) (same d (omega arith))
+    ∙ ap (λ (on : Answer). when allows_digit b d then on else refused 21 (p + 1)) (same_digits strict a b same ps (p + 2) (omega arith))
 same_digits strict a b same (percent ∷ ps) p h = same_digits strict a b same ps (p + 2) h
-same_digits strict a b same (other c ∷ ps) p h = ap (λ (on : Answer). if strict then refused 20 (p + 1) else on) (same_digits strict a b same ps (p + 2) h)
-same_digits strict a b same (lone ∷ ps) p h = ap (λ (on : Answer). if strict then refused 19 p else on) (same_digits strict a b same ps (p + 1) h)
+same_digits strict a b same (other c ∷ ps) p h = ap (λ (on : Answer). when strict then refused 20 (p + 1) else on) (same_digits strict a b same ps (p + 2) h)
+same_digits strict a b same (lone ∷ ps) p h = ap (λ (on : Answer). when strict then refused 19 p else on) (same_digits strict a b same ps (p + 1) h)
 
 -- without strict rules and with captures unknown, it refuses nothing
 lenient : (ps : List Piece) (p : ℕ) → pieces_walk false none ps p ≡ accepted 0
-unfolding pieces_walk allows_digit if◌then◌else◌
+unfolding pieces_walk allows_digit when◌then◌else◌
 lenient [] p = refl
 lenient (literal b ∷ ps) p = lenient ps (p + 1)
 lenient (digit d ∷ ps) p = lenient ps (p + 2)
@@ -95,12 +95,19 @@ pub check_of_walk : (count : Option ℕ) (text : List ℕ) → pieces_walk false
 unfolding check_replacement
 check_of_walk count text e = ap (check_text 1 text) (ap (λ (strict : Bool). pieces_walk strict count (pieces text) 0) lenient_51 ∙ e)
 
+-- so it tests no more than these where the digit 9 is allowed
+pub no_more_tested : (count : Option ℕ) (text : List ℕ) → allows_digit count 9 ≡ true → check_replacement 1 count text ≡ check_text 1 text (accepted 0)
+no_more_tested count text t = check_of_walk count text (unread count text t)
+
+pub accepts_utf8 : (count : Option ℕ) (text : List ℕ) → allows_digit count 9 ≡ true → ill_formed text ≡ none
+    → check_replacement 1 count text ≡ accepted 0
+accepts_utf8 count text t e = no_more_tested count text t ∙ sym (text_fine 1 text (accepted 0) is_version_1 (sym e))
+
 -- a range from 9 on is accepted for every count
 pub check_range : (low high : ℕ) (text : List ℕ) → 9 ≤ low → low ≤ high → ill_formed text ≡ none
     → check_ranged 1 (from_to low high) text ≡ for_every
 check_range low high text h upwards e =
-    (accepted_for_every 1 low high text upwards).1
-    (λ c i. check_of_walk (some c) text (unread (some c) text (from_nine_allows c (omega (arith, i.0)))) ∙ sym (text_fine 1 text (accepted 0) is_version_1 (sym e)))
+    (accepted_for_every 1 low high text upwards).1 (λ c i. accepts_utf8 (some c) text (from_nine_allows c (omega (arith, i.0))) e)
 
 -- ---- With a lower count, and in another version
 

@@ -3,7 +3,7 @@
 -- Assumes nothing.
 use Rattle.std.specs.Prelude.{ℕ, zero, suc, ◌+◌, ◌-◌, max, Bool, true, false, not, ◌&&◌, List, [], ◌∷◌, eqb, leb, ltb}
 use Rattle.std.proofs.Math.Option.{Option, none, some}
-use Rattle.luck_text.specs.Bytes.{if◌then◌else◌}
+use Rattle.luck_text.specs.Bytes.{when◌then◌else◌}
 use Rattle.luck_token.specs.Version.{is_version}
 use Rattle.luck_answer.specs.Answer.{Answer, accepted, refused}
 use Rattle.luck_replacement.specs.Replacement.{Piece, literal, digit, percent, other, lone, check_replacement}
@@ -25,7 +25,7 @@ is_accepted answer = eqb answer.number 0
 
 -- one answer, where there is one count or none is known
 unfoldable pub alone : Answer → Ranged
-alone answer = if is_accepted answer then for_every else for_none answer
+alone answer = when is_accepted answer then for_every else for_none answer
 
 -- `check` gives the answer for one count; the range has n counts, the first of which is `low`
 module _ (check : ℕ → Answer) where
@@ -37,14 +37,14 @@ module _ (check : ℕ → Answer) where
   smallest_accepted zero low = none
   smallest_accepted (suc n) low =
       let later = smallest_accepted n (low + 1) in
-      if is_accepted (check low) then some low else later
+      when is_accepted (check low) then some low else later
 
   unfoldable pub refused_or_depends : ℕ → Option ℕ → Ranged
   refused_or_depends low none = for_none (check low)
   refused_or_depends low (some count) = depends count
 
   unfoldable pub for_counts : ℕ → ℕ → Ranged
-  for_counts n low = if accepted_for_all n low then for_every else refused_or_depends low (smallest_accepted n low)
+  for_counts n low = when accepted_for_all n low then for_every else refused_or_depends low (smallest_accepted n low)
 
   -- for each count from `low` to `high`
   unfoldable pub for_range : ℕ → ℕ → Ranged
@@ -55,7 +55,7 @@ unfoldable pub check_ranged : ℕ → Counts → List ℕ → Ranged
 check_ranged version unknown text = alone (check_replacement version none text)
 check_ranged version (from_to low high) text =
     let each = for_range (λ count. check_replacement version (some count) text) low high in
-    if not (is_version version) then for_none (refused 25 0) else if ltb high low then for_none (refused 35 0) else each
+    when not (is_version version) then for_none (refused 25 0) else when ltb high low then for_none (refused 35 0) else each
 
 -- what the answer's record shows: where it is dependent, a flag, number 0 and the smallest count
 unfoldable pub ranged_answer : Ranged → Answer
@@ -88,5 +88,5 @@ largest_digit (lone ∷ more) = largest_digit more
 -- by the answers for the lowest and for the highest count and the largest digit
 unfoldable pub by_ends : Answer → Answer → ℕ → Ranged
 by_ends lowest highest largest =
-    if is_accepted lowest then for_every
-    else if is_accepted highest then depends largest else for_none lowest
+    when is_accepted lowest then for_every
+    else when is_accepted highest then depends largest else for_none lowest

@@ -4,7 +4,7 @@
 use Rattle.std.specs.Prelude.{ℕ, ◌+◌, ◌-◌, max, Bool, true, List, [], ◌∷◌, eqb, leb}
 use Prim.Native.Char.{code}
 use Rattle.std.proofs.Math.Option.{Option, none, some}
-use Rattle.luck_text.specs.Bytes.{if◌then◌else◌, is_digit}
+use Rattle.luck_text.specs.Bytes.{when◌then◌else◌, is_digit}
 use Rattle.luck_token.specs.Version.{rules_of}
 use Rattle.luck_token.specs.declared.version.Rules.{Rules}
 use Rattle.luck_answer.specs.Answer.{Answer, accepted, refused, check_text}
@@ -23,15 +23,15 @@ pub data Piece : Type 0 where
   lone : Piece  -- a final `%`
 
 unfoldable pub escaped : ℕ → Piece
-escaped b = if eqb b (code "%") then percent else if is_digit b then digit (b - code "0") else other b
+escaped b = when eqb b (code "%") then percent else when is_digit b then digit (b - code "0") else other b
 
 unfoldable pub pieces : List ℕ → List Piece
 pieces [] = []
-pieces (b ∷ []) = (if eqb b (code "%") then lone else literal b) ∷ []
+pieces (b ∷ []) = (when eqb b (code "%") then lone else literal b) ∷ []
 pieces (b ∷ c ∷ more) =
     let two = escaped c ∷ pieces more in
     let one = literal b ∷ pieces (c ∷ more) in
-    if eqb b (code "%") then two else one
+    when eqb b (code "%") then two else one
 
 -- the pattern's count of captures, none where it is not known
 abbrev pub count_of : Captures → Option ℕ
@@ -49,14 +49,14 @@ pieces_walk strict count [] p = accepted 0
 pieces_walk strict count (literal b ∷ more) p = pieces_walk strict count more (p + 1)
 pieces_walk strict count (digit d ∷ more) p =
     let on = pieces_walk strict count more (p + 2) in
-    if allows_digit count d then on else refused 21 (p + 1)
+    when allows_digit count d then on else refused 21 (p + 1)
 pieces_walk strict count (percent ∷ more) p = pieces_walk strict count more (p + 2)
 pieces_walk strict count (other c ∷ more) p =
     let on = pieces_walk strict count more (p + 2) in
-    if strict then refused 20 (p + 1) else on
+    when strict then refused 20 (p + 1) else on
 pieces_walk strict count (lone ∷ more) p =
     let on = pieces_walk strict count more (p + 1) in
-    if strict then refused 19 p else on
+    when strict then refused 19 p else on
 
 unfoldable pub check_replacement : ℕ → Option ℕ → List ℕ → Answer
 check_replacement version count text =

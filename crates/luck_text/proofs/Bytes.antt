@@ -12,7 +12,7 @@ use lib.ListN.{length, drop, length-append, length-drop, drop_of_length-le}
 use lib.Seq.{drop-cons, take-nil, get_or-take, get_or-drop, length-take-le}
 use lib.Dec.{leb}
 use borrow.Author.Tests.{le-leb, lt-leb, leb-true, eq-eqb, ne_eqb, not-true, not-false}
-use Rattle.luck_text.specs.Bytes.{if◌then◌else◌, byte_at, part, in_front, between, among, is_digit, is_xdigit, run, digit_value, numeral_from, numeral}
+use Rattle.luck_text.specs.Bytes.{when◌then◌else◌, byte_at, part, in_front, between, among, is_digit, is_xdigit, run, digit_value, numeral_from, numeral}
 use Rattle.luck_text.specs.Scan.{most, grown}
 use Rattle.luck_text.proofs.Cases.{by_test, order, and_left, and_right, second_false}
 
@@ -69,11 +69,11 @@ all_between P from at to f g k l m = ⊎_elim (λ h. f k l h) (λ h. g k h m) (o
 
 module _ (test : ℕ → Bool) where
   one_more : (b : ℕ) (text : List ℕ) → test b ≡ true → run test (b ∷ text) ≡ suc (run test text)
-  unfolding run if◌then◌else◌
+  unfolding run when◌then◌else◌
   one_more b text e = rw e
 
   no_more : (b : ℕ) (text : List ℕ) → test b ≡ false → run test (b ∷ text) ≡ 0
-  unfolding run if◌then◌else◌
+  unfolding run when◌then◌else◌
   no_more b text e = rw e
 
   -- a byte that passes, one that does not, and the end
@@ -189,27 +189,27 @@ module _ (base : ℕ) (text : List ℕ) (at to : ℕ) where
 
 module _ (b : ℕ) where
   pub digit_none : b < 48 → 0 ≡ digit_value b
-  unfolding digit_value if◌then◌else◌
+  unfolding digit_value when◌then◌else◌
   digit_none h = rw (le-leb b 57 (omega arith)) (omega arith)
 
   pub digit_decimal : 48 ≤ b → b ≤ 57 → b - 48 ≡ digit_value b
-  unfolding digit_value if◌then◌else◌
+  unfolding digit_value when◌then◌else◌
   digit_decimal l h = rw (le-leb b 57 h)
 
   pub digit_between : 57 < b → b < 65 → 10 ≡ digit_value b
-  unfolding digit_value if◌then◌else◌
+  unfolding digit_value when◌then◌else◌
   digit_between l h = rw (lt-leb b 57 l, le-leb b 70 (omega arith)) (omega arith)
 
   pub digit_capital : 65 ≤ b → b ≤ 70 → b - 55 ≡ digit_value b
-  unfolding digit_value if◌then◌else◌
+  unfolding digit_value when◌then◌else◌
   digit_capital l h = rw (lt-leb b 57 (omega arith), le-leb b 70 h) (omega arith)
 
   pub digit_above : 70 < b → b < 97 → 10 ≡ digit_value b
-  unfolding digit_value if◌then◌else◌
+  unfolding digit_value when◌then◌else◌
   digit_above l h = rw (lt-leb b 57 (omega arith), lt-leb b 70 l) (omega arith)
 
   pub digit_small_letter : 97 ≤ b → b - 87 ≡ digit_value b
-  unfolding digit_value if◌then◌else◌
+  unfolding digit_value when◌then◌else◌
   digit_small_letter l = rw (lt-leb b 57 (omega arith), lt-leb b 70 (omega arith)) (omega arith)
 
   -- it is small, whatever the byte

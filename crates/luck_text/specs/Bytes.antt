@@ -5,11 +5,11 @@ use Rattle.std.specs.Prelude.{ℕ, suc, ◌+◌, ◌*◌, ◌-◌, Bool, true, f
 use Prim.Native.Char.{code}
 use Prim.Native.String.{String, [] as empty, ◌∷◌ as ◌then◌}
 
-infixr 5 if◌then◌else◌
+infixr 5 when◌then◌else◌
 -- both branches are computed before the choice: a branch that recurs is bound by a `let`, which waits
-unfoldable pub if◌then◌else◌ : {A : Type 0} → Bool → A → A → A
-if◌then◌else◌ true x y = x
-if◌then◌else◌ false x y = y
+unfoldable pub when◌then◌else◌ : {A : Type 0} → Bool → A → A → A
+when◌then◌else◌ true x y = x
+when◌then◌else◌ false x y = y
 
 abbrev pub byte_at : List ℕ → ℕ → ℕ
 byte_at text p = get_or text p 0
@@ -49,13 +49,13 @@ is_lua_whitespace b = eqb b (code " ") || between (code "\t") (code "\r") b
 -- how many bytes at the front of a text pass a test, up to the first that does not
 unfoldable pub run : (ℕ → Bool) → List ℕ → ℕ
 run test [] = 0
-run test (b ∷ text) = let more = suc (run test text) in if test b then more else 0
+run test (b ∷ text) = let more = suc (run test text) in when test b then more else 0
 
 -- the value of a digit, hexadecimal ones included
 unfoldable pub digit_value : ℕ → ℕ
 digit_value b =
-    if leb b (code "9") then b - code "0"
-    else if leb b (code "F") then b - code "A" + 10 else b - code "a" + 10
+    when leb b (code "9") then b - code "0"
+    else when leb b (code "F") then b - code "A" + 10 else b - code "a" + 10
 
 -- the number that digits spell to a base, behind digits that spell `high`
 unfoldable pub numeral_from : ℕ → ℕ → List ℕ → ℕ

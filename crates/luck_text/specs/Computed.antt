@@ -5,7 +5,7 @@ use Rattle.luck_text.specs.Walk
 
 unfoldable pub computed : Unit {0}
 unfolding
-    Bytes.if◌then◌else◌ Bytes.among Bytes.is_digit Bytes.is_xdigit Bytes.is_lua_whitespace Bytes.run Bytes.digit_value
+    Bytes.when◌then◌else◌ Bytes.among Bytes.is_digit Bytes.is_xdigit Bytes.is_lua_whitespace Bytes.run Bytes.digit_value
     Bytes.numeral_from Bytes.numeral
     Walk.walk Walk.walk_from
 computed = tt

@@ -1,6 +1,6 @@
 // Bytes of a class or a set, the byte at a place, runs, and the number that digits spell.
 ghost use Rattle.std.specs.Prelude.{◌≡◌, ◌+◌, ◌<◌, ◌≤◌, min, true, drop};
-ghost use Rattle.luck_text.specs.Bytes.{byte_at, between, part, among, is_digit, is_xdigit, run as run_of, digit_value, numeral as numeralOf};
+ghost use Rattle.luck_text.specs.Bytes.{byte_at, between, part, among, is_digit, is_xdigit, run as run_of, digit_value, numeral as numeral_of};
 ghost use Rattle.luck_text.specs.Scan.{in_class, most, grown};
 
 // What a run is made of.
@@ -157,7 +157,7 @@ fn with_digit(value: u64, base: u32, digit: u64) -> u64
 
 // The number that the bytes from `from` to `to` spell to a base, or 80000000 (hexadecimal) where it is larger.
 pub fn numeral(text: &[u8], from: usize, to: usize, base: u32) -> u32
-    ensures { result ≡ min (numeralOf base (part text.now from to)) most }
+    ensures { result ≡ min (numeral_of base (part text.now from to)) most }
 {
     let mut at = from;
     let mut value: u64 = 0;
@@ -181,7 +181,7 @@ pub struct Number {
 // The hexadecimal digits from `at` on, counted and read in one pass.
 pub fn hex_digits(text: &[u8], at: usize) -> Number
     ensures count { result.count ≡ run_of is_xdigit (drop at text.now) }
-    ensures value { result.value ≡ min (numeralOf 16 (part text.now at (at + result.count))) most }
+    ensures value { result.value ≡ min (numeral_of 16 (part text.now at (at + result.count))) most }
 {
     let mut end = at;
     let mut value: u64 = 0;
@@ -202,7 +202,7 @@ pub fn hex_digits(text: &[u8], at: usize) -> Number
 // The decimal digits from `at` on, `limit` of them at most.
 pub fn digits(text: &[u8], at: usize, limit: usize) -> Number
     ensures count { result.count ≡ min limit (run_of is_digit (drop at text.now)) }
-    ensures value { result.value ≡ min (numeralOf 10 (part text.now at (at + result.count))) most }
+    ensures value { result.value ≡ min (numeral_of 10 (part text.now at (at + result.count))) most }
 {
     let mut end = at;
     let mut value: u64 = 0;

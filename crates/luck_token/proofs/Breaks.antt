@@ -9,13 +9,14 @@ use lib.ListN.{length, get_or-eq_default}
 use lib.Dec.{eqb}
 use borrow.Author.Tests.{eqb-true, ne_eqb}
 use mir.Val.{bool_byte}
-use Rattle.luck_text.specs.Bytes.{if◌then◌else◌, byte_at}
+use Rattle.luck_text.specs.Bytes.{when◌then◌else◌, byte_at}
 use Rattle.luck_token.specs.Whitespace.{line_break}
-use Rattle.luck_text.proofs.Cases.{by_test, and_right, present, bit}
+use mathlib.Core.Logic.{⊎_elim}
+use Rattle.luck_text.proofs.Cases.{by_test, and_right, present, bit, order}
 
 -- a break by four tests: of CR and LF here, and of LF and CR behind
 chosen : Bool → Bool → Bool → Bool → Bool → ℕ
-chosen lfcr cr lf next_lf next_cr = if cr && next_lf then 2 else if lfcr && lf && next_cr then 2 else if lfcr && cr then 1 else if lf then 1 else 0
+chosen lfcr cr lf next_lf next_cr = when cr && next_lf then 2 else when lfcr && lf && next_cr then 2 else when lfcr && cr then 1 else when lf then 1 else 0
 
 -- a product of bits is one
 pub bit_of_both : (a b : Bool) → bool_byte a * bool_byte b ≤ 1
@@ -26,27 +27,27 @@ bit_of_both false b = omega arith
 module _ (next_lf next_cr : Bool) where
   with_lfcr : (cr lf : Bool) → (cr ≡ true → lf ≡ true → ⊥)
       → bool_byte cr + bool_byte lf + bool_byte cr * bool_byte next_lf + bool_byte lf * bool_byte next_cr ≡ chosen true cr lf next_lf next_cr
-  unfolding chosen if◌then◌else◌
+  unfolding chosen when◌then◌else◌
   with_lfcr true true h = absurd (h refl refl)
   with_lfcr true false h = go next_lf
     where
-      go : (n : Bool) → 1 + 0 + 1 * bool_byte n + 0 * bool_byte next_cr ≡ (if n then 2 else 1)
+      go : (n : Bool) → 1 + 0 + 1 * bool_byte n + 0 * bool_byte next_cr ≡ (when n then 2 else 1)
       go true = omega arith
       go false = omega arith
   with_lfcr false true h = go next_cr
     where
-      go : (n : Bool) → 0 + 1 + 0 * bool_byte next_lf + 1 * bool_byte n ≡ (if n then 2 else 1)
+      go : (n : Bool) → 0 + 1 + 0 * bool_byte next_lf + 1 * bool_byte n ≡ (when n then 2 else 1)
       go true = omega arith
       go false = omega arith
   with_lfcr false false h = omega arith
 
   without_lfcr : (cr lf : Bool) → (cr ≡ true → lf ≡ true → ⊥)
       → bool_byte lf + bool_byte cr * bool_byte next_lf + bool_byte cr * bool_byte next_lf ≡ chosen false cr lf next_lf next_cr
-  unfolding chosen if◌then◌else◌
+  unfolding chosen when◌then◌else◌
   without_lfcr true true h = absurd (h refl refl)
   without_lfcr true false h = go next_lf
     where
-      go : (n : Bool) → 0 + 1 * bool_byte n + 1 * bool_byte n ≡ (if n then 2 else 0)
+      go : (n : Bool) → 0 + 1 * bool_byte n + 1 * bool_byte n ≡ (when n then 2 else 0)
       go true = omega arith
       go false = omega arith
   without_lfcr false true h = omega arith
@@ -77,7 +78,7 @@ module _ (lfcr : Bool) (text : List ℕ) (p : ℕ) where
 
   -- an LF without a CR behind it
   pub lone_lf : byte_at text p ≡ 10 → (byte_at text (p + 1) ≡ 13 → ⊥) → 1 ≡ line_break lfcr text p
-  unfolding line_break if◌then◌else◌
+  unfolding line_break when◌then◌else◌
   lone_lf e f = go lfcr
     where
       go : (t : Bool) → 1 ≡ line_break t text p
@@ -85,7 +86,7 @@ module _ (lfcr : Bool) (text : List ℕ) (p : ℕ) where
       go false = rw e
 
   pub no_break : (byte_at text p ≡ 13 → ⊥) → (byte_at text p ≡ 10 → ⊥) → 0 ≡ line_break lfcr text p
-  unfolding line_break if◌then◌else◌
+  unfolding line_break when◌then◌else◌
   no_break e f = go lfcr
     where
       go : (t : Bool) → 0 ≡ line_break t text p
@@ -111,3 +112,9 @@ module _ (lfcr : Bool) (text : List ℕ) (p : ℕ) where
     where
       In : ℕ → Type 0
       In w = p + w ≤ length text
+
+-- and it is no longer than the text
+pub width_inside : (lfcr : Bool) (text : List ℕ) (p width : ℕ) → width ≡ line_break lfcr text p → width ≤ length text
+width_inside lfcr text p width e =
+    ⊎_elim (λ outside. omega (arith, past_end lfcr text p (omega arith)))
+    (λ here. omega (arith, break_inside lfcr text p here)) (order (length text) p)

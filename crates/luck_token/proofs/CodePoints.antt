@@ -10,7 +10,7 @@ use mathlib.Core.Option.{none, some}
 use lib.ListN.{length, drop, length-append}
 use lib.Seq.{take_at, get_or_at}
 use borrow.Author.Tests.{le-leb, eq-eqb}
-use Rattle.luck_text.specs.Bytes.{if◌then◌else◌, byte_at, part, among, is_digit, is_xdigit, run, numeral}
+use Rattle.luck_text.specs.Bytes.{when◌then◌else◌, byte_at, part, among, is_digit, is_xdigit, run, numeral}
 use Rattle.luck_text.proofs.Cases.{present}
 use Rattle.luck_text.proofs.Bytes.{hex_case}
 use Rattle.luck_text.proofs.Walk.{walk_end}
@@ -51,7 +51,7 @@ unfolding is_version
 known_version = every_among (λ (v : ℕ). is_version v ≡ true) with_unicode (refl, (refl, (refl, (refl, tt))))
 
 pub unicode_kind : (version : ℕ) → among version with_unicode ≡ true → escape_kind (rules_of version) 117 ≡ Unicode
-unfolding escape_kind if◌then◌else◌ is_digit rules_of has is_version versions among
+unfolding escape_kind when◌then◌else◌ is_digit rules_of has is_version versions among
 unicode_kind = every_among (λ (v : ℕ). escape_kind (rules_of v) 117 ≡ Unicode) with_unicode (refl, (refl, (refl, (refl, tt))))
 
 module _ (body : List ℕ) (p : ℕ) (backslash : byte_at body p ≡ 92) (letter : byte_at body (p + 1) ≡ 117) where
@@ -61,16 +61,16 @@ module _ (body : List ℕ) (p : ℕ) (backslash : byte_at body p ≡ 92) (letter
       sym (escape_is rules body p there k (sym (ap (escape_kind rules) letter ∙ kind)) ∙ short_escape rules body p backslash ∙ piece_short rules body p false refl)
 
   pub letter_piece : piece_at false (rules_of 1) body p ≡ piece (117 ∷ []) 2
-  unfolding escape_piece escape_kind other_escape if◌then◌else◌ is_digit rules_of has is_version versions among
+  unfolding escape_piece escape_kind other_escape when◌then◌else◌ is_digit rules_of has is_version versions among
   letter_piece = by_kind (rules_of 1) Itself refl ∙ ap (λ (b : ℕ). piece (b ∷ []) 2) letter
 
   pub no_piece : piece_at false (rules_of 2) body p ≡ malformed
-  unfolding escape_piece escape_kind other_escape if◌then◌else◌ is_digit rules_of has is_version versions among
+  unfolding escape_piece escape_kind other_escape when◌then◌else◌ is_digit rules_of has is_version versions among
   no_piece = by_kind (rules_of 2) Undefined refl
 
   module _ (opens : byte_at body (p + 2) ≡ 123) (count : ℕ) (n : count ≡ run is_xdigit (drop (p + 3) body)) (closes : byte_at body (p + 3 + count) ≡ 125) where
     pub unicode_piece : (rules : Rules) → escape_kind rules 117 ≡ Unicode → (c : ℕ) → c ≡ numeral 16 (part body (p + 3) (p + 3 + count))
-        → piece_at false rules body p ≡ (if allows_code_point rules count c then piece (utf8_bytes c) (count + 4) else malformed)
+        → piece_at false rules body p ≡ (when allows_code_point rules count c then piece (utf8_bytes c) (count + 4) else malformed)
     unfolding escape_piece unicode_escape
     unicode_piece rules kind c e = by_kind rules Unicode kind ∙ rw (← n, ← e, eq-eqb _ _ opens, eq-eqb _ _ closes)
 
@@ -99,9 +99,9 @@ module _ (body : List ℕ) where
 
 -- a body that is one piece, or begins with a malformed one
 module _ (long : Bool) (rules : Rules) (body : List ℕ) (some_byte : 0 < length body) where
-  only_piece : (good : Bool) (bytes : List ℕ) → piece_at long rules body 0 ≡ (if good then piece bytes (length body) else malformed)
-      → value_of long rules body ≡ (if good then some bytes else none)
-  unfolding if◌then◌else◌
+  only_piece : (good : Bool) (bytes : List ℕ) → piece_at long rules body 0 ≡ (when good then piece bytes (length body) else malformed)
+      → value_of long rules body ≡ (when good then some bytes else none)
+  unfolding when◌then◌else◌
   only_piece true bytes e =
       let end = turn long rules body 0 [] (value_of long rules body) (start long rules body) bytes (length body) (sym e) (omega arith) (omega arith) in
       sym (done long rules body (0 + length body) bytes (value_of long rules body) end (omega arith))
@@ -110,15 +110,15 @@ module _ (long : Bool) (rules : Rules) (body : List ℕ) (some_byte : 0 < length
 -- digits, up to a byte that is none
 module _ (test : ℕ → Bool) where
   first_passes : (d : ℕ) (digits : List ℕ) → run test (d ∷ digits) ≡ suc (length digits) → (test d ≡ true) × (run test digits ≡ length digits)
-  unfolding run if◌then◌else◌
+  unfolding run when◌then◌else◌
   first_passes d digits = go (test d) refl
     where
-      go : (t : Bool) → test d ≡ t → (if t then suc (run test digits) else 0) ≡ suc (length digits) → (test d ≡ true) × (run test digits ≡ length digits)
+      go : (t : Bool) → test d ≡ t → (when t then suc (run test digits) else 0) ≡ suc (length digits) → (test d ≡ true) × (run test digits ≡ length digits)
       go true q e = (q, omega arith)
       go false q e = absurd (omega arith)
 
   run_all : (digits : List ℕ) (b : ℕ) (after : List ℕ) → run test digits ≡ length digits → test b ≡ false → run test (digits ++ (b ∷ after)) ≡ length digits
-  unfolding run if◌then◌else◌
+  unfolding run when◌then◌else◌
   run_all [] b after e f = rw f
   run_all (d ∷ digits) b after e f =
       let h = first_passes d digits e in
@@ -159,7 +159,7 @@ module _ (digits : List ℕ) (all : run is_xdigit digits ≡ length digits) wher
       low_formed (escaped digits) (omega arith, (omega arith, (omega arith, (omega arith, after))))
 
   module _ (rules : Rules) (kind : escape_kind rules 117 ≡ Unicode) (c : ℕ) (e : c ≡ numeral 16 digits) where
-    braced_value : value_of false rules (braced digits) ≡ (if allows_code_point rules (length digits) c then some (utf8_bytes c) else none)
+    braced_value : value_of false rules (braced digits) ≡ (when allows_code_point rules (length digits) c then some (utf8_bytes c) else none)
     unfolding is_xdigit is_digit
     braced_value =
         let body = braced digits in
@@ -170,5 +170,5 @@ module _ (digits : List ℕ) (all : run is_xdigit digits ≡ length digits) wher
         only_piece false rules body (omega arith) (allows_code_point rules count c) (utf8_bytes c)
         (unicode_piece body 0 refl refl refl count (sym (run_all is_xdigit digits 125 [] all refl)) closes rules kind c (e ∙ ap (numeral 16) (sym inner)) ∙ rw many)
 
-    pub escaped_value : literal_value rules (escaped digits) ≡ (if allows_code_point rules (length digits) c then some (utf8_bytes c) else none)
+    pub escaped_value : literal_value rules (escaped digits) ≡ (when allows_code_point rules (length digits) c then some (utf8_bytes c) else none)
     escaped_value = rw (← append_assoc digits (125 ∷ []) (34 ∷ [])) (quoted_value (braced digits) rules ∙ braced_value)

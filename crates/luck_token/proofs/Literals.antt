@@ -10,7 +10,7 @@ use lib.Seq.{take_all}
 use lib.Dec.{eqb, leb}
 use borrow.Author.Tests.{lt-ltb, le-ltb, le-leb, lt-leb, eq-eqb, ne_eqb, leb-true, eqb-false, not-true}
 use mathlib.Core.Logic.{inl, ⊎_elim}
-use Rattle.luck_text.specs.Bytes.{if◌then◌else◌, byte_at, among, part, is_digit, is_xdigit, run, digit_value, numeral_from, numeral}
+use Rattle.luck_text.specs.Bytes.{when◌then◌else◌, byte_at, among, part, is_digit, is_xdigit, run, digit_value, numeral_from, numeral}
 use Rattle.luck_utf8.specs.Utf8.{last_code, is_char, utf8_bytes}
 use Rattle.luck_token.specs.Whitespace.{line_break, strip_line_break}
 use Rattle.luck_text.specs.Scan.{most}
@@ -64,7 +64,7 @@ both_quotes raw e =
 
 module _ (rules : Rules) (b : ℕ) where
   pub decimal_escape_lem : 48 ≤ b → b ≤ 57 → Decimal ≡ escape_kind rules b
-  unfolding escape_kind among if◌then◌else◌ is_digit
+  unfolding escape_kind among when◌then◌else◌ is_digit
   decimal_escape_lem l h =
       rw (
         ne_eqb b 97 (λ e. absurd (omega arith)),
@@ -136,11 +136,11 @@ newline e = ap (piece (10 ∷ [])) e
 
 module _ (lfcr : Bool) (body : List ℕ) (p : ℕ) where
   pub long_byte : line_break lfcr body p ≡ 0 → piece (byte_at body p ∷ []) 1 ≡ long_piece lfcr body p
-  unfolding long_piece if◌then◌else◌
+  unfolding long_piece when◌then◌else◌
   long_byte e = rw e
 
   pub long_break : (width : ℕ) → width ≡ line_break lfcr body p → (width ≡ 0 → ⊥) → piece (10 ∷ []) width ≡ long_piece lfcr body p
-  unfolding long_piece if◌then◌else◌
+  unfolding long_piece when◌then◌else◌
   long_break width e h = rw (← e, ne_eqb width 0 h)
 
 -- `\x`
@@ -192,7 +192,7 @@ module _ (body : List ℕ) (p count value : ℕ) (n : count ≡ min 3 (run is_di
 -- `\u{XXX}`
 module _ (rules : Rules) (body : List ℕ) (p : ℕ) where
   pub no_open : (byte_at body (p + 2) ≡ 123 → ⊥) → malformed ≡ unicode_escape rules body p
-  unfolding unicode_escape if◌then◌else◌
+  unfolding unicode_escape when◌then◌else◌
   no_open h = rw (ne_eqb (byte_at body (p + 2)) 123 h)
 
   module _ (count : ℕ) (n : count ≡ run is_xdigit (drop (p + 3) body)) where
@@ -202,7 +202,7 @@ module _ (rules : Rules) (body : List ℕ) (p : ℕ) where
     braces : Bool
     braces = eqb (byte_at body (p + 2)) 123 && eqb (byte_at body (p + 3 + count)) 125
 
-    by_count : unicode_escape rules body p ≡ (if braces && allows_code_point rules count exact then piece (utf8_bytes exact) (count + 4) else malformed)
+    by_count : unicode_escape rules body p ≡ (when braces && allows_code_point rules count exact then piece (utf8_bytes exact) (count + 4) else malformed)
     unfolding unicode_escape exact braces
     by_count = rw (← n)
 
@@ -319,7 +319,7 @@ module _ (raw : List ℕ) (level : ℕ) (e : level ≡ equals raw 1) where
   closes : Bool
   closes = bracket_at 93 level raw (length raw - (level + 2))
 
-  by_level : bracket_width raw ≡ (if leb (level + 2 + (level + 2)) (length raw) && opens && closes then level + 2 else 0)
+  by_level : bracket_width raw ≡ (when leb (level + 2 + (level + 2)) (length raw) && opens && closes then level + 2 else 0)
   unfolding bracket_width opens closes
   by_level = rw (← e)
 

@@ -12,7 +12,7 @@ use lib.ListN.{length, drop, length-take}
 use lib.Seq.{get_or-take, get_or-drop}
 use lib.Dec.{eqb, ltb}
 use borrow.Author.Tests.{le-leb, ne_eqb, eqb-true}
-use Rattle.luck_text.specs.Bytes.{if◌then◌else◌, byte_at, part, among, is_xdigit, run, numeral}
+use Rattle.luck_text.specs.Bytes.{when◌then◌else◌, byte_at, part, among, is_xdigit, run, numeral}
 use Rattle.luck_text.specs.Walk.{Turn, stop, goes, walk, walk_from}
 use Rattle.luck_text.proofs.Cases.{by_test, if_true, and_left, and_right, both_true, second_false, present, same}
 use Rattle.luck_utf8.specs.Utf8.{last_code, is_char}
@@ -123,7 +123,7 @@ module _ (rules : Rules) (body : List ℕ) (p : ℕ) where
   unfolding escape_piece_at
   other_escape_at h =
       let b = byte_at body (p + 1) in
-      ap (λ (x : LiteralPiece). if ltb (p + 1) (length body) then x else malformed)
+      ap (λ (x : LiteralPiece). when ltb (p + 1) (length body) then x else malformed)
       (ap (λ (k : Escape). escape_piece (characters_only rules) k body p) (same_kind rules b) ∙ other_escape_lem rules (escape_kind rules b) body p (no_unicode h))
 
   other_short : (byte_at body p ≡ 92 → byte_at body (p + 1) ≡ 117 → ⊥) → short_piece (characters_only rules) body p ≡ short_piece rules body p
@@ -167,14 +167,14 @@ module _ (rules : Rules) where
 abbrev Stays : LiteralPiece → LiteralPiece → Type 0
 Stays old new = (bytes : List ℕ) (width : ℕ) → old ≡ piece bytes width → new ≡ piece bytes width
 
-stays_if : (t : Bool) (x y x' y' : LiteralPiece) → Stays x x' → Stays y y' → Stays (if t then x else y) (if t then x' else y')
-unfolding if◌then◌else◌
+stays_if : (t : Bool) (x y x' y' : LiteralPiece) → Stays x x' → Stays y y' → Stays (when t then x else y) (when t then x' else y')
+unfolding when◌then◌else◌
 stays_if true x y x' y' f g = f
 stays_if false x y x' y' f g = g
 
 module _ (rules : Rules) where
   more_allowed : (count c : ℕ) → allows_code_point (characters_only rules) count c ≡ true → allows_code_point rules count c ≡ true
-  unfolding allows_code_point allows_digits allows_value if◌then◌else◌
+  unfolding allows_code_point allows_digits allows_value when◌then◌else◌
   more_allowed count c e =
       let character = and_right (allows_digits rules count) (is_char c) e in
       both_true (allows_digits rules count) (allows_value rules c) (and_left (allows_digits rules count) (is_char c) e)
@@ -242,12 +242,12 @@ module _ (long : Bool) (rules : Rules) (body : List ℕ) where
   value_stays v = walk_stays (length body - 0) 0 0 [] v
 
 pub literal_stays : (rules : Rules) (raw v : List ℕ) → literal_value (characters_only rules) raw ≡ some v → literal_value rules raw ≡ some v
-unfolding literal_value if◌then◌else◌
+unfolding literal_value when◌then◌else◌
 literal_stays rules raw v =
     go (ltb 0 (bracket_width raw)) (is_short raw) _ _ _ _ (value_stays true rules (long_string_body rules.lfcr_line_break raw) v) (value_stays false rules (part raw 1 (length raw - 1)) v)
   where
     go : (t u : Bool) (x y x' y' : Option (List ℕ)) → (x ≡ some v → x' ≡ some v) → (y ≡ some v → y' ≡ some v)
-        → (if t then x else if u then y else none) ≡ some v → (if t then x' else if u then y' else none) ≡ some v
+        → (when t then x else when u then y else none) ≡ some v → (when t then x' else when u then y' else none) ≡ some v
     go true u x y x' y' f g = f
     go false true x y x' y' f g = g
     go false false x y x' y' f g = λ e. e

@@ -11,7 +11,7 @@ use mathlib.Core.List.{List, [], ◌∷◌, ◌++◌}
 use mathlib.Core.Option.{none, some}
 use lib.ListN.{length, drop}
 use lib.Dec.{eqb, leb}
-use Rattle.luck_text.specs.Bytes.{if◌then◌else◌, byte_at, part, ascii, between, among, is_xdigit, run, numeral}
+use Rattle.luck_text.specs.Bytes.{when◌then◌else◌, byte_at, part, ascii, between, among, is_xdigit, run, numeral}
 use Rattle.luck_text.proofs.Bytes.{front_length}
 use Rattle.luck_text.proofs.Among.{every_among}
 use Rattle.luck_utf8.specs.Utf8.{ill_formed, is_char, utf8_bytes}
@@ -96,14 +96,14 @@ module _ (version : ℕ) (text : List ℕ) (room : ℕ) where
 -- these spell: 5.4 and 5.5 each one up to 7FFFFFFF, 5.3 and Luau a character only, and Luau in at most 16 digits.
 unfoldable pub decodes : ℕ → ℕ → ℕ → Bool
 decodes version count c =
-    if eqb version 4 || eqb version 5 then leb 1 count && leb c 0x7FFF_FFFF
-    else if eqb version 3 then leb 1 count && is_char c
-    else if eqb version 6 then between 1 16 count && is_char c
+    when eqb version 4 || eqb version 5 then leb 1 count && leb c 0x7FFF_FFFF
+    else when eqb version 3 then leb 1 count && is_char c
+    else when eqb version 6 then between 1 16 count && is_char c
     else false
 
 decodes_allowed : (count c version : ℕ) → among version with_unicode ≡ true
     → allows_code_point (rules_of version) count c ≡ decodes version count c
-unfolding decodes allows_code_point allows_digits allows_value if◌then◌else◌ rules_of has is_version versions among
+unfolding decodes allows_code_point allows_digits allows_value when◌then◌else◌ rules_of has is_version versions among
 decodes_allowed count c =
     let any = no_limit (leb 1 count) (leb c 0x7FFF_FFFF) in
     every_among (λ (v : ℕ). allows_code_point (rules_of v) count c ≡ decodes v count c) with_unicode
@@ -116,7 +116,7 @@ module _ (version : ℕ) (known : among version (3 ∷ 4 ∷ 5 ∷ 6 ∷ []) ≡
       → count ≡ run is_xdigit (drop (p + 3) body) → byte_at body (p + 3 + count) ≡ code "}"
       → c ≡ numeral 16 (part body (p + 3) (p + 3 + count))
       → piece_at false (rules_of version) body p
-      ≡ (if decodes version count c then piece (utf8_bytes c) (count + 4) else malformed)
+      ≡ (when decodes version count c then piece (utf8_bytes c) (count + 4) else malformed)
   escape_decoded body p count c backslash letter opens digits closes spelled =
       let kind = unicode_kind version known in
       unicode_piece body p backslash letter opens count digits closes (rules_of version) kind c spelled
@@ -125,7 +125,7 @@ module _ (version : ℕ) (known : among version (3 ∷ 4 ∷ 5 ∷ 6 ∷ []) ≡
   -- and so in a literal that has nothing else
   pub literal_decoded : (digits : List ℕ) (c room : ℕ) → run is_xdigit digits ≡ length digits → c ≡ numeral 16 digits
       → decode_string version (ascii "\"\\u{" ++ digits ++ ascii "}\"") room
-      ≡ with_room room (if decodes version (length digits) c then some (utf8_bytes c) else none)
+      ≡ with_room room (when decodes version (length digits) c then some (utf8_bytes c) else none)
   literal_decoded digits c room all spelled =
       sym (literal version (escaped digits) room (known_version version known) (escaped_formed digits all))
       ∙ ap (with_room room) (escaped_value digits all (rules_of version) (unicode_kind version known) c spelled)

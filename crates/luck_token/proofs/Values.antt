@@ -12,7 +12,7 @@ use lib.ListN.{length, take, drop, set, length-append}
 use lib.Seq.{take_all, drop-length, drop-cons, take_at, set-append_seam, sets, length-sets}
 use lib.Dec.{eqb, leb}
 use borrow.Author.Tests.{lt-ltb, le-ltb, le-leb, lt-leb, leb-true}
-use Rattle.luck_text.specs.Bytes.{if◌then◌else◌, byte_at, part}
+use Rattle.luck_text.specs.Bytes.{when◌then◌else◌, byte_at, part}
 use Rattle.luck_text.specs.Walk.{Turn, walk_from}
 use Rattle.luck_text.specs.Walk.Turn.{stop}
 use Rattle.luck_token.specs.Version.{is_version, rules_of}
@@ -230,7 +230,7 @@ module _ (long : Bool) (rules : Rules) (body : List ℕ) where
 
 pub written : (o : Option (List ℕ)) (before output₀ : List ℕ) → some before ≡ o → length before ≤ length output₀
     → before ++ drop (length before) output₀ ≡ output_of (with_room (length output₀) o) output₀
-unfolding with_room output_of if◌then◌else◌
+unfolding with_room output_of when◌then◌else◌
 written o before output₀ e h = rw (← e, le-leb (length before) (length output₀) h)
 
 -- ---- The outcomes
@@ -258,7 +258,7 @@ module _ (o : Option (List ℕ)) (output : List ℕ) where
 
   module _ (n : ℕ) (h : (v : List ℕ) × (o ≡ some v) × (n ≡ length v)) where
     pub too_short : length output < n → (numbered decoded.OutputTooShort ≡ decoding_of (with_room (length output) o)) × (output ≡ output_of (with_room (length output) o) output)
-    unfolding numbered decoding_of with_room output_of if◌then◌else◌
+    unfolding numbered decoding_of with_room output_of when◌then◌else◌
     too_short l =
         let t = lt-leb (length h.0) (length output) (omega (arith, h.2)) in
         (rw (h.1, t), rw (h.1, t))
@@ -277,7 +277,7 @@ module _ (o : Option (List ℕ)) (output : List ℕ) where
         f (omega (arith, h.2)) ∙ written o h.0 output (sym h.1) (omega (arith, h.2))
 
     pub fits : n ≤ length output → numbered (decoded.Value n) ≡ decoding_of (with_room (length output) o)
-    unfolding numbered decoding_of with_room if◌then◌else◌
+    unfolding numbered decoding_of with_room when◌then◌else◌
     fits l =
         let t = le-leb (length h.0) (length output) (omega (arith, h.2)) in
         rw (h.1, t, h.2)

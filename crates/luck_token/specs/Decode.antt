@@ -4,7 +4,7 @@
 -- Assumes nothing.
 use Rattle.std.specs.Prelude.{ℕ, List, length, leb}
 use Rattle.std.proofs.Math.Option.{Option, none, some}
-use Rattle.luck_text.specs.Bytes.{if◌then◌else◌, in_front}
+use Rattle.luck_text.specs.Bytes.{when◌then◌else◌, in_front}
 use Rattle.luck_token.specs.Version.{rules_of}
 use Rattle.luck_token.specs.Text.{after_text}
 use Rattle.luck_token.specs.Literal.{literal_value}
@@ -24,7 +24,7 @@ pub data DecodeOutcome : Type 0 where
 
 unfoldable pub with_room : ℕ → Option (List ℕ) → DecodeOutcome
 with_room room none = refused 24 0
-with_room room (some bytes) = if leb (length bytes) room then value bytes else refused 26 0
+with_room room (some bytes) = when leb (length bytes) room then value bytes else refused 26 0
 
 unfoldable pub decode_string : ℕ → List ℕ → ℕ → DecodeOutcome
 decode_string version raw room = after_text refused version raw (with_room room (literal_value (rules_of version) raw))

@@ -7,7 +7,7 @@ use Rattle.std.specs.Prelude.{ℕ, ◌+◌, ◌-◌, min, max, Bool, true, false
 use Prim.Native.Char.{code}
 use Rattle.std.proofs.Math.Option.{Option, none, some}
 use Rattle.luck_text.specs.Bytes.{
-  if◌then◌else◌,
+  when◌then◌else◌,
   ascii,
   byte_at,
   part,
@@ -46,7 +46,7 @@ is_short raw =
 
 -- what stands between the quotes: its start and its end
 unfoldable pub short_string_body : List ℕ → Option (ℕ × ℕ)
-short_string_body raw = if is_short raw then some (1, length raw - 1) else none
+short_string_body raw = when is_short raw then some (1, length raw - 1) else none
 
 abbrev pub places_of : ShortString → Option (ℕ × ℕ)
 places_of (Body start end) = some (start, end)
@@ -67,7 +67,7 @@ bracket_width raw =
     let level = equals raw 1 in
     let width = level + 2 in
     let end = length raw - width in
-    if leb (width + width) (length raw) && bracket_at (code "[") level raw 0 && bracket_at (code "]") level raw end
+    when leb (width + width) (length raw) && bracket_at (code "[") level raw 0 && bracket_at (code "]") level raw end
     then width else 0
 
 -- what stands between the brackets, without a line break right after the opening one
@@ -85,34 +85,34 @@ pub data LiteralPiece : Type 0 where
 unfoldable pub long_piece : Bool → List ℕ → ℕ → LiteralPiece
 long_piece lfcr body p =
     let width = line_break lfcr body p in
-    if eqb width 0 then piece (byte_at body p ∷ []) 1 else piece (code "\n" ∷ []) width
+    when eqb width 0 then piece (byte_at body p ∷ []) 1 else piece (code "\n" ∷ []) width
 
 -- an escape that the version does not define: 5.1 and Luau read the byte as itself
 unfoldable pub other_escape : Rules → Escape
-other_escape rules = if rules.strict_escapes then Undefined else Itself
+other_escape rules = when rules.strict_escapes then Undefined else Itself
 
 -- what the byte after a backslash begins. The code's enum Escape: Simple (`\n`, `\"` and such), LineBreak, Hex
 -- `\xXX`, Whitespace `\z`, Decimal `\ddd`, Unicode `\u{XXX}`, Itself (the byte stands for itself), Undefined.
 unfoldable pub escape_kind : Rules → ℕ → Escape
 escape_kind rules e =
-    if among e (ascii "abfnrtv\\\"'") then Simple
-    else if eqb e (code "\n") || eqb e (code "\r") then LineBreak
-    else if is_digit e then Decimal
-    else if eqb e (code "x") && rules.hex_escape then Hex
-    else if eqb e (code "z") && rules.hex_escape then Whitespace
-    else if eqb e (code "u") && rules.unicode_escape then Unicode
+    when among e (ascii "abfnrtv\\\"'") then Simple
+    else when eqb e (code "\n") || eqb e (code "\r") then LineBreak
+    else when is_digit e then Decimal
+    else when eqb e (code "x") && rules.hex_escape then Hex
+    else when eqb e (code "z") && rules.hex_escape then Whitespace
+    else when eqb e (code "u") && rules.unicode_escape then Unicode
     else other_escape rules
 
 -- the byte of an escape of kind Simple: 07, 08, 0C and 0B are BEL, BS, FF and VT; a backslash or a quote is itself
 unfoldable pub simple_escape : ℕ → ℕ
 simple_escape e =
-    if eqb e (code "a") then 0x07
-    else if eqb e (code "b") then 0x08
-    else if eqb e (code "f") then 0x0C
-    else if eqb e (code "n") then code "\n"
-    else if eqb e (code "r") then code "\r"
-    else if eqb e (code "t") then code "\t"
-    else if eqb e (code "v") then 0x0B else e
+    when eqb e (code "a") then 0x07
+    else when eqb e (code "b") then 0x08
+    else when eqb e (code "f") then 0x0C
+    else when eqb e (code "n") then code "\n"
+    else when eqb e (code "r") then code "\r"
+    else when eqb e (code "t") then code "\t"
+    else when eqb e (code "v") then 0x0B else e
 
 -- `\` and a line break is a newline. A lone CR counts here in Luau too.
 unfoldable pub line_break_escape : Bool → List ℕ → ℕ → LiteralPiece
@@ -121,7 +121,7 @@ line_break_escape lfcr body p = piece (code "\n" ∷ []) (1 + max 1 (line_break 
 -- exactly two hexadecimal digits
 unfoldable pub hex_escape : List ℕ → ℕ → LiteralPiece
 hex_escape body p =
-    if is_xdigit (byte_at body (p + 2)) && is_xdigit (byte_at body (p + 3))
+    when is_xdigit (byte_at body (p + 2)) && is_xdigit (byte_at body (p + 3))
     then piece (numeral 16 (part body (p + 2) (p + 4)) ∷ []) 4 else malformed
 
 -- `\z` skips the whitespace after it
@@ -133,7 +133,7 @@ unfoldable pub decimal_escape : List ℕ → ℕ → LiteralPiece
 decimal_escape body p =
     let count = min 3 (run is_digit (drop (p + 1) body)) in
     let value = numeral 10 (part body (p + 1) (p + 1 + count)) in
-    if leb value 255 then piece (value ∷ []) (1 + count) else malformed
+    when leb value 255 then piece (value ∷ []) (1 + count) else malformed
 
 -- unicode_escape_codepoint of luck: how many digits the version allows
 unfoldable pub allows_digits : Rules → ℕ → Bool
@@ -142,7 +142,7 @@ allows_digits rules count = leb 1 count && (not rules.unicode_escape_digit_limit
 -- and of which value: 5.4 and 5.5 take each one up to 7FFFFFFF (F-4 of document 02), the others a character only
 -- (char::from_u32 of luck)
 unfoldable pub allows_value : Rules → ℕ → Bool
-allows_value rules value = if rules.extended_unicode_escape then leb value last_code else is_char value
+allows_value rules value = when rules.extended_unicode_escape then leb value last_code else is_char value
 
 unfoldable pub allows_code_point : Rules → ℕ → ℕ → Bool
 allows_code_point rules count value = allows_digits rules count && allows_value rules value
@@ -152,7 +152,7 @@ unfoldable pub unicode_escape : Rules → List ℕ → ℕ → LiteralPiece
 unicode_escape rules body p =
     let count = run is_xdigit (drop (p + 3) body) in
     let value = numeral 16 (part body (p + 3) (p + 3 + count)) in
-    if eqb (byte_at body (p + 2)) (code "{") && eqb (byte_at body (p + 3 + count)) (code "}")
+    when eqb (byte_at body (p + 2)) (code "{") && eqb (byte_at body (p + 3 + count)) (code "}")
     && allows_code_point rules count value
     then piece (utf8_bytes value) (count + 4)
     else malformed
@@ -171,13 +171,13 @@ escape_piece rules Undefined body p = malformed
 unfoldable pub escape_piece_at : Rules → List ℕ → ℕ → LiteralPiece
 escape_piece_at rules body p =
     let escape = escape_piece rules (escape_kind rules (byte_at body (p + 1))) body p in
-    if ltb (p + 1) (length body) then escape else malformed
+    when ltb (p + 1) (length body) then escape else malformed
 
 -- in a short string a backslash begins an escape, and any other byte is itself
 unfoldable pub short_piece : Rules → List ℕ → ℕ → LiteralPiece
 short_piece rules body p =
     let escape = escape_piece_at rules body p in
-    if eqb (byte_at body p) (code "\\") then escape else piece (byte_at body p ∷ []) 1
+    when eqb (byte_at body p) (code "\\") then escape else piece (byte_at body p ∷ []) 1
 
 -- the piece at place p of a long or a short string
 unfoldable pub piece_at : Bool → Rules → List ℕ → ℕ → LiteralPiece
@@ -203,4 +203,4 @@ unfoldable pub literal_value : Rules → List ℕ → Option (List ℕ)
 literal_value rules raw =
     let long = value_of true rules (long_string_body rules.lfcr_line_break raw) in
     let short = value_of false rules (part raw 1 (length raw - 1)) in
-    if ltb 0 (bracket_width raw) then long else if is_short raw then short else none
+    when ltb 0 (bracket_width raw) then long else when is_short raw then short else none

@@ -3,13 +3,13 @@
 -- Assumes nothing.
 use Rattle.std.specs.Prelude.{ℕ, List}
 use Rattle.std.proofs.Math.Option.{Option, none, some}
-use Rattle.luck_text.specs.Bytes.{if◌then◌else◌}
+use Rattle.luck_text.specs.Bytes.{when◌then◌else◌}
 use Rattle.luck_utf8.specs.Utf8.{ill_formed}
 use Rattle.luck_token.specs.Version.{is_version}
 
 -- 25 where the version is none of the six
 unfoldable pub after_version : {A : Type 0} → (ℕ → ℕ → A) → ℕ → A → A
-after_version refusal version answer = if is_version version then answer else refusal 25 0
+after_version refusal version answer = when is_version version then answer else refusal 25 0
 
 -- 23 at the first ill-formed sequence, if there is one
 unfoldable pub after_utf8 : {A : Type 0} → (ℕ → ℕ → A) → Option ℕ → A → A

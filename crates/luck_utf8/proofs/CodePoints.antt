@@ -11,7 +11,7 @@ use native.Mathlib.Omega.{arith}
 use lib.ListN.{length, take, drop}
 use lib.Dec.{leb, ltb}
 use borrow.Author.Tests.{lt-ltb, le-ltb, le-leb, lt-leb, ltb-true}
-use Rattle.luck_text.specs.Bytes.{if◌then◌else◌}
+use Rattle.luck_text.specs.Bytes.{when◌then◌else◌}
 use Rattle.luck_text.proofs.Cases.{if_true, if_false, and_left, and_right, order}
 use Rattle.luck_text.proofs.Bytes.{within, below, above}
 use Rattle.luck_utf8.specs.Utf8.{is_char, Form, rfc2279, last_code, six_bits, bytes_by, utf8_bytes}
@@ -150,11 +150,11 @@ module _ (c : ℕ) where
   -- the number of bytes that the rows say
   abbrev pub count_by : List Form → ℕ
   count_by [] = 0
-  count_by (r ∷ rows) = if leb c r.last then suc r.following else count_by rows
+  count_by (r ∷ rows) = when leb c r.last then suc r.following else count_by rows
 
   length_if : (t : Bool) (x y : List ℕ) (m n : ℕ) → length x ≡ m → length y ≡ n
-      → length (if t then x else y) ≡ (if t then m else n)
-  unfolding if◌then◌else◌
+      → length (when t then x else y) ≡ (when t then m else n)
+  unfolding when◌then◌else◌
   length_if true x y m n e f = e
   length_if false x y m n e f = f
 

@@ -11,7 +11,7 @@ use native.Mathlib.Omega.{arith}
 use lib.ListN.{length, length-append}
 use lib.Dec.{leb, ltb}
 use borrow.Author.Tests.{lt-ltb, le-ltb}
-use Rattle.luck_text.specs.Bytes.{if◌then◌else◌}
+use Rattle.luck_text.specs.Bytes.{when◌then◌else◌}
 use Rattle.luck_utf8.specs.Utf8.{sequence, ill_formed, char_at, is_char, rfc2279, last_code, six_bits, utf8_bytes}
 use Rattle.luck_utf8.proofs.Sequences.{walk_ill_formed, walk_sequence}
 use Rattle.luck_utf8.proofs.Parts.{walk_at, walk_past, at_end}
@@ -23,22 +23,22 @@ use Rattle.luck_utf8.proofs.ReadBack.{same_code}
 -- the definition before F-4, which RFC 3629 has for characters: up to four bytes
 abbrev pub former_bytes : ℕ → List ℕ
 former_bytes c =
-    if ltb c 0x80 then c ∷ []
-    else if ltb c 0x800 then (0xC0 + c / 0x40) ∷ (0x80 + c % 0x40) ∷ []
-    else if ltb c 0x10000 then (0xE0 + c / 0x1000) ∷ (0x80 + c / 0x40 % 0x40) ∷ (0x80 + c % 0x40) ∷ []
+    when ltb c 0x80 then c ∷ []
+    else when ltb c 0x800 then (0xC0 + c / 0x40) ∷ (0x80 + c % 0x40) ∷ []
+    else when ltb c 0x10000 then (0xE0 + c / 0x1000) ∷ (0x80 + c / 0x40 % 0x40) ∷ (0x80 + c % 0x40) ∷ []
     else (0xF0 + c / 0x40000) ∷ (0x80 + c / 0x1000 % 0x40) ∷ (0x80 + c / 0x40 % 0x40) ∷ (0x80 + c % 0x40) ∷ []
 
 module _ (c : ℕ) where
   -- How many bytes a code point has; a number above 7FFFFFFF has none.
   pub lengths : length (utf8_bytes c) ≡
-      (if leb c 0x7F then 1 else if leb c 0x7FF then 2 else if leb c 0xFFFF then 3
-      else if leb c 0x1F_FFFF then 4 else if leb c 0x3FF_FFFF then 5 else if leb c 0x7FFF_FFFF then 6 else 0)
+      (when leb c 0x7F then 1 else when leb c 0x7FF then 2 else when leb c 0xFFFF then 3
+      else when leb c 0x1F_FFFF then 4 else when leb c 0x3FF_FFFF then 5 else when leb c 0x7FFF_FFFF then 6 else 0)
   unfolding utf8_bytes rfc2279
   lengths = length_by c rfc2279
 
   -- Up to 1FFFFF the bytes are those of before F-4.
   pub as_before : c ≤ 0x1F_FFFF → utf8_bytes c ≡ former_bytes c
-  unfolding six_bits if◌then◌else◌
+  unfolding six_bits when◌then◌else◌
   as_before last =
       by_row c (λ (bytes : List ℕ). bytes ≡ former_bytes c)
       (λ h. rw (lt-ltb c 0x80 h))

@@ -8,7 +8,7 @@ use native.Mathlib.Nat.{sub-zero}
 use native.Mathlib.Omega.{arith}
 use lib.Dec.{ltb}
 use borrow.Author.Tests.{lt-ltb, le-ltb}
-use Rattle.luck_text.specs.Bytes.{if◌then◌else◌, byte_at}
+use Rattle.luck_text.specs.Bytes.{when◌then◌else◌, byte_at}
 use Rattle.luck_utf8.specs.Utf8.{last_code, six_bits, utf8_bytes}
 use Rattle.luck_utf8.proofs.CodePoints.{six_bits_append, by_row}
 
@@ -25,38 +25,38 @@ read_row mark n (b ∷ rest) = read_tails n (b - mark) rest
 -- by the first byte
 read_by : ℕ → List ℕ → ℕ × List ℕ
 read_by b bytes =
-    if ltb b 0x80 then read_row 0x00 0 bytes
-    else if ltb b 0xE0 then read_row 0xC0 1 bytes
-    else if ltb b 0xF0 then read_row 0xE0 2 bytes
-    else if ltb b 0xF8 then read_row 0xF0 3 bytes
-    else if ltb b 0xFC then read_row 0xF8 4 bytes
+    when ltb b 0x80 then read_row 0x00 0 bytes
+    else when ltb b 0xE0 then read_row 0xC0 1 bytes
+    else when ltb b 0xF0 then read_row 0xE0 2 bytes
+    else when ltb b 0xF8 then read_row 0xF0 3 bytes
+    else when ltb b 0xFC then read_row 0xF8 4 bytes
     else read_row 0xFC 5 bytes
 
 module _ (b : ℕ) (bytes : List ℕ) where
   by_one : b < 0x80 → read_by b bytes ≡ read_row 0x00 0 bytes
-  unfolding read_by if◌then◌else◌
+  unfolding read_by when◌then◌else◌
   by_one h = rw (lt-ltb b 0x80 h)
 
   by_two : 0x80 ≤ b → b < 0xE0 → read_by b bytes ≡ read_row 0xC0 1 bytes
-  unfolding read_by if◌then◌else◌
+  unfolding read_by when◌then◌else◌
   by_two l h = rw (le-ltb b 0x80 l, lt-ltb b 0xE0 h)
 
   by_three : 0xE0 ≤ b → b < 0xF0 → read_by b bytes ≡ read_row 0xE0 2 bytes
-  unfolding read_by if◌then◌else◌
+  unfolding read_by when◌then◌else◌
   by_three l h = rw (le-ltb b 0x80 (omega arith), le-ltb b 0xE0 l, lt-ltb b 0xF0 h)
 
   by_four : 0xF0 ≤ b → b < 0xF8 → read_by b bytes ≡ read_row 0xF0 3 bytes
-  unfolding read_by if◌then◌else◌
+  unfolding read_by when◌then◌else◌
   by_four l h = rw (le-ltb b 0x80 (omega arith), le-ltb b 0xE0 (omega arith), le-ltb b 0xF0 l, lt-ltb b 0xF8 h)
 
   by_five : 0xF8 ≤ b → b < 0xFC → read_by b bytes ≡ read_row 0xF8 4 bytes
-  unfolding read_by if◌then◌else◌
+  unfolding read_by when◌then◌else◌
   by_five l h =
       rw (le-ltb b 0x80 (omega arith), le-ltb b 0xE0 (omega arith), le-ltb b 0xF0 (omega arith))
       (rw (le-ltb b 0xF8 l, lt-ltb b 0xFC h))
 
   by_six : 0xFC ≤ b → read_by b bytes ≡ read_row 0xFC 5 bytes
-  unfolding read_by if◌then◌else◌
+  unfolding read_by when◌then◌else◌
   by_six l =
       rw (le-ltb b 0x80 (omega arith), le-ltb b 0xE0 (omega arith), le-ltb b 0xF0 (omega arith))
       (rw (le-ltb b 0xF8 (omega arith), le-ltb b 0xFC l))

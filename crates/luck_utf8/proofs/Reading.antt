@@ -10,7 +10,7 @@ use native.Mathlib.Omega.{arith}
 use lib.ListN.{length, length-append, get_or-append}
 use lib.Seq.{get_or-append-add}
 use borrow.Author.Tests.{lt-ltb}
-use Rattle.luck_text.specs.Bytes.{if◌then◌else◌, byte_at}
+use Rattle.luck_text.specs.Bytes.{when◌then◌else◌, byte_at}
 use Rattle.luck_text.proofs.Cases.{both_true}
 use Rattle.luck_text.proofs.Bytes.{within}
 use Rattle.luck_utf8.specs.Utf8.{Range, tail, rfc3629, tails_of, follow, sequence, char_at, is_char, six_bits, utf8_bytes}
@@ -98,7 +98,7 @@ module _ (text : List ℕ) (p c : ℕ) where
         record { wide = w; char = sym (char_three text p 3 (sym w) c (c / 0x40) refl (omega arith) (omega arith)) }
 
     three : 0x800 ≤ c → c < 0x10000 → is_char c ≡ true → Read text p c 3
-    unfolding rfc3629 tails_of if◌then◌else◌
+    unfolding rfc3629 tails_of when◌then◌else◌
     three l h e =
         let b = 0xE0 + c / 0x40 / 0x40 in
         by_order c 0x1000 (λ h₀. let e₀ : b ≡ 0xE0 = omega arith in row_of_three (ap (tails_of rfc3629) e₀) (omega arith))
@@ -125,7 +125,7 @@ module _ (text : List ℕ) (p c : ℕ) where
         record { wide = w; char = sym r }
 
     four : 0x10000 ≤ c → c < 0x110000 → Read text p c 4
-    unfolding rfc3629 tails_of if◌then◌else◌
+    unfolding rfc3629 tails_of when◌then◌else◌
     four l h =
         let b = 0xF0 + c / 0x40 / 0x40 / 0x40 in
         by_order c 0x40000 (λ h₀. let e₀ : b ≡ 0xF0 = omega arith in row_of_four (ap (tails_of rfc3629) e₀) (omega arith))

@@ -8,7 +8,7 @@ use Prim.Native.Nat.{ℕ, zero, suc, ◌+◌, ◌/◌, ◌%◌, ◌<◌, ◌≤�
 use native.Mathlib.Nat.{add-zero}
 use native.Mathlib.Omega.{arith}
 use lib.ListN.{length}
-use Rattle.luck_text.specs.Bytes.{if◌then◌else◌, byte_at}
+use Rattle.luck_text.specs.Bytes.{when◌then◌else◌, byte_at}
 use Rattle.luck_text.proofs.Bytes.{above}
 use Rattle.luck_utf8.specs.Utf8.{Range, rfc3629, tails_of, sequence, is_char, six_bits, utf8_bytes}
 use Rattle.luck_utf8.proofs.Sequences.{no_row_low, no_row_high, follow_out, sequence_none, sequence_refused}
@@ -55,13 +55,13 @@ module _ (text : List ℕ) (p : ℕ) where
 
   module _ (c : ℕ) where
     surrogate : Stand text p (six_bits 0xE0 2 c []) → 0xD800 ≤ c → c < 0xE000 → sequence text p ≡ 0
-    unfolding six_bits rfc3629 tails_of if◌then◌else◌
+    unfolding six_bits rfc3629 tails_of when◌then◌else◌
     surrogate s l h =
         let e : 0xE0 + c / 0x40 / 0x40 ≡ 0xED = omega arith in
         second_high s (ap (tails_of rfc3629) e) (omega arith)
 
     large : Stand text p (six_bits 0xF0 3 c []) → 0x110000 ≤ c → sequence text p ≡ 0
-    unfolding six_bits rfc3629 tails_of if◌then◌else◌
+    unfolding six_bits rfc3629 tails_of when◌then◌else◌
     large s l =
         let b = 0xF0 + c / 0x40 / 0x40 / 0x40 in
         by_order c 0x140000

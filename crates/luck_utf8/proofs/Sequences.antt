@@ -12,7 +12,7 @@ use native.Mathlib.Omega.{arith}
 use lib.ListN.{length, take, drop}
 use lib.Dec.{leb, ltb}
 use borrow.Author.Tests.{lt-ltb, le-ltb, le-leb, lt-leb, ne_eqb, ltb-true, leb-true, not-true, not-false}
-use Rattle.luck_text.specs.Bytes.{if◌then◌else◌, byte_at}
+use Rattle.luck_text.specs.Bytes.{when◌then◌else◌, byte_at}
 use Rattle.luck_text.specs.Walk.{walk_from}
 use Rattle.luck_utf8.specs.Utf8.{Range, Row, tail, rfc3629, in_range, tails_of, follow, width_by, sequence, sequence_at, none_ill_formed, code_point, char_at}
 use Rattle.luck_text.proofs.Cases.{if_true, if_false, and_left, and_right, second_false, order, present}
@@ -22,7 +22,7 @@ use Rattle.luck_text.proofs.Walk.{walk_stop, walk_goes}
 -- The row of a first byte.
 module _ (b : ℕ) where
   pub row_holds : (r : Row) (rows : List Row) → r.lead.low ≤ b → b ≤ r.lead.high → tails_of (r ∷ rows) b ≡ some r.tails
-  unfolding tails_of if◌then◌else◌
+  unfolding tails_of when◌then◌else◌
   row_holds r rows l h = rw (le-leb r.lead.low b l, le-leb b r.lead.high h)
 
   row_below : (r : Row) (rows : List Row) → r.lead.high < b → tails_of (r ∷ rows) b ≡ tails_of rows b
@@ -30,7 +30,7 @@ module _ (b : ℕ) where
   row_below r rows h = if_false (in_range r.lead b) _ _ (second_false (leb r.lead.low b) _ (lt-leb b r.lead.high h))
 
   row_above : (r : Row) (rows : List Row) → b < r.lead.low → tails_of (r ∷ rows) b ≡ tails_of rows b
-  unfolding tails_of if◌then◌else◌
+  unfolding tails_of when◌then◌else◌
   row_above r rows h = rw (lt-leb r.lead.low b h)
 
   module _ (bound : ℕ) where
@@ -129,7 +129,7 @@ module _ (text : List ℕ) where
 
 -- What is left of the sequence at p: the bytes before p + k fit its row, those from there on have to fit the ranges, and then it has n bytes.
 pub record Left (text : List ℕ) (p k n : ℕ) (ranges : List Range) : Type 0 where
-  pub whole : sequence text p ≡ (if follow text (p + k) ranges then n else 0)
+  pub whole : sequence text p ≡ (when follow text (p + k) ranges then n else 0)
 
 module _ {text : List ℕ} {p : ℕ} where
   pub left_row : {tails : List Range} → p < length text → tails_of rfc3629 (byte_at text p) ≡ some tails → Left text p 1 (suc (length tails)) tails
@@ -154,7 +154,7 @@ module _ {text : List ℕ} {p : ℕ} where
 
         pub left_in : not b ≡ false → p + k < length text → Left text p (k + 1) n ranges
         left_in t h =
-            record { whole = l.whole ∙ ap (λ (f : Bool). if f then n else 0) (follow_in text p k r ranges h (sym e ∙ not-false b t)) }
+            record { whole = l.whole ∙ ap (λ (f : Bool). when f then n else 0) (follow_in text p k r ranges h (sym e ∙ not-false b t)) }
 
 -- What a well-formed sequence says of its bytes.
 
@@ -262,12 +262,12 @@ module _ (text : List ℕ) where
   -- The walk.
   module _ (p w : ℕ) (e : w ≡ sequence text p) where
     pub walk_ill_formed : p < length text → w ≡ 0 → walk_from (sequence_at text) none_ill_formed (length text) p tt ≡ some p
-    unfolding sequence_at if◌then◌else◌
+    unfolding sequence_at when◌then◌else◌
     walk_ill_formed h z = walk_stop (sequence_at text) none_ill_formed (length text) p tt (some p) h (rw (← e, z))
 
     pub walk_sequence : (w ≡ 0 → ⊥) → p + w ≤ length text
         → walk_from (sequence_at text) none_ill_formed (length text) p tt ≡ walk_from (sequence_at text) none_ill_formed (length text) (p + w) tt
-    unfolding sequence_at if◌then◌else◌
+    unfolding sequence_at when◌then◌else◌
     walk_sequence f h = walk_goes (sequence_at text) none_ill_formed (length text) p tt w tt (omega arith) h (rw (← e, ne_eqb w 0 f))
 
   ascii_run : (n p : ℕ) → p + n ≤ length text → ((k : ℕ) → p ≤ k → k < p + n → byte_at text k < 0x80)
@@ -297,11 +297,11 @@ module _ (text : List ℕ) where
 -- The character at a place.
 module _ (text : List ℕ) (p w : ℕ) (e : w ≡ sequence text p) where
   pub char_missing : w ≡ 0 → record { code = 0xFFFD; width = 1 } ≡ char_at text p
-  unfolding char_at if◌then◌else◌
+  unfolding char_at when◌then◌else◌
   char_missing z = rw (← e, z)
 
   found : (w ≡ 0 → ⊥) → char_at text p ≡ record { code = code_point text p w; width = w }
-  unfolding char_at if◌then◌else◌
+  unfolding char_at when◌then◌else◌
   found f = rw (← e, ne_eqb w 0 f)
 
   module _ (n : ℕ) where
@@ -309,22 +309,22 @@ module _ (text : List ℕ) (p w : ℕ) (e : w ≡ sequence text p) where
     coded f q = rw (found f, q)
 
     pub char_one : w ≡ 1 → n ≡ byte_at text p → record { code = n; width = w } ≡ char_at text p
-    unfolding code_point if◌then◌else◌
+    unfolding code_point when◌then◌else◌
     char_one z q = coded (λ o. omega arith) (rw z q)
 
     pub char_two : w ≡ 2 → n ≡ (byte_at text p - 0xC0) * 0x40 + (byte_at text (p + 1) - 0x80) → record { code = n; width = w } ≡ char_at text p
-    unfolding code_point if◌then◌else◌
+    unfolding code_point when◌then◌else◌
     char_two z q = coded (λ o. omega arith) (rw z q)
 
     pub char_three : (m : ℕ) → w ≡ 3 → m ≡ (byte_at text p - 0xE0) * 0x40 + (byte_at text (p + 1) - 0x80)
         → n ≡ m * 0x40 + (byte_at text (p + 2) - 0x80) → record { code = n; width = w } ≡ char_at text p
-    unfolding code_point if◌then◌else◌
+    unfolding code_point when◌then◌else◌
     char_three m z q r = coded (λ o. omega arith) (rw (z, ← q) r)
 
     pub char_four : (l m : ℕ) → 3 < w → l ≡ (byte_at text p - 0xF0) * 0x40 + (byte_at text (p + 1) - 0x80)
         → m ≡ l * 0x40 + (byte_at text (p + 2) - 0x80)
         → n ≡ m * 0x40 + (byte_at text (p + 3) - 0x80) → record { code = n; width = w } ≡ char_at text p
-    unfolding code_point if◌then◌else◌
+    unfolding code_point when◌then◌else◌
     char_four l m h q r t =
         coded (λ z. omega arith)
         (rw (ne_eqb w 1 (λ z. omega arith), ne_eqb w 2 (λ z. omega arith), ne_eqb w 3 (λ z. omega arith), ← q, ← r) t)

@@ -9,7 +9,7 @@ use mathlib.Core.Option.{Option}
 use lib.ListN.{length}
 use lib.Dec.{eqb, leb, ltb}
 use borrow.Author.Tests.{leb-true, eqb-false}
-use Rattle.luck_text.specs.Bytes.{if◌then◌else◌, byte_at}
+use Rattle.luck_text.specs.Bytes.{when◌then◌else◌, byte_at}
 use Rattle.luck_text.proofs.Cases.{by_test, and_left, and_right}
 use Rattle.luck_utf8.specs.Utf8.{Range, Row, rfc3629, in_range, tails_of, follow, width_by, sequence, char_at}
 
@@ -28,8 +28,8 @@ all_high =
     (tt, (omega arith, (omega arith, (omega arith, (omega arith, (omega arith, (omega arith, (omega arith, (omega arith, tt)))))))))
 
 module _ (text : List ℕ) (p : ℕ) (low : byte_at text (p + 1) < 0x80) where
-  at_most_one : (tails : List Range) → High tails → (if follow text (p + 1) tails then suc (length tails) else 0) ≤ 1
-  unfolding follow if◌then◌else◌
+  at_most_one : (tails : List Range) → High tails → (when follow text (p + 1) tails then suc (length tails) else 0) ≤ 1
+  unfolding follow when◌then◌else◌
   at_most_one [] h = omega arith
   at_most_one (r ∷ ranges) h =
       by_test (λ (w : ℕ). w ≤ 1) (follow text (p + 1) (r ∷ ranges)) _ _
@@ -55,5 +55,5 @@ module _ (text : List ℕ) (p : ℕ) (low : byte_at text (p + 1) < 0x80) where
   one_wide = go (eqb (sequence text p) 0) refl
     where
       go : (b : Bool) → eqb (sequence text p) 0 ≡ b → (char_at text p).width ≡ 1
-      go true e = rw e (unfold if◌then◌else◌ in refl)
-      go false e = rw e (unfold if◌then◌else◌ in (let n = eqb-false (sequence text p) 0 e in omega (arith, narrow)))
+      go true e = rw e (unfold when◌then◌else◌ in refl)
+      go false e = rw e (unfold when◌then◌else◌ in (let n = eqb-false (sequence text p) 0 e in omega (arith, narrow)))

@@ -3,7 +3,7 @@
 -- Assumes nothing.
 use Rattle.std.specs.Prelude.{ℕ, zero, suc, ◌+◌, ◌*◌, ◌-◌, ◌/◌, ◌%◌, Bool, true, ◌&&◌, ◌||◌, List, [], ◌∷◌, length, eqb, leb, ltb}
 use Rattle.std.proofs.Math.Option.{Option, none, some}
-use Rattle.luck_text.specs.Bytes.{if◌then◌else◌, byte_at, between}
+use Rattle.luck_text.specs.Bytes.{when◌then◌else◌, byte_at, between}
 use Rattle.luck_text.specs.Walk.{Turn, stop, goes, walk_from}
 use Rattle.luck_utf8.specs.declared.utf8.Char.{Char}
 use Rattle.luck_utf8.specs.declared.utf8.Utf8.{Utf8}
@@ -45,7 +45,7 @@ in_range r b = between r.low r.high b
 -- the ranges that follow a first byte: those of its row
 unfoldable pub tails_of : List Row → ℕ → Option (List Range)
 tails_of [] b = none
-tails_of (r ∷ rows) b = let more = tails_of rows b in if in_range r.lead b then some r.tails else more
+tails_of (r ∷ rows) b = let more = tails_of rows b in when in_range r.lead b then some r.tails else more
 
 -- the bytes from place p on are there, one in each range
 unfoldable pub follow : List ℕ → ℕ → List Range → Bool
@@ -54,15 +54,15 @@ follow text p (r ∷ ranges) = ltb p (length text) && in_range r (byte_at text p
 
 unfoldable pub width_by : List ℕ → ℕ → Option (List Range) → ℕ
 width_by text p none = 0
-width_by text p (some tails) = if follow text (p + 1) tails then suc (length tails) else 0
+width_by text p (some tails) = when follow text (p + 1) tails then suc (length tails) else 0
 
 -- how many bytes the well-formed sequence at place p has; 0 where it is ill-formed or the text ends there
 unfoldable pub sequence : List ℕ → ℕ → ℕ
-sequence text p = if ltb p (length text) then width_by text p (tails_of rfc3629 (byte_at text p)) else 0
+sequence text p = when ltb p (length text) then width_by text p (tails_of rfc3629 (byte_at text p)) else 0
 
 -- the place of the first ill-formed sequence, none where the whole text is well-formed
 unfoldable pub sequence_at : List ℕ → ℕ → Unit {0} → Turn (Unit {0}) (Option ℕ)
-sequence_at text p u = if eqb (sequence text p) 0 then stop (some p) else goes (sequence text p) tt
+sequence_at text p u = when eqb (sequence text p) 0 then stop (some p) else goes (sequence text p) tt
 
 unfoldable pub none_ill_formed : ℕ → Unit {0} → Option ℕ
 none_ill_formed p u = none
@@ -81,9 +81,9 @@ code_point text p width =
     let b1 = byte_at text (p + 1) - 0x80 in
     let b2 = byte_at text (p + 2) - 0x80 in
     let b3 = byte_at text (p + 3) - 0x80 in
-    if eqb width 1 then b0
-    else if eqb width 2 then (b0 - 0xC0) * 0x40 + b1
-    else if eqb width 3 then ((b0 - 0xE0) * 0x40 + b1) * 0x40 + b2
+    when eqb width 1 then b0
+    else when eqb width 2 then (b0 - 0xC0) * 0x40 + b1
+    else when eqb width 3 then ((b0 - 0xE0) * 0x40 + b1) * 0x40 + b2
     else (((b0 - 0xF0) * 0x40 + b1) * 0x40 + b2) * 0x40 + b3
 
 -- the character at a place; at the end, inside a character and at an ill-formed sequence U+FFFD of width 1, as in luck
@@ -91,7 +91,7 @@ code_point text p width =
 unfoldable pub char_at : List ℕ → ℕ → Char
 char_at text p =
     let width = sequence text p in
-    if eqb width 0 then record { code = 0xFFFD; width = 1 } else record { code = code_point text p width; width = width }
+    when eqb width 0 then record { code = 0xFFFD; width = 1 } else record { code = code_point text p width; width = width }
 
 -- a code point that has a character: no surrogate, and at most 10FFFF
 unfoldable pub is_char : ℕ → Bool
@@ -130,7 +130,7 @@ unfoldable pub bytes_by : List Form → ℕ → List ℕ
 bytes_by [] c = []
 bytes_by (r ∷ rows) c =
     let more = bytes_by rows c in
-    if leb c r.last then six_bits r.mark r.following c [] else more
+    when leb c r.last then six_bits r.mark r.following c [] else more
 
 -- the bytes of a code point of at most 7FFFFFFF; a larger number has none
 unfoldable pub utf8_bytes : ℕ → List ℕ

@@ -4,7 +4,7 @@ ghost use Rattle.std.proofs.Math.Option.{some};
 ghost use Rattle.luck_text.specs.Bytes.{byte_at};
 ghost use Rattle.luck_text.specs.Walk.{walk_from};
 ghost use Rattle.luck_utf8.specs.Utf8.{◌to◌, tail, rfc3629, tails_of, sequence_at, none_ill_formed, ill_formed, place_of, char_at};
-ghost use Rattle.luck_utf8.specs.Utf8.{sequence as sequenceOf};
+ghost use Rattle.luck_utf8.specs.Utf8.{sequence as sequence_of};
 
 use luck_text::scan;
 
@@ -77,7 +77,7 @@ fn second_of_four(lead: u8) -> Second
 // The sequence at `at`, whose first byte is 80 to DF. All its bytes are read before any is judged: the tests then become one branch.
 fn two(text: &[u8], at: usize) -> usize
     requires { (at < length text.now) × (0x80 ≤ byte_at text.now at) × (byte_at text.now at < 0xE0) }
-    ensures { result ≡ sequenceOf text.now at }
+    ensures { result ≡ sequence_of text.now at }
 {
     if text.len() - at < 2 {
         return 0;
@@ -96,7 +96,7 @@ fn two(text: &[u8], at: usize) -> usize
 // The sequence at `at`, whose first byte is E0 to EF.
 fn three(text: &[u8], at: usize) -> usize
     requires { (at < length text.now) × (0xE0 ≤ byte_at text.now at) × (byte_at text.now at < 0xF0) }
-    ensures { result ≡ sequenceOf text.now at }
+    ensures { result ≡ sequence_of text.now at }
 {
     let range = second_of_three(text[at]);
     if text.len() - at < 3 {
@@ -116,7 +116,7 @@ fn three(text: &[u8], at: usize) -> usize
 // The sequence at `at`, whose first byte is F0 to F4.
 fn four(text: &[u8], at: usize) -> usize
     requires { (at < length text.now) × (0xF0 ≤ byte_at text.now at) × (byte_at text.now at < 0xF5) }
-    ensures { result ≡ sequenceOf text.now at }
+    ensures { result ≡ sequence_of text.now at }
 {
     let range = second_of_four(text[at]);
     if text.len() - at < 4 {
@@ -139,7 +139,7 @@ fn four(text: &[u8], at: usize) -> usize
 
 // How many bytes the well-formed sequence at `at` has; 0 where it is ill-formed or the text ends there.
 pub fn sequence(text: &[u8], at: usize) -> usize
-    ensures { result ≡ sequenceOf text.now at }
+    ensures { result ≡ sequence_of text.now at }
 {
     if text.len() <= at {
         return 0;
@@ -197,7 +197,7 @@ fn sequences(text: &[u8], from: usize, stop: usize) -> usize
     ensures { (result ≤ length text.now)
         × (walk_from (sequence_at text.now) none_ill_formed (length text.now) result tt
         ≡ walk_from (sequence_at text.now) none_ill_formed (length text.now) from tt)
-        × (result < stop → sequenceOf text.now result ≡ 0) }
+        × (result < stop → sequence_of text.now result ≡ 0) }
 {
     let mut at = from;
     while at < stop {

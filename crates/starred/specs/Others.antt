@@ -7,8 +7,8 @@ use Rattle.std.specs.Prelude.{ℕ, zero, suc, ◌≡◌, refl, true, false, List
 use Prim.Native.Char.{code}
 use Rattle.std.proofs.Math.Option.{none, some}
 use Rattle.luck_text.specs.Bytes.{ascii}
-use Rattle.luck_linter.specs.Computed.{computed as checksComputed}
-use Rattle.lstr_gsub.specs.Computed.{computed as trialComputed}
+use Rattle.luck_linter.specs.Computed.{computed as checks_computed}
+use Rattle.lstr_gsub.specs.Computed.{computed as trial_computed}
 use Rattle.starred.specs.Cases.{format, pattern, pack, packsize, date, replacement, literal, decode, trial}
 use Rattle.starred.specs.Cases.{checked, spanned, unspanned, skipped, decoded_value, not_decoded, tried}
 use Rattle.starred.specs.Cases.{Case, case, only, after51, every, told, wanted}
@@ -64,7 +64,7 @@ checks =
     ∷ []
 
 pub checks_hold : told checks ≡ wanted checks
-unfolding checksComputed
+unfolding checks_computed
 checks_hold = refl
 
 -- ---- Literals: spans, of a character of two bytes and at the end too; skipped ones; 23 and what comes before it
@@ -95,7 +95,7 @@ literals =
     ∷ []
 
 pub literals_hold : told literals ≡ wanted literals
-unfolding checksComputed
+unfolding checks_computed
 literals_hold = refl
 
 -- ---- Decoding
@@ -118,7 +118,7 @@ decodings =
     ∷ []
 
 pub decodings_hold : told decodings ≡ wanted decodings
-unfolding checksComputed
+unfolding checks_computed
 decodings_hold = refl
 
 abbrev lua : List ℕ
@@ -158,7 +158,7 @@ escapes =
     ∷ []
 
 pub escapes_hold : told escapes ≡ wanted escapes
-unfolding checksComputed
+unfolding checks_computed
 escapes_hold = refl
 
 -- ---- The trial
@@ -266,5 +266,5 @@ trials =
     ∷ []
 
 pub trials_hold : told trials ≡ wanted trials
-unfolding trialComputed
+unfolding trial_computed
 trials_hold = refl

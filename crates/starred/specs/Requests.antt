@@ -5,7 +5,7 @@ use Prim.Native.Char.{code}
 use Rattle.std.proofs.Math.Option.{none, some}
 use Rattle.luck_text.specs.Bytes.{ascii}
 use Rattle.luck_linter.specs.Computed.{computed}
-use Rattle.lstr_gsub.specs.Computed.{computed as trialComputed}
+use Rattle.lstr_gsub.specs.Computed.{computed as trial_computed}
 use Rattle.starred.specs.Cases.{format, pattern, pack, packsize, date, replacement, literal, decode, trial}
 use Rattle.starred.specs.Cases.{Told, checked, spanned, unspanned, skipped, decoded_value, not_decoded, tried}
 use Rattle.starred.specs.Cases.{Asked, Case, case, only, after51, every, each, told, wanted}
@@ -216,5 +216,5 @@ ranges_elsewhere =
     ∷ []
 
 pub ranges_elsewhere_hold : told ranges_elsewhere ≡ wanted ranges_elsewhere
-unfolding computed trialComputed
+unfolding computed trial_computed
 ranges_elsewhere_hold = refl

@@ -5,8 +5,8 @@ use Rattle.std.specs.Prelude.{ℕ, ◌≡◌, refl, List, [], ◌∷◌}
 use Prim.Native.Char.{code}
 use Rattle.std.proofs.Math.Option.{some}
 use Rattle.luck_text.specs.Bytes.{ascii}
-use Rattle.luck_linter.specs.Computed.{computed as checksComputed}
-use Rattle.lstr_gsub.specs.Computed.{computed as trialComputed}
+use Rattle.luck_linter.specs.Computed.{computed as checks_computed}
+use Rattle.lstr_gsub.specs.Computed.{computed as trial_computed}
 use Rattle.starred.specs.Cases.{format, pattern, pack, replacement, trial}
 use Rattle.starred.specs.Cases.{Case, case, checked, tried, told, wanted}
 
@@ -42,5 +42,5 @@ starred =
     ∷ []
 
 pub starred_hold : told starred ≡ wanted starred
-unfolding checksComputed trialComputed
+unfolding checks_computed trial_computed
 starred_hold = refl

@@ -11,7 +11,7 @@ pub finish-requires : goal.finish-requires
 finish-requires c = let a = c.args in
     let kept = c.keep-kept in
     let read = c.read in
-    record { last_line = subst (λ x. line_length x ≡ length x) (sym (kept_in_front a.input.now kept.new.0 read.new.1.0 (part a.input.now a.at a.end) kept.result kept.ensures.0 kept.ensures.1.0 kept.ensures.1.1)) c.requires.unended.0; room = search rules }
+    record { last_line = subst (λ x. line_length x ≡ length x) (sym (kept_in_front a.input.now kept.new.buffer read.new.buf (part a.input.now a.at a.end) kept.result kept.ensures.count kept.ensures.buffer kept.ensures.within)) c.requires.unended.0; room = search rules }
 
 pub returns-in-Err : goal.returns-in-Err
 returns-in-Err c = let a = c.args in record { within = search rules; goes_on = stopped (part a.input.now a.at a.end) _ a.state c.stop.result c.stop.ensures.more }
@@ -23,4 +23,4 @@ pub returns-in-Ok : goal.returns-in-Ok
 returns-in-Ok c = let a = c.args in
     let kept = c.keep-kept in
     let read = c.read in
-    record { within = search rules; goes_on = λ m. (refl, read_on a.input.now kept.new.0 read.new.1.0 (part a.input.now a.at a.end) kept.result c.count.result kept.ensures.0 kept.ensures.1.0 kept.ensures.1.1) }
+    record { within = search rules; goes_on = λ m. (refl, read_on a.input.now kept.new.buffer read.new.buf (part a.input.now a.at a.end) kept.result c.in-Ok.more kept.ensures.count kept.ensures.buffer kept.ensures.within) }

@@ -1,16 +1,6 @@
 -- `lstr_attempt::attempt::attempt` meets its contract.
-use Prim.Native.Nat.{◌+◌, ◌-◌, ◌≤◌, ◌<◌}
 use native.Mathlib.Omega.{arith}
-use mathlib.Core.Path.{◌≡◌, refl, sym, subst, ◌∙◌}
-use mathlib.Core.List.{[]}
-use mathlib.Core.Bool.{false}
-use borrow.Author.Tests.{not-true, not-false}
-use lib.ListN.{length}
-use Rattle.luck_pattern.specs.Items.{Repeat, items}
-use Rattle.lstr_class.specs.Inner.{class_in}
-use Rattle.lstr_item.specs.Match.{match}
-use Rattle.lstr_item.specs.Inner.{repeat_as, is_once, ItemAt, Single-then}
-use Rattle.lstr_item.specs.declared.item.Item.{Item}
+use mathlib.Core.Path.{refl, sym, ◌∙◌}
 use Rattle.lstr_item.proofs.Captures.{is_open, is_position}
 use Rattle.lstr_attempt.proofs.Leads as leads
 use Rattle.lstr_item.proofs.Singles.{fits_inside}

@@ -1,6 +1,6 @@
 -- `lstr_attempt::attempt::attempt_at` meets its contract.
 use native.Mathlib.Omega.{arith}
-use mathlib.Core.Path.{refl, sym, ◌∙◌}
+use mathlib.Core.Path.{sym}
 use Rattle.lstr_class.specs.Inner.{class_in}
 use Rattle.lstr_match.proofs.Repeats as repeats
 use Rattle.lstr_attempt.proofs.Leads as leads

@@ -1,9 +1,7 @@
 -- `lstr_attempt::attempt::attempt_from` meets its contract.
-use mathlib.Core.Path.{refl}
 use Rattle.lstr_class.specs.Inner.{class_in}
 use Rattle.lstr_item.proofs.Items.{items_end}
 use Rattle.lstr_item.proofs.Turns as turns
-use Rattle.lstr_match.proofs.Repeats as repeats
 use Rattle.lstr_attempt.proofs.Leads as leads
 use Rattle.lstr_attempt.proofs.attempt.attempt_from.Goals as goal
 

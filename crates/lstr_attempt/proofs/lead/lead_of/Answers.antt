@@ -1,8 +1,6 @@
 -- `lstr_attempt::lead::lead_of` meets its contract.
-use native.Mathlib.Omega.{arith}
-use mathlib.Core.Path.{sym, subst, ◌∙◌}
+use mathlib.Core.Path.{sym, ◌∙◌}
 use borrow.Author.Tests.{leb-true, not-true, not-false}
-use Rattle.lstr_item.specs.Inner.{repeat_as, ItemAt}
 use Rattle.lstr_item.proofs.FirstTests.{sure_first}
 use Rattle.lstr_item.proofs.Turns as turns
 use Rattle.lstr_attempt.proofs.Leads as leads
@@ -20,7 +18,7 @@ returns-after-is_greedy c =
       goes = λ o. leads.first_passed pat _ _ _ it.on (sym c.is_once.ensures ∙ o);
       last = λ e.
           elim c.if-is_greedy.branch [
-            then-is_greedy w ↦ leads.only_greedy pat _ _ _ it.on (sym w.if-is_greedy.ensures) (leb-true _ _ (sym w.is_last-is ∙ e))
+            | then-is_greedy w ↦ leads.only_greedy pat _ _ _ it.on (sym w.if-is_greedy.ensures) (leb-true _ _ (sym w.is_last-is ∙ e))
             | else-is_greedy w ↦ absurd (turns.false_true (sym w.is_last-is ∙ e))
           ];
       captured = λ h e. absurd (turns.false_true e);

@@ -1,20 +1,16 @@
 -- The functions that call each other, `do_match`, `start_capture`, `end_capture`, `max_expand` and `min_expand`, meet their contracts: the laws of
 -- lstr_item and of this crate, at what each place of the code knows.
-use Prim.Native.Nat.{ℕ, ◌+◌, ◌-◌, ◌≤◌, ◌<◌}
+use Prim.Native.Nat.{ℕ, ◌+◌}
 use native.Mathlib.Omega.{arith}
-use mathlib.Core.Path.{◌≡◌, refl, sym, subst, ◌∙◌}
+use mathlib.Core.Path.{◌≡◌, refl, sym, ◌∙◌}
 use mathlib.Core.Bool.{true}
 use mathlib.Core.Option.{none}
-use lib.ListN.{length}
 use Rattle.luck_pattern.specs.Items.{once, optional, star, plus, minus, items}
-use Rattle.lstr_class.specs.Inner.{class_in, FoundIn}
-use Rattle.lstr_class.specs.declared.subject.Found.TheVariants as found
+use Rattle.lstr_class.specs.Inner.{class_in}
 use Rattle.lstr_item.specs.Match.{capture_to_close, new_level, failed, match}
-use Rattle.lstr_item.specs.Inner.{captures_of, repeat_as, single_of, Single-then, HeldIn}
-use Rattle.lstr_item.specs.declared.capture.Held.TheVariants as held
-use Rattle.lstr_item.specs.declared.capture.Close.TheVariants as close
+use Rattle.lstr_item.specs.Inner.{captures_of}
 use Rattle.lstr_item.proofs.Turns as turns
-use Rattle.lstr_item.proofs.Captures.{all_pairs, sound_later, sound_started, sound_finished, kept_later, is_open, is_position, starts_capture, all_taken, ends_capture, none_to_close}
+use Rattle.lstr_item.proofs.Captures.{sound_later, kept_later, is_open, is_position, starts_capture, all_taken, ends_capture, none_to_close}
 use Rattle.lstr_item.proofs.Singles.{fits_inside}
 use Rattle.lstr_match.proofs.Repeats as repeats
 use Rattle.lstr_match.proofs.Passed as tests
@@ -151,7 +147,7 @@ pub do_match-do_match-r-requires : goal.do_match-do_match-r-requires
 do_match-do_match-r-requires t c =
     let i = rw c.in-Optional.is at c.in-Single.ensures in
     let b = turns.behind_repeat _ _ _ _ optional i.on refl in
-    let g : c.items.place < length c.args.subject.now = fits_inside _ _ _ _ (sym c.if-not-fits.ensures) in
+    let g = fits_inside _ _ _ _ (sym c.if-not-fits.ensures) in
     (omega arith, (b.1, omega arith, sound_later _ _ _ (omega arith) c.requires.2))
 
 pub do_match-returns-then-r-ne-FAILED : goal.do_match-returns-then-r-ne-FAILED
@@ -231,9 +227,9 @@ end_capture-returns-in-Nothing t c =
 -- ---- max_expand
 
 -- the place is passed, by the single ahead or by a call
-max_expand-passed : (t : ℕ) (c : max_expand-Joined-fails_at t)
+max_expand_passed : (t : ℕ) (c : max_expand-Joined-fails_at t)
     → failed c.if-fails_at.steps ≡ new_level c.args.level c.loop-steps.steps (λ m. match (class_in c.args.classes.now) c.args.subject.now c.args.budget (items c.args.pattern.now (c.args.suffix + 1)) c.loop-steps.tried m (captures_of c.args.captures) c.loop-steps.steps)
-max_expand-passed t c =
+max_expand_passed t c =
     let seen : c.if-count-gt0.is_open ≡ true → capture_to_close (captures_of c.args.captures) ≡ none → ⊥ =
     λ o n. elim c.if-count-gt0.branch [
       | max_expand-then-count-gt0 w ↦ tests.latest_open _ _ w.if-count-gt0.true (sym w.is_open-is ∙ o) n
@@ -262,21 +258,21 @@ max_expand-returns-then-r-ne-FAILED t c =
 pub max_expand-returns-then-tried-shortest : goal.max_expand-returns-then-tried-shortest
 max_expand-returns-then-tried-shortest t c =
     let inv = c.loop-steps.invariant in
-    let p = max_expand-passed t (goal.at.max_expand-returns-then-tried-shortest t c).Joined-fails_at in
+    let p = max_expand_passed t (goal.at.max_expand-returns-then-tried-shortest t c).Joined-fails_at in
     repeats.ended _ _ _ _ _ c.failed.ensures (tests.passed_last _ _ _ _ _ _ _ p inv.1.0 c.if-tried-shortest.true ∙ inv.0)
 
 pub max_expand-loop-steps-preserved : goal.max_expand-loop-steps-preserved
 max_expand-loop-steps-preserved t c =
     let inv = c.loop-steps.invariant in
-    let p = max_expand-passed t (goal.at.max_expand-loop-steps-preserved t c).Joined-fails_at in
+    let p = max_expand_passed t (goal.at.max_expand-loop-steps-preserved t c).Joined-fails_at in
     (tests.passed_longest _ _ _ _ _ _ _ p c.if-tried-shortest.false ∙ inv.0, omega arith)
 
 -- ---- min_expand
 
 -- the place is passed, by the single ahead or by a call
-min_expand-passed : (t : ℕ) (c : min_expand-Joined-fails_at t)
+min_expand_passed : (t : ℕ) (c : min_expand-Joined-fails_at t)
     → failed c.if-fails_at.steps ≡ new_level c.args.level c.loop-steps.steps (λ m. match (class_in c.args.classes.now) c.args.subject.now c.args.budget (items c.args.pattern.now (c.args.suffix + 1)) c.loop-steps.tried m (captures_of c.args.captures) c.loop-steps.steps)
-min_expand-passed t c =
+min_expand_passed t c =
     let seen : c.if-count-gt0.is_open ≡ true → capture_to_close (captures_of c.args.captures) ≡ none → ⊥ =
     λ o n. elim c.if-count-gt0.branch [
       | min_expand-then-count-gt0 w ↦ tests.latest_open _ _ w.if-count-gt0.true (sym w.is_open-is ∙ o) n
@@ -297,17 +293,17 @@ min_expand-returns-then-r-ne-FAILED t c =
 
 pub min_expand-returns-then-budget-steps : goal.min_expand-returns-then-budget-steps
 min_expand-returns-then-budget-steps t c =
-    let p = min_expand-passed t (goal.at.min_expand-returns-then-budget-steps t c).Joined-fails_at in
+    let p = min_expand_passed t (goal.at.min_expand-returns-then-budget-steps t c).Joined-fails_at in
     repeats.ended _ _ _ _ _ c.spent.ensures (tests.trying_spent _ _ _ _ _ _ _ _ _ _ _ _ c.loop-steps.invariant.0 _ p c.if-tested-tried.true c.if-budget-steps.true)
 
 pub min_expand-returns-then-not-fits : goal.min_expand-returns-then-not-fits
 min_expand-returns-then-not-fits t c =
-    let p = min_expand-passed t (goal.at.min_expand-returns-then-not-fits t c).Joined-fails_at in
+    let p = min_expand_passed t (goal.at.min_expand-returns-then-not-fits t c).Joined-fails_at in
     repeats.ended _ _ _ _ _ c.failed.ensures (tests.trying_fails _ _ _ _ _ _ _ _ _ _ _ _ c.loop-steps.invariant.0 _ p c.if-tested-tried.true c.if-budget-steps.false (sym c.if-not-fits.ensures))
 
 pub min_expand-loop-steps-preserved : goal.min_expand-loop-steps-preserved
 min_expand-loop-steps-preserved t c =
-    let p = min_expand-passed t (goal.at.min_expand-loop-steps-preserved t c).Joined-fails_at in
+    let p = min_expand_passed t (goal.at.min_expand-loop-steps-preserved t c).Joined-fails_at in
     elim c.if-tested-tried.branch [
       | min_expand-then-tested-tried+else-budget-steps+else-not-fits w ↦
           let f = sym w.if-not-fits.ensures in

@@ -4,7 +4,7 @@ use mathlib.Core.Path.{refl, sym, ap, subst, ◌∙◌}
 use Prim.Native.Nat.{◌+◌}
 use native.Mathlib.Omega.{arith}
 use lib.ListN.{length}
-use Rattle.luck_text.specs.Bytes.{if◌then◌else◌}
+use Rattle.luck_text.specs.Bytes.{when◌then◌else◌}
 use Rattle.luck_pattern.specs.Pattern.{pattern_walk}
 use Rattle.luck_pattern.specs.Inner.{flags_of_word, ScanWithin, closed_of, Below}
 use Rattle.luck_pattern.specs.declared.pattern.Scan.{Scan}
@@ -152,14 +152,14 @@ loop-at-preserved c =
     )
 
 pub returns-then-none_open : goal.returns-then-none_open
-unfolding if◌then◌else◌
+unfolding when◌then◌else◌
 returns-then-none_open c =
     let a = c.args in
     let l = c.loop-at in
     turn_end a.ranges a.text.now l.at (flags_of_word l.count l.word) _ l.count (sym c.if-none_open.true ∙ c.none_open.ensures) (flags_length l.count l.word) c.loop-at-test.false l.invariant.3
 
 pub returns : goal.returns
-unfolding if◌then◌else◌
+unfolding when◌then◌else◌
 returns c =
     let a = c.args in
     let l = c.loop-at in

@@ -10,7 +10,7 @@ pub returns-then-digits-gt255 : goal.returns-then-digits-gt255
 returns-then-digits-gt255 c =
     let a = c.args in
     let d = c.digits-digits in
-    record { is = decimal_large a.body.now a.at d.result.count d.result.value d.ensures.count d.ensures.value c.if-digits-gt255.true; inside = tt }
+    record { is = decimal_large a.body.now a.at d.result.count d.result.value d.ensures.count d.ensures.value (omega arith); inside = tt }
 
 pub overflow_add-result : goal.overflow_add-result
 overflow_add-result c = omega (arith, c.digits-digits.ensures.count)
@@ -20,6 +20,6 @@ returns c =
     let a = c.args in
     let d = c.digits-digits in
     record {
-      is = decimal_byte a.body.now a.at d.result.count d.result.value d.ensures.count d.ensures.value c.if-digits-gt255.false;
+      is = decimal_byte a.body.now a.at d.result.count d.result.value d.ensures.count d.ensures.value (omega arith);
       inside = (omega arith, omega (arith, d.ensures.count, run_inside is_digit a.body.now (a.at + 1) (omega arith)));
     }

@@ -1,5 +1,7 @@
 -- `luck_token::string::decode_pieces` meets its contract.
 use mathlib.Core.Path.{sym, ◌∙◌}
+use Prim.Native.Nat.{◌≤◌}
+use lib.ListN.{length}
 use native.Mathlib.Omega.{arith}
 use Rattle.luck_token.specs.Literal.{value_of}
 use Rattle.luck_token.proofs.Values as values
@@ -10,7 +12,7 @@ returns-then-output-n c =
     let a = c.args in
     let o = value_of a.long a.rules a.body.now in
     let g = c.in-Length in
-    let t = values.too_short o a.output.now g.n (values.has_size o g.n (sym g.is ∙ c.write-size.ensures.size)) c.if-output-n.true in
+    let t = values.too_short o a.output.now g.n (values.has_size o g.n (sym g.is ∙ c.write-size.ensures.size)) (omega arith) in
     record { answer = t.0; output = t.1 }
 
 pub copy-requires : goal.copy-requires
@@ -23,7 +25,7 @@ returns-then-n-le64 c =
     let g = c.in-Length in
     let o = value_of a.long a.rules a.body.now in
     let size = values.has_size o g.n (sym g.is ∙ w.ensures.size) in
-    let room = c.if-output-n.false in record { answer = values.fits o a.output.now g.n size room; output = c.copy.ensures ∙ values.copied_value o a.output.now g.n size _ _ w.ensures.output (omega (arith, c.if-n-le64.true)) room }
+    let room : g.n ≤ length a.output.now = omega arith in record { answer = values.fits o a.output.now g.n size room; output = c.copy.ensures ∙ values.copied_value o a.output.now g.n size _ _ w.ensures.output (omega arith) room }
 
 pub returns-in-Malformed : goal.returns-in-Malformed
 returns-in-Malformed c =
@@ -38,5 +40,5 @@ returns-else-n-le64 c =
     let g = c.in-Length in
     let o = value_of a.long a.rules a.body.now in
     let size = values.has_size o g.n (sym g.is ∙ c.write-size.ensures.size) in
-    let room = c.if-output-n.false in
+    let room : g.n ≤ length a.output.now = omega arith in
     record { answer = values.fits o a.output.now g.n size room; output = values.written_value o a.output.now g.n size _ c.write.ensures.output room }

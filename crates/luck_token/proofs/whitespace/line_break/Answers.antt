@@ -1,7 +1,5 @@
 -- `luck_token::whitespace::line_break` meets its contract.
 use native.Mathlib.Omega.{arith}
-use lib.Dec.{eqb}
-use Rattle.luck_text.specs.Bytes.{byte_at}
 use Rattle.luck_text.proofs.Cases.{bit}
 use Rattle.luck_token.proofs.Breaks as breaks
 use Rattle.luck_token.proofs.whitespace.line_break.Goals as goal
@@ -10,26 +8,19 @@ pub returns-then-text-at : goal.returns-then-text-at
 returns-then-text-at c = let a = c.args in breaks.past_end a.lfcr a.text.now a.at c.if-text-at.true
 
 pub overflow_mul-cr_lf : goal.overflow_mul-cr_lf
-overflow_mul-cr_lf c = omega (arith, breaks.bit_of_both (eqb (byte_at c.args.text.now c.args.at) 13) (eqb c.byte_at-next.result 10))
+overflow_mul-cr_lf c = omega (arith, bit, breaks.bit_of_both)
 
 pub overflow_add-result : goal.overflow_add-result
-overflow_add-result c = omega (arith, bit (eqb (byte_at c.args.text.now c.args.at) 13), bit (eqb (byte_at c.args.text.now c.args.at) 10))
+overflow_add-result c = omega (arith, bit, breaks.bit_of_both)
 
 pub overflow_add-result-then-lfcr : goal.overflow_add-result-then-lfcr
-overflow_add-result-then-lfcr c = omega (arith, bit (eqb (byte_at c.args.text.now c.args.at) 13), bit (eqb (byte_at c.args.text.now c.args.at) 10), breaks.bit_of_both (eqb (byte_at c.args.text.now c.args.at) 13) (eqb c.byte_at-next.result 10))
+overflow_add-result-then-lfcr c = omega (arith, bit, breaks.bit_of_both)
 
 pub overflow_mul-result : goal.overflow_mul-result
-overflow_mul-result c = omega (arith, breaks.bit_of_both (eqb (byte_at c.args.text.now c.args.at) 10) (eqb c.byte_at-next.result 13))
+overflow_mul-result c = omega (arith, bit, breaks.bit_of_both)
 
 pub overflow_add-result-then-lfcr-2 : goal.overflow_add-result-then-lfcr-2
-overflow_add-result-then-lfcr-2 c =
-    omega (
-      arith,
-      bit (eqb (byte_at c.args.text.now c.args.at) 13),
-      bit (eqb (byte_at c.args.text.now c.args.at) 10),
-      breaks.bit_of_both (eqb (byte_at c.args.text.now c.args.at) 13) (eqb c.byte_at-next.result 10),
-      breaks.bit_of_both (eqb (byte_at c.args.text.now c.args.at) 10) (eqb c.byte_at-next.result 13),
-    )
+overflow_add-result-then-lfcr-2 c = omega (arith, bit, breaks.bit_of_both)
 
 pub returns-then-lfcr : goal.returns-then-lfcr
 returns-then-lfcr c =
@@ -37,10 +28,10 @@ returns-then-lfcr c =
     rw c.byte_at-next.ensures (breaks.sum_with a.lfcr a.text.now a.at c.if-lfcr.true)
 
 pub overflow_add-result-2 : goal.overflow_add-result-2
-overflow_add-result-2 c = omega (arith, bit (eqb (byte_at c.args.text.now c.args.at) 10), breaks.bit_of_both (eqb (byte_at c.args.text.now c.args.at) 13) (eqb c.byte_at-next.result 10))
+overflow_add-result-2 c = omega (arith, bit, breaks.bit_of_both)
 
 pub overflow_add-result-3 : goal.overflow_add-result-3
-overflow_add-result-3 c = omega (arith, bit (eqb (byte_at c.args.text.now c.args.at) 10), breaks.bit_of_both (eqb (byte_at c.args.text.now c.args.at) 13) (eqb c.byte_at-next.result 10))
+overflow_add-result-3 c = omega (arith, bit, breaks.bit_of_both)
 
 pub returns : goal.returns
 returns c =

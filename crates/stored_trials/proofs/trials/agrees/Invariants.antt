@@ -1,11 +1,11 @@
--- `stored_trials::trials::agrees` is safe and ends. The loop keeps the output's length. Assumes nothing.
+-- `stored_trials::trials::agrees` is safe and ends. The loop keeps the output's length.
 use Prim.Native.Nat.{◌-◌, ◌<◌, ◌≤◌}
 use mathlib.Core.Path.{◌≡◌}
 use lib.ListN.{length}
 use Rattle.stored_trials.proofs.trials.agrees.Given as goal
 
-abbrev invariant-versions : tie.invariant-versions
-invariant-versions file «record» output₀ version₀ output version = (0 < version) × (version ≤ 9) × (length output ≡ length output₀)
+abbrev pub invariant-versions : goal.invariant-versions
+invariant-versions l = (0 < l.version) × (l.version ≤ 9) × (length l.output ≡ length l.initial.output)
 
-abbrev decreases-versions : tie.decreases-versions
-decreases-versions file «record» output₀ version₀ output version = 9 - version
+abbrev pub decreases-versions : goal.decreases-versions
+decreases-versions l = 9 - l.version
