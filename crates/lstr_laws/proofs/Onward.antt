@@ -1,5 +1,5 @@
 -- What `Forward` says of an outcome: a match ends at b or behind it, and a match or a failure has taken at least w steps, within the budget.
-use Prim.Native.Nat.{ℕ, suc, ◌≤◌}
+use Prim.Native.Nat.{ℕ, ◌≤◌}
 use mathlib.Core.Bool.{Bool}
 use mathlib.Core.List.{List}
 use Rattle.lstr_item.specs.Match.{Outcome, matched, failed, stopped}
