@@ -3,7 +3,7 @@
 -- the level before the step, kinds 5 and 8 before 28, the attempt after the last match), each item, each kind of single
 -- and of 29, and each way of writing once.
 -- Assumes nothing.
-use Rattle.std.specs.Prelude.{ℕ, zero, suc, ◌≡◌, refl, true, false, List, [], ◌∷◌, ◌++◌}
+use Rattle.std.specs.Prelude.{ℕ, zero, suc, ◌≡◌, refl, List, [], ◌∷◌, ◌++◌}
 use Prim.Native.Char.{code}
 use Rattle.std.proofs.Math.Option.{none, some}
 use Rattle.luck_text.specs.Bytes.{ascii}
