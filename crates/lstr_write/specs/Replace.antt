@@ -1,7 +1,8 @@
 -- What is written for a match (add_s and get_onecapture of lstrlib.c 5.4, and add_s of 5.1 for version 1; document 01,
 -- "Writing"), byte by byte into an output of a given room.
 -- Assumes nothing.
-use Rattle.std.specs.Prelude.{ℕ, zero, suc, ◌+◌, ◌-◌, ◌/◌, ◌%◌, Bool, List, [], ◌∷◌, ◌++◌, length, get_or, eqb, leb, ltb}
+use Rattle.std.specs.Prelude.{ℕ, zero, suc, ◌+◌, ◌-◌, ◌/◌, ◌%◌, Bool, List}
+use Rattle.std.specs.Prelude.{[], ◌∷◌, ◌++◌, length, get_or, eqb, leb, ltb}
 use Prim.Native.Char.{code}
 use Rattle.luck_text.specs.Bytes.{when◌then◌else◌, part}
 use Rattle.luck_replacement.specs.Replacement.{Piece, literal, digit, percent, other, lone}

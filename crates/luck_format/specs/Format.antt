@@ -1,7 +1,8 @@
 -- How a format of string.format is read (scanformat of 5.1 to 5.3 and Luau, getformat and checkformat of 5.4 and 5.5,
 -- in lstrlib.c), and which are accepted (validate_format of luck): document 01, "Checks that the trial does not need".
 -- Assumes nothing.
-use Rattle.std.specs.Prelude.{ℕ, ◌+◌, ◌-◌, min, Bool, true, false, not, ◌&&◌, ◌||◌, List, length, drop, eqb, leb, ltb}
+use Rattle.std.specs.Prelude.{ℕ, ◌+◌, ◌-◌, min, Bool, true, false, not}
+use Rattle.std.specs.Prelude.{◌&&◌, ◌||◌, List, length, drop, eqb, leb, ltb}
 use Prim.Native.Char.{code}
 use Rattle.luck_text.specs.Bytes.{when◌then◌else◌, byte_at, ascii, among, is_digit, run}
 use Rattle.luck_utf8.specs.Utf8.{char_at}

@@ -1,7 +1,8 @@
 -- What a line of the program `bodies` asks for, and what is answered (document 01): kind, version digit, two columns of
 -- captures, a space, the body.
 -- Assumes nothing.
-use Rattle.std.specs.Prelude.{ℕ, ◌+◌, ◌*◌, ◌-◌, Bool, true, ◌&&◌, List, ◌∷◌, ◌++◌, length, drop, eqb, leb, ltb}
+use Rattle.std.specs.Prelude.{ℕ, ◌+◌, ◌*◌, ◌-◌, Bool, true, ◌&&◌, List}
+use Rattle.std.specs.Prelude.{◌∷◌, ◌++◌, length, drop, eqb, leb, ltb}
 use Prim.Native.Char.{code}
 use Rattle.std.proofs.Math.Option.{Option, none, some}
 use Rattle.luck_text.specs.Bytes.{when◌then◌else◌, byte_at, is_digit}

@@ -1,7 +1,8 @@
 -- The listing of an input: a row for each line (document 01, the program `bodies`), and after the last one the totals
 -- (document 02, F-9).
 -- Assumes nothing.
-use Rattle.std.specs.Prelude.{ℕ, ◌+◌, Bool, true, false, not, ◌&&◌, ◌||◌, List, [], ◌∷◌, ◌++◌, length, eqb}
+use Rattle.std.specs.Prelude.{ℕ, ◌+◌, Bool, true, false, not, ◌&&◌}
+use Rattle.std.specs.Prelude.{◌||◌, List, [], ◌∷◌, ◌++◌, length, eqb}
 use Rattle.luck_text.specs.Bytes.{when◌then◌else◌}
 use Rattle.luck_answer.specs.Answer.{Answer}
 use Rattle.luck_line.specs.Line.{line_answer}

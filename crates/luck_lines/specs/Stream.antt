@@ -2,7 +2,8 @@
 -- bytes that are there, and what it writes. What comes of it all is the listing of the whole input, however it was cut
 -- (proofs/Promises.antt).
 -- Assumes nothing.
-use Rattle.std.specs.Prelude.{ℕ, ◌+◌, ◌-◌, ◌≤◌, min, ◌≡◌, Bool, true, false, not, ◌||◌, List, [], ◌++◌, length, drop, replicate, eqb, ltb}
+use Rattle.std.specs.Prelude.{ℕ, ◌+◌, ◌-◌, ◌≤◌, min, ◌≡◌, Bool, true, false, not}
+use Rattle.std.specs.Prelude.{◌||◌, List, [], ◌++◌, length, drop, replicate, eqb, ltb}
 use Rattle.luck_text.specs.Bytes.{when◌then◌else◌, part, run}
 use Rattle.luck_text.specs.Walk.{Turn, stop, goes, walk_from}
 use Rattle.luck_answer.specs.Answer.{Answer, refused}

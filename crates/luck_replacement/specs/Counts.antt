@@ -1,7 +1,8 @@
 -- Which replacements are accepted where the pattern's count of captures is known within a range (F-7 of document 02):
 -- by the check for each single count in it.
 -- Assumes nothing.
-use Rattle.std.specs.Prelude.{ℕ, zero, suc, ◌+◌, ◌-◌, max, Bool, true, false, not, ◌&&◌, List, [], ◌∷◌, eqb, leb, ltb}
+use Rattle.std.specs.Prelude.{ℕ, zero, suc, ◌+◌, ◌-◌, max, Bool, true}
+use Rattle.std.specs.Prelude.{false, not, ◌&&◌, List, [], ◌∷◌, eqb, leb, ltb}
 use Rattle.std.proofs.Math.Option.{Option, none, some}
 use Rattle.luck_text.specs.Bytes.{when◌then◌else◌}
 use Rattle.luck_token.specs.Version.{is_version}
