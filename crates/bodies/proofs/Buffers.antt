@@ -4,7 +4,7 @@ use mathlib.Core.Path.{◌≡◌, refl, sym, ap, subst, ◌∙◌}
 use Prim.Native.Nat.{ℕ, ◌+◌, ◌-◌, ◌<◌, ◌≤◌}
 use native.Mathlib.Nat.{sub-zero}
 use native.Mathlib.Omega.{arith}
-use mathlib.Core.Bool.{false, true≢false}
+use Rattle.std.specs.Prelude.{Option, Some, None, Result, Ok, Err, IfOk, IfSome}
 use mathlib.Core.List.{List, [], ◌∷◌}
 use lib.ListN.{length, take, drop, length-drop}
 use lib.Seq.{take_at, take-take, take-length}
@@ -16,6 +16,7 @@ use Rattle.luck_lines.specs.declared.stream.Fed.{Fed}
 use Rattle.luck_lines.proofs.Buffers.{part_left}
 use Rattle.luck_lines.proofs.Promises.{leaves}
 use Rattle.bodies.specs.declared.Held.{Held}
+use Rattle.bodies.specs.declared.Failure.{Failure}
 use Rattle.bodies.specs.Held.{Unended, held_in, HeldGoesOn}
 
 empty : (l : List ℕ) → length l ≤ 0 → l ≡ []
@@ -35,15 +36,11 @@ pub may_read : (input : List ℕ) (at end room : ℕ) (s : State) (fed : Fed) �
     → Unended (part input (at + fed.used) end) (length input)
 may_read input at end room s fed e w h g =
     let t = feed (part input at end) room s in
-    let none = empty t.written (subst (λ (x : Fed). x.wrote ≤ 0) e w) in
-    let left = leaves (part input at end) room s h none in
+    let nothing = empty t.written (subst (λ (x : Fed). x.wrote ≤ 0) e w) in
+    let left = leaves (part input at end) room s h nothing in
     let used : fed.used ≡ t.used = ap (λ (x : Fed). x.used) e in
     let rest : drop t.used (part input at end) ≡ part input (at + fed.used) end = part_left input at end t.used ∙ ap (λ (u : ℕ). part input (at + u) end) (sym used) in
     subst (λ (x : List ℕ). Unended x (length input)) rest (left.1, omega (arith, left.0, length-drop t.used (part input at end)))
-
--- an answer that ends the run
-pub stopped : (bytes buffer : List ℕ) (s : State) (held : Held) → held.more ≡ false → HeldGoesOn bytes s held buffer
-stopped bytes buffer s held e m = absurd (true≢false (sym m ∙ e))
 
 pub read_on : (first buffer read held : List ℕ) (kept n : ℕ) → kept ≡ length held → buffer ≡ in_front held first → kept ≤ length buffer
     → take (length held) (part (put_mid kept (length buffer - kept) buffer read) 0 (kept + n)) ≡ held
@@ -61,7 +58,13 @@ module _ (input : List ℕ) (at end room : ℕ) (s : State) (fed : Fed) (e : fed
       × (take (length (drop (feed (part input at end) room s).used (part input at end))) (part input (at + fed.used) end) ≡ drop (feed (part input at end) room s).used (part input at end))
   rows_on = (ap (λ (x : Fed). x.state) e, ap (take (length (drop (feed (part input at end) room s).used (part input at end)))) left_part ∙ take-length (drop (feed (part input at end) room s).used (part input at end)))
 
-  pub read_after : (held : Held) (buffer : List ℕ) → HeldGoesOn (part input (at + fed.used) end) fed.state held buffer
+  read_after : (held : Held) (buffer : List ℕ) → HeldGoesOn (part input (at + fed.used) end) fed.state held buffer
       → HeldGoesOn (drop (feed (part input at end) room s).used (part input at end)) (feed (part input at end) room s).state held buffer
-  read_after held buffer g m =
-      ((g m).0 ∙ ap (λ (x : Fed). x.state) e, subst (λ (x : List ℕ). take (length x) (held_in held buffer) ≡ x) left_part (g m).1)
+  read_after held buffer g = (g.0 ∙ ap (λ (x : Fed). x.state) e, subst (λ (x : List ℕ). take (length x) (held_in held buffer) ≡ x) left_part g.1)
+
+  pub more_after : (next : Result (Option Held) Failure) (buffer : List ℕ)
+      → IfOk next (λ o. IfSome o (λ held. HeldGoesOn (part input (at + fed.used) end) fed.state held buffer))
+      → IfOk next (λ o. IfSome o (λ held. HeldGoesOn (drop (feed (part input at end) room s).used (part input at end)) (feed (part input at end) room s).state held buffer))
+  more_after (Ok (Some held)) buffer g = read_after held buffer g
+  more_after (Ok None) buffer g = g
+  more_after (Err failure) buffer g = g

@@ -1,6 +1,6 @@
 -- Where the bytes that are held lie, and when more may be read after them (the program `bodies` of document 01).
 -- Assumes nothing.
-use Rattle.std.specs.Prelude.{ℕ, ◌≤◌, ◌<◌, ◌≡◌, true, List, length, take}
+use Rattle.std.specs.Prelude.{ℕ, ◌≤◌, ◌<◌, ◌≡◌, List, length, take}
 use Rattle.luck_text.specs.Bytes.{part}
 use Rattle.luck_lines.specs.Stream.{line_length}
 use Rattle.luck_lines.specs.declared.stream.State.{State}
@@ -17,7 +17,6 @@ Unended bytes room = (line_length bytes ≡ length bytes) × (length bytes < roo
 abbrev pub held_in : Held → List ℕ → List ℕ
 held_in held buffer = part buffer held.at held.end
 
--- where there is more to do: these bytes are held, and perhaps others after them, and the next call is handed s
+-- these bytes are held, and perhaps others after them, and the next call is handed s
 abbrev pub HeldGoesOn : List ℕ → State → Held → List ℕ → Type 0
-HeldGoesOn bytes s held buffer =
-    held.more ≡ true → (held.state ≡ s) × (take (length bytes) (held_in held buffer) ≡ bytes)
+HeldGoesOn bytes s held buffer = (held.state ≡ s) × (take (length bytes) (held_in held buffer) ≡ bytes)

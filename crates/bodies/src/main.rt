@@ -2,7 +2,7 @@
 // this is the reading and the writing, with two buffers and a `State` and nothing else kept, so that the input may be of any length.
 #![tactic(auto)]
 
-ghost use Rattle.std.specs.Prelude.{◌≡◌, false, ◌+◌, ◌≤◌, ◌<◌, length, drop};
+ghost use Rattle.std.specs.Prelude.{◌≡◌, ◌+◌, ◌≤◌, ◌<◌, length, drop, IfOk, IfSome};
 ghost use Rattle.luck_text.specs.Bytes.{part};
 ghost use Rattle.luck_line.specs.Line.{longest};
 ghost use Rattle.luck_lines.specs.Stream.{row_length, totals_length, line_length, start, feed};
@@ -11,23 +11,39 @@ ghost use Rattle.bodies.specs.Held.{HeldWithin, Unended, held_in, HeldGoesOn};
 use luck_lines::stream::State;
 use luck_lines::{buffer, stream};
 use std::env::{Env, FillError};
-use std::io::{Eprint, Error, Print, Read, Stderr, Stdin, Stdout};
+use std::fmt;
+use std::io::{Eprint, Error, Print, Read, Stdin, Stdout};
 
-// Where the lines come from, where the rows go, and where it is said what failed.
+// Where the lines come from, and where the rows go.
 #[derive(Clone, Copy)]
 struct Streams {
     input: Stdin,
     output: Stdout,
-    errors: Stderr,
 }
 
-// The bytes of the input buffer that are not taken yet, from `at` to `end`; what the next call is handed; and whether there is more to do.
+// What failed, and why. No totals are written then, by which a loader tells that the listing is not whole.
+#[derive(Clone, Copy)]
+enum Failure {
+    Input(Error),
+    Output(Error),
+}
+
+impl fmt::Display for Failure {
+    fn fmt<W: fmt::Write>(&self, f: &mut fmt::Formatter<W>) -> fmt::Result {
+        match self {
+            Failure::Input(why) => write!(f, "bodies: standard input: {why}"),
+            Failure::Output(why) => write!(f, "bodies: standard output: {why}"),
+        }
+    }
+}
+
+// The bytes of the input buffer that are not taken yet, from `at` to `end`; and what the next call is handed.
 #[derive(Clone, Copy)]
 struct Held {
+    // two numbers, since a `Range` is not `Copy`
     at: usize,
     end: usize,
     state: State,
-    more: bool,
 }
 
 // Before the first read.
@@ -39,123 +55,92 @@ fn first() -> Held
         at: 0,
         end: 0,
         state: stream::start(),
-        more: true,
     }
 }
 
-// An error was said, or the input has ended. After an error no totals are written, by which a loader tells that the listing is not whole.
-fn stop() -> Held
-    ensures within { HeldWithin result 0 }
-    ensures more { result.more ≡ false }
-{
-    Held {
-        at: 0,
-        end: 0,
-        state: stream::start(),
-        more: false,
-    }
-}
-
-// What failed, and why. Where even that can't be said, nothing is left to do.
-fn say(errors: Stderr, what: &str, why: Error) {
-    let _ = errors.eprint(what);
-    let _ = errors.eprintln(why);
-}
-
-fn write_out(streams: Streams, rows: &[u8]) -> bool {
-    match streams.output.write_all(rows) {
-        Ok(()) => true,
-        Err(why) => {
-            say(streams.errors, "bodies: standard output: ", why);
-            false
-        }
-    }
+fn write_out(streams: Streams, rows: &[u8]) -> Result<(), Failure> {
+    streams.output.write_all(rows).map_err(Failure::Output)
 }
 
 // The input has ended, with a last line that lacks its newline, or with nothing: what is left to write ends with the totals.
-fn finish(streams: Streams, left: &[u8], output: &mut [u8], state: State)
+fn finish(streams: Streams, left: &[u8], output: &mut [u8], state: State) -> Result<(), Failure>
     requires last_line { line_length left.now ≡ length left.now }
     requires room { row_length + totals_length ≤ length output.old }
 {
     let wrote = stream::finish(left, output, state);
-    write_out(streams, &output[0..wrote]);
+    write_out(streams, &output[0..wrote])
 }
 
-// No whole line is left: what there is moves to the front, and more is read after it.
+// No whole line is left: what there is moves to the front, and more is read after it. None: the input has ended.
 fn read_more(
     streams: Streams,
     input: &mut [u8],
     output: &mut [u8],
-    at: usize,
-    end: usize,
-    state: State,
-) -> Held
-    requires unended { Unended (part input.old at end) (length input.old) }
+    left: Held,
+) -> Result<Option<Held>, Failure>
+    requires unended { Unended (held_in left input.old) (length input.old) }
     requires room { row_length + totals_length ≤ length output.old }
-    ensures within { HeldWithin result (length input.new) }
-    ensures goes_on { HeldGoesOn (part input.old at end) state result input.new }
+    ensures within { IfOk result (λ next. IfSome next (λ held. HeldWithin held (length input.new))) }
+    ensures goes_on { IfOk result (λ next. IfSome next (λ held. HeldGoesOn (held_in left input.old) left.state held input.new)) }
 {
-    let kept = buffer::keep(input, at, end);
+    let kept = buffer::keep(input, left.at, left.end);
     let mut lines = streams.input;
     match lines.read(&mut input[kept..]) {
-        Err(why) => {
-            say(streams.errors, "bodies: standard input: ", why);
-            stop()
-        }
+        Err(why) => Err(Failure::Input(why)),
         Ok(0) => {
-            finish(streams, &input[0..kept], output, state);
-            stop()
+            finish(streams, &input[0..kept], output, left.state)?;
+            Ok(None)
         }
-        Ok(more) => Held {
+        Ok(more) => Ok(Some(Held {
             at: 0,
             end: kept + more,
-            state,
-            more: true,
-        },
+            ..left
+        })),
     }
 }
 
 // Takes what the output has room for, and reads more where nothing can be taken.
-fn list_some(streams: Streams, input: &mut [u8], output: &mut [u8], held: Held) -> Held
+fn list_some(
+    streams: Streams,
+    input: &mut [u8],
+    output: &mut [u8],
+    held: Held,
+) -> Result<Option<Held>, Failure>
     requires held { HeldWithin held (length input.old) }
     requires longest { longest < length input.old }
     requires room { row_length + totals_length ≤ length output.old }
-    ensures within { HeldWithin result (length input.new) }
-    ensures goes_on { HeldGoesOn (drop (feed (held_in held input.old) (length output.old) held.state).used (held_in held input.old))
-        (feed (held_in held input.old) (length output.old) held.state).state result input.new }
+    ensures within { IfOk result (λ next. IfSome next (λ left. HeldWithin left (length input.new))) }
+    ensures goes_on { IfOk result (λ next. IfSome next (λ left.
+        HeldGoesOn (drop (feed (held_in held input.old) (length output.old) held.state).used (held_in held input.old))
+        (feed (held_in held input.old) (length output.old) held.state).state left input.new)) }
 {
-    let at = held.at;
-    let end = held.end;
-    let fed = stream::feed(&input[at..end], output, held.state);
+    let fed = stream::feed(&input[held.at..held.end], output, held.state);
+    let left = Held {
+        at: held.at + fed.used,
+        end: held.end,
+        state: fed.state,
+    };
     let wrote = fed.wrote;
-    let left = at + fed.used;
-    let state = fed.state;
     if 0 < wrote {
-        let is_written = write_out(streams, &output[0..wrote]);
-        return Held {
-            at: left,
-            end,
-            state,
-            more: is_written,
-        };
+        write_out(streams, &output[0..wrote])?;
+        return Ok(Some(left));
     }
-    read_more(streams, input, output, left, end, state)
+    read_more(streams, input, output, left)
 }
 
-// A proved loop has to end, and nothing says that an input does: it counts its turns down, from a number that no run uses up.
-fn list(streams: Streams, input: &mut [u8], output: &mut [u8])
+// A proved loop has to end, and nothing says that an input does: it has more turns than a run uses up.
+fn list(streams: Streams, input: &mut [u8], output: &mut [u8]) -> Result<(), Failure>
     requires longest { longest < length input.old }
     requires room { row_length + totals_length ≤ length output.old }
 {
     let mut held = first();
-    let mut turns = u64::MAX;
-    while 0 < turns {
-        held = list_some(streams, input, output, held);
-        if !held.more {
-            return;
+    'turns: for _ in 0..u64::MAX {
+        match list_some(streams, input, output, held)? {
+            Some(left) => held = left,
+            None => break,
         }
-        turns -= 1;
     }
+    Ok(())
 }
 
 // A word after the program's name is a slip, mostly a file's name without its `<`: a listing of standard input would be that
@@ -170,11 +155,12 @@ fn main(rt: HostRuntime) {
     let streams = Streams {
         input: rt.stdin(),
         output: rt.stdout(),
-        errors: rt.stderr(),
     };
     let mut input = [0u8; 65536];
     let mut output = [0u8; 65536];
-    list(streams, &mut input, &mut output);
+    if let Err(failure) = list(streams, &mut input, &mut output) {
+        let _ = rt.eprintln(failure);
+    }
 }
 
 // Whether a word follows the program's name.

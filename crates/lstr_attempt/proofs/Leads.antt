@@ -1,54 +1,44 @@
 -- Laws of attempts that need no captures: a repeat that ends the pattern, and an attempt that fails by its first test.
 -- Assumes nothing.
-use Prim.Native.Nat.{ℕ, zero, suc, ◌+◌, ◌-◌, ◌≤◌, ◌<◌}
+use Rattle.std.specs.Prelude.{Option, None, Some, IfSome}
+use Prim.Native.Nat.{ℕ, ◌+◌, ◌-◌, ◌≤◌, ◌<◌}
 use native.Mathlib.Omega.{arith}
 use mathlib.Core.Path.{◌≡◌, refl, sym, ap, ◌∙◌}
-use mathlib.Core.Logic.{⊎_elim}
 use mathlib.Core.Bool.{Bool, true, false}
 use mathlib.Core.List.{List, [], ◌∷◌}
-use lib.ListN.{length, get_or}
+use lib.ListN.{length}
 use lib.Dec.{ltb}
 use borrow.Author.Tests.{lt-ltb, le-ltb}
 use Rattle.luck_text.specs.Bytes.{when◌then◌else◌}
-use Rattle.luck_text.proofs.Cases.{if_true, if_false, order}
-use Rattle.luck_pattern.specs.Items.{Single, Repeat, once, optional, star, plus, minus, repeat_width, Item, start_capture, position_capture, single, items}
-use Rattle.lstr_item.specs.Match.{Capture, Outcome, matched, failed, stopped, Rest, due, new_level, or_else, do_start_capture, Reach, reach, reached, longest_first, max_expand, fits_at, expand, match}
-use Rattle.lstr_item.specs.Inner.{single_of, Then, is_once, has_to_fit, is_greedy, reach_of, captures_in, KeptIn, positional, no_pair, pairs_of, captures_of, PairIn, Sound}
+use Rattle.luck_text.proofs.Cases.{if_true, if_false}
+use Rattle.luck_pattern.specs.Items.{Single, Repeat, once, optional, star, plus, minus, repeat_width, Item, single, items}
+use Rattle.lstr_item.specs.Match.{Capture, Outcome, matched, failed, stopped, Rest, due, new_level, or_else, do_start_capture, Reach, reach, reached, max_expand, fits_at, expand, match}
+use Rattle.lstr_item.specs.Inner.{single_of, Then, is_once, has_to_fit, is_greedy, KeptIn, pairs_of}
 use Rattle.lstr_match.specs.Inner.{outcome_of, AttemptIn, MatchesAs}
 use Rattle.lstr_item.specs.Ahead.{SingleAhead, Sure}
-use Rattle.lstr_attempt.specs.Inner.{GoesOn, LastIn, LeadIn, lead_by}
+use Rattle.lstr_attempt.specs.Inner.{GoesOn, LastIn, FittedIn, LeadIn}
 use Rattle.lstr_item.specs.declared.ahead.Ahead.{Ahead}
-use Rattle.lstr_item.specs.declared.capture.Captures.{Captures}
 use Rattle.lstr_item.specs.declared.capture.Pair.{Pair}
 use Rattle.lstr_match.specs.declared.outcome.Attempt.{Attempt}
-use Rattle.lstr_item.specs.declared.single.Reached.{Reached}
+use Rattle.lstr_attempt.specs.declared.lead.Lead.{Lead}
+use Rattle.lstr_attempt.specs.declared.lead.Fitted.{Fitted}
+use Rattle.lstr_attempt.specs.declared.lead.Unfit.TheVariants as unfit
 use Rattle.lstr_item.proofs.Items.{items_end}
-use Rattle.lstr_item.proofs.FirstTests.{opens_start, opens_position, sure_two}
 use Rattle.lstr_item.proofs.Turns as turns
+use Rattle.lstr_match.proofs.Attempts as attempts
 use Rattle.lstr_match.proofs.Repeats as repeats
 
 -- ---- A match without captures
 
-none_kept : (kept : List ℕ) (len : ℕ) → KeptIn len 0 kept
+none_kept : (kept : List Pair) (len : ℕ) → KeptIn len 0 kept
 none_kept kept len = record { few = omega arith; room = omega arith; each = λ i h. absurd (omega arith) }
 
-pub bare_match : (r : Attempt) (e u : ℕ) (kept : List ℕ) (len : ℕ) (whole : Outcome) → MatchesAs r e 0 u → e ≤ len → matched e [] u ≡ whole
+pub bare_match : (r : Attempt) (e u : ℕ) (kept : List Pair) (len : ℕ) (whole : Outcome) → MatchesAs r e 0 u → e ≤ len → matched e [] u ≡ whole
     → (outcome_of r kept ≡ whole) × AttemptIn r kept len
-unfolding captures_in
-bare_match r e u kept len whole w h g = repeats.kept_matched r e 0 u kept len [] whole w h (none_kept kept len) refl g
+unfolding pairs_of
+bare_match r e u kept len whole w h g = attempts.kept_matched r e 0 u kept len [] whole w h (none_kept kept len) refl g
 
 -- ---- The first capture
-
-module _ (start len : ℕ) (h : positional ≤ len) (others : List Pair) where
-  abbrev pair : Pair
-  pair = record { start = start; len = len }
-
-  lies_before : (i : ℕ) → i < 1 → PairIn start (get_or (pair ∷ others) i no_pair)
-  lies_before zero l = (omega arith, λ m. absurd (omega arith))
-  lies_before (suc i) l = absurd (omega arith)
-
-  pub one_sound : Sound start (record { count = 1; pairs = pair ∷ others })
-  one_sound = record { few = omega arith; each = lies_before }
 
 -- nothing stands in its way
 pub first_starts : (c : Capture) (cs : List Capture) → cs ≡ c ∷ [] → (rest : Rest) (s u : ℕ)
@@ -81,39 +71,20 @@ module _ (in_class : ℕ → ℕ → Bool) (sub : List ℕ) (budget : ℕ) where
   unfolding match due
   end_not_failed e l cs u k = end_or_spent (ltb u budget) e cs u (u + 1) k
 
-  longest_is : (e s : ℕ) (cs : List Capture) (u : ℕ) → s ≤ e → new_level 1 u (λ m. ending e m cs u) ≡ longest_first ending (e - s) s 1 cs u
-  unfolding new_level when◌then◌else◌
-  longest_is e s cs u h =
-      ⊎_elim
-      (λ l. sym (end_not_failed e 2 cs u (λ v. longest_first ending (e - 1 - s) s 1 cs v)) ∙ repeats.longer ending e s 1 cs u l)
-      (λ l. repeats.shortest ending e s 1 cs u (omega arith))
-      (order s e)
-
   -- the longest repeat is taken
-  longest_taken : (e s : ℕ) (cs : List Capture) (u : ℕ) → s ≤ e → ending e 2 cs u ≡ max_expand (reached e u) ending s 1 cs
-  unfolding new_level when◌then◌else◌ max_expand
-  longest_taken e s cs u h = longest_is e s cs u h
+  longest_taken : (e s : ℕ) (cs : List Capture) (u : ℕ) (t : Reach) → s ≤ e → reached e u ≡ t → ending e 2 cs u ≡ max_expand t ending s 1 cs
+  unfolding new_level when◌then◌else◌
+  longest_taken e s cs u t h w =
+      sym (end_not_failed e 2 cs u (λ v. repeats.downwards ending s 1 cs (e - s) v))
+      ∙ repeats.down ending s 1 cs (e + 1) e u refl h ∙ repeats.all_down ending s 1 cs e u t h w
 
   -- what the code's reach makes of it
-  module _ (x : Single) (s u : ℕ) (r : Reached) (w : reach_of r ≡ reach in_class sub budget x (length sub - s) s u) (shortest : ℕ) (cs : List Capture) where
-    abbrev taken : Outcome
-    taken = max_expand (reach in_class sub budget x (length sub - s) s u) ending shortest 1 cs
+  module _ (e u : ℕ) (t : Reach) (w : reached e u ≡ t) (shortest : ℕ) (h : shortest ≤ e) (cs : List Capture) where
+    pub end_unpaid : budget ≤ u → stopped 27 0 u ≡ max_expand t ending shortest 1 cs
+    end_unpaid l = end_spent e 2 cs u l ∙ longest_taken e shortest cs u t h w
 
-    by_reach : (t : Reach) → t ≡ reach_of r → max_expand t ending shortest 1 cs ≡ taken
-    by_reach t e = ap (λ (y : Reach). max_expand y ending shortest 1 cs) (e ∙ w)
-
-    pub test_unpaid : r.is_spent ≡ true → stopped 27 0 r.steps ≡ taken
-    test_unpaid e = repeats.spent_expands r _ w ending shortest 1 cs e
-
-    module _ (e : r.is_spent ≡ false) (h : shortest ≤ r.end) where
-      at_reach : ending r.end 2 cs r.steps ≡ taken
-      at_reach = longest_taken r.end shortest cs r.steps h ∙ by_reach (reached r.end r.steps) (repeats.reach_is r e)
-
-      pub end_unpaid : budget ≤ r.steps → stopped 27 0 r.steps ≡ taken
-      end_unpaid l = end_spent r.end 2 cs r.steps l ∙ at_reach
-
-      pub end_paid : r.steps < budget → matched r.end cs (r.steps + 1) ≡ taken
-      end_paid l = end_matches r.end 2 cs r.steps l ∙ at_reach
+    pub end_paid : u < budget → matched e cs (u + 1) ≡ max_expand t ending shortest 1 cs
+    end_paid l = end_matches e 2 cs u l ∙ longest_taken e shortest cs u t h w
 
   module _ (pat : List ℕ) (p s : ℕ) (cs : List Capture) (u : ℕ) (h : u < budget) (e : ℕ) (x : Single) (f : fits_at in_class sub x s ≡ true) where
     rest_ends : (r : Repeat) (q : ℕ) → length pat ≤ q → Then pat p (single x r) q
@@ -131,37 +102,20 @@ module _ (in_class : ℕ → ℕ → Bool) (sub : List ℕ) (budget : ℕ) where
     unfolding repeat_width
     last_greedy once g l t = absurd (turns.false_true g)
     last_greedy optional g l t = absurd (turns.false_true g)
-    last_greedy star g l t = (s, omega arith, repeats.star_on in_class sub budget x ending s 1 cs (u + 1) _ refl ∙ rest_ends star (e + 1) l t)
-    last_greedy plus g l t = (s + 1, omega arith, repeats.plus_on in_class sub budget x ending s 1 cs (u + 1) _ refl ∙ rest_ends plus (e + 1) l t)
+    last_greedy star g l t = (s, omega arith, repeats.star_on in_class sub budget x ending s 1 cs (u + 1) ∙ rest_ends star (e + 1) l t)
+    last_greedy plus g l t = (s + 1, omega arith, repeats.plus_on in_class sub budget x ending s 1 cs (u + 1) ∙ rest_ends plus (e + 1) l t)
     last_greedy minus g l t = absurd (turns.false_true g)
 
 -- ---- The first test
 
 module _ (pat : List ℕ) where
-  -- a capture's start or a position stands before the single, or another item
-  module _ (a : Ahead) where
-    opening : (started : Bool) → (0 < a.steps → Sure pat 0 0 0 false a) → (0 < a.steps → started ≡ true → Then pat 0 start_capture a.at) → LeadIn pat (lead_by a started)
-    opening started sure start =
-        record {
-          single = λ z. (sure z).single;
-          fails = λ z n. sure z;
-          skips = λ e. absurd (turns.false_true e);
-          goes = λ e. absurd (turns.false_true e);
-          last = λ e. absurd (turns.false_true e);
-          captured = start;
-        }
-
-    pub no_lead : a.steps ≡ 0 → LeadIn pat (lead_by a false)
-    no_lead z = opening false (λ h. absurd (omega arith)) (λ h e. absurd (omega arith))
-
-    pub start_leads : (q : ℕ) → Then pat 0 start_capture q → SingleAhead pat q 2 a → LeadIn pat (lead_by a true)
-    start_leads q t b =
-        opening true (sure_two 0 false pat 0 0 a start_capture q (opens_start 0 false (omega arith)) (omega arith) t b) (λ z e. rw (b.at z) t)
-
-    pub position_leads : (q : ℕ) → Then pat 0 position_capture q → SingleAhead pat q 2 a → LeadIn pat (lead_by a false)
-    position_leads q t b =
-        opening false (sure_two 0 false pat 0 0 a position_capture q (opens_position 0 false (omega arith)) (omega arith) t b)
-        (λ z e. absurd (turns.false_true e))
+  -- a capture's start or a position stands before the single
+  pub opened_leads : (q : ℕ) (f : Fitted) → ((a : Ahead) → SingleAhead pat q 2 a → Sure pat 0 0 0 false a) → ((a : Ahead) → a.at ≡ q → FittedIn pat a f)
+      → (r : Option Lead) → IfSome r (λ lead. SingleAhead pat q 2 lead.first × (lead.fitted ≡ f) × (lead.unfit ≡ unfit.Fails)) → IfSome r (LeadIn pat)
+  opened_leads q f sure fits None h = h
+  opened_leads q f sure fits (Some lead) h =
+      let s = sure lead.first h.0 in
+      record { single = s.single; steps = omega (arith, h.0.steps); fitted = rw h.1 (fits lead.first h.0.at); unfit = rw h.2 s }
 
   -- the single stands first
   module _ (x : Single) (e : ℕ) (k : Repeat) (at : Then pat 0 (single x k) (e + repeat_width k)) where
@@ -188,13 +142,10 @@ module _ (pat : List ℕ) where
 -- ---- do_match at the first level
 
 -- a new level below none is the first
-pub first_level : (in_class : ℕ → ℕ → Bool) (sub : List ℕ) (budget : ℕ) (is : List Item) (s u : ℕ) (captures : Captures) → captures.count ≡ 0 → (o : Outcome)
-    → o ≡ new_level 0 u (λ m. match in_class sub budget is s m (captures_of captures) u) → o ≡ match in_class sub budget is s 1 [] u
-unfolding new_level when◌then◌else◌ pairs_of
-first_level in_class sub budget is s u captures z o e = e ∙ ap (λ (n : ℕ). match in_class sub budget is s 1 (pairs_of n captures.pairs) u) z
-
-pub none_sound : (s : ℕ) (captures : Captures) → captures.count ≡ 0 → Sound s captures
-none_sound s captures z = record { few = omega arith; each = λ i h. absurd (omega arith) }
+pub first_level : (in_class : ℕ → ℕ → Bool) (sub : List ℕ) (budget : ℕ) (is : List Item) (s u : ℕ) (cs : List Capture) → cs ≡ []
+    → new_level 0 u (λ m. match in_class sub budget is s m cs u) ≡ match in_class sub budget is s 1 [] u
+unfolding new_level when◌then◌else◌
+first_level in_class sub budget is s u cs e = ap (λ (x : List Capture). match in_class sub budget is s 1 x u) e
 
 -- an attempt that fails by its first test
 pub fails_first : (in_class : ℕ → ℕ → Bool) (sub pat : List ℕ) (budget s u : ℕ) (a : Ahead) → Sure pat 0 0 0 false a → u + a.steps ≤ budget

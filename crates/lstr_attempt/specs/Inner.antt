@@ -8,6 +8,10 @@ use Rattle.lstr_item.specs.Inner.{single_of, SingleIn, Then}
 use Rattle.lstr_item.specs.Ahead.{Sure}
 use Rattle.lstr_item.specs.declared.ahead.Ahead.{Ahead}
 use Rattle.lstr_attempt.specs.declared.lead.Lead.{Lead}
+use Rattle.lstr_attempt.specs.declared.lead.Fitted.{Fitted}
+use Rattle.lstr_attempt.specs.declared.lead.Fitted.TheVariants as fitted
+use Rattle.lstr_attempt.specs.declared.lead.Unfit.{Unfit}
+use Rattle.lstr_attempt.specs.declared.lead.Unfit.TheVariants as unfit
 
 -- where the single fits or does not, an attempt goes on from place q of the pattern and n bytes further
 pub record GoesOn (pat : List ℕ) (x : Single) (fit : Bool) (q n : ℕ) : Type 0 where
@@ -27,20 +31,24 @@ LastIn pat x =
     ≡ match in_class sub budget (items pat 0) s 1 [] u)
 
 -- the single that the code's lead has
-abbrev pub first_of : List ℕ → Lead → Single
-first_of pat lead = single_of pat lead.first.at lead.first.suffix
+abbrev pub first_of : List ℕ → Ahead → Single
+first_of pat a = single_of pat a.at a.suffix
 
--- what the code's lead says of every attempt, which is a new level above level 0, behind no captures: hence
--- `Sure pat 0 0 0 false`
+-- how an attempt goes on where that single fits
+abbrev pub FittedIn : List ℕ → Ahead → Fitted → Type 0
+FittedIn pat a fitted.GoesOn = GoesOn pat (first_of pat a) true a.suffix 1
+FittedIn pat a fitted.IsLast = LastIn pat (first_of pat a)
+FittedIn pat a fitted.IsCaptured = Then pat 0 start_capture a.at
+FittedIn pat a fitted.StartsOver = Unit {0}
+
+-- and where it does not; an attempt is a new level above level 0, behind no captures: hence `Sure pat 0 0 0 false`
+abbrev pub UnfitIn : List ℕ → Ahead → Unfit → Type 0
+UnfitIn pat a unfit.Fails = Sure pat 0 0 0 false a
+UnfitIn pat a unfit.IsSkipped = GoesOn pat (first_of pat a) false (a.suffix + 1) 0
+
+-- what the code's lead says of every attempt
 pub record LeadIn (pat : List ℕ) (lead : Lead) : Type 0 where
-  pub single : 0 < lead.first.steps → SingleIn pat lead.first.at lead.first.suffix
-  pub fails : 0 < lead.first.steps → lead.is_skipped ≡ false → Sure pat 0 0 0 false lead.first
-  pub skips : lead.is_skipped ≡ true → GoesOn pat (first_of pat lead) false (lead.first.suffix + 1) 0
-  pub goes : lead.goes_on ≡ true → GoesOn pat (first_of pat lead) true lead.first.suffix 1
-  pub last : lead.is_last ≡ true → LastIn pat (first_of pat lead)
-  pub captured : 0 < lead.first.steps → lead.is_captured ≡ true → Then pat 0 start_capture lead.first.at
-
--- the lead of a pattern that does not begin with a single
-abbrev pub lead_by : Ahead → Bool → Lead
-lead_by a started =
-    record { first = a; goes_on = false; is_last = false; is_skipped = false; is_captured = started }
+  pub single : SingleIn pat lead.first.at lead.first.suffix
+  pub steps : 0 < lead.first.steps
+  pub fitted : FittedIn pat lead.first lead.fitted
+  pub unfit : UnfitIn pat lead.first lead.unfit

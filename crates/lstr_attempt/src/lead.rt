@@ -1,65 +1,83 @@
 // The lead of a pattern: what every attempt tests first, so that a place where it fails is passed at once. A shortcut, as all of this crate: a pattern without a
 // lead is tried by the rule.
-ghost use Rattle.std.specs.Prelude.{◌≡◌};
-ghost use Rattle.lstr_attempt.specs.Inner.{lead_by, LeadIn};
+ghost use Rattle.std.specs.Prelude.{◌≡◌, IfSome};
+ghost use Rattle.lstr_item.specs.Ahead.{SingleAhead};
+ghost use Rattle.lstr_attempt.specs.declared.lead.Unfit.TheVariants as unfit;
+ghost use Rattle.lstr_attempt.specs.Inner.{LeadIn};
 
 use lstr_item::ahead::Ahead;
 use lstr_item::item::Item;
 use lstr_item::{ahead, item};
 
-// What every attempt of a pattern tests first, and how an attempt goes on from that test.
-#[derive(Clone, Copy)]
-pub struct Lead {
-    // the single that is tested first, and the steps until it has failed, which ends the attempt unless it is skipped; no steps where nothing is known
-    pub first: Ahead,
-    // where it fits, a single without a repeat is passed, and the attempt goes on behind it
-    pub goes_on: bool,
-    // where it fits, the repeat is the pattern's last item
-    pub is_last: bool,
-    // where it does not fit, it is passed over with its repeat, and the attempt goes on behind both
-    pub is_skipped: bool,
+// How an attempt goes on where the first single fits.
+#[derive(Clone, Copy, Debug, PartialEq, Eq)]
+pub enum Fitted {
+    // behind it, which has no repeat
+    GoesOn,
+    // its repeat is the pattern's last item
+    IsLast,
     // a capture starts before it
-    pub is_captured: bool,
+    IsCaptured,
+    // the attempt starts over, by the rule
+    StartsOver,
 }
 
-// The lead of a pattern, read once for all its attempts. `is_captured` is set by `(` and not by `()`.
-pub fn lead_of(pattern: &[u8]) -> Lead
-    ensures { LeadIn pattern.now result }
+// And where it does not fit.
+#[derive(Clone, Copy, Debug, PartialEq, Eq)]
+pub enum Unfit {
+    // it has to fit: the attempt has failed
+    Fails,
+    // it is passed over with its repeat, and the attempt goes on behind both
+    IsSkipped,
+}
+
+// What every attempt of a pattern tests first, and how an attempt goes on from that test.
+#[derive(Clone, Copy, Debug, PartialEq, Eq)]
+pub struct Lead {
+    // the single that is tested first, and the steps until it has failed, which ends the attempt unless it is skipped
+    pub first: Ahead,
+    pub fitted: Fitted,
+    pub unfit: Unfit,
+}
+
+// The lead of a pattern, read once for all its attempts.
+pub fn lead_of(pattern: &[u8]) -> Option<Lead>
+    ensures { IfSome result (LeadIn pattern.now) }
 {
-    let item = item::read(pattern, 0);
-    match item {
-        Item::Single(suffix, repeat) => {
-            let mut is_last = false;
-            if item::is_greedy(repeat) {
-                is_last = pattern.len() <= suffix + 1;
-            }
-            Lead {
-                first: Ahead {
-                    at: 0,
-                    steps: 1,
-                    suffix,
-                },
-                goes_on: item::is_once(repeat),
-                is_last,
-                is_skipped: !item::has_to_fit(repeat),
-                is_captured: false,
-            }
-        }
-        Item::StartCapture(next) => opening(ahead::single_at(pattern, next, 2), true),
-        Item::PositionCapture(next) => opening(ahead::single_at(pattern, next, 2), false),
-        _ => opening(ahead::nothing(), false),
+    match item::read(pattern, 0) {
+        Item::Single(suffix, repeat) => Some(Lead {
+            first: Ahead {
+                at: 0,
+                steps: 1,
+                suffix,
+            },
+            fitted: if repeat.is_once() {
+                Fitted::GoesOn
+            } else if repeat.is_greedy() && pattern.len() <= suffix + 1 {
+                Fitted::IsLast
+            } else {
+                Fitted::StartsOver
+            },
+            unfit: if repeat.has_to_fit() {
+                Unfit::Fails
+            } else {
+                Unfit::IsSkipped
+            },
+        }),
+        Item::StartCapture(next) => opening(pattern, next, Fitted::IsCaptured),
+        Item::PositionCapture(next) => opening(pattern, next, Fitted::StartsOver),
+        _ => None,
     }
 }
 
-// The lead of a pattern that does not begin with a single.
-fn opening(first: Ahead, is_captured: bool) -> Lead
-    ensures { result ≡ lead_by first is_captured }
+// The lead of a pattern that begins with a capture or a position, and goes on at `next`.
+fn opening(pattern: &[u8], next: usize, fitted: Fitted) -> Option<Lead>
+    ensures { IfSome result (λ lead. SingleAhead pattern.now next 2 lead.first × (lead.fitted ≡ fitted) × (lead.unfit ≡ unfit.Fails)) }
 {
-    Lead {
+    let first = ahead::single_at(pattern, next, 2)?;
+    Some(Lead {
         first,
-        goes_on: false,
-        is_last: false,
-        is_skipped: false,
-        is_captured,
-    }
+        fitted,
+        unfit: Unfit::Fails,
+    })
 }

@@ -1,5 +1,6 @@
 -- The classes by a table of masks: what the bits of a byte's mask say is what the test of the class says, at each of the 256 bytes, and of what is no byte.
 -- Assumes nothing.
+use Rattle.std.specs.Prelude.{Option, None, Some}
 use Prim.Native.Nat.{ℕ, zero, suc, ◌+◌, ◌≤◌, ◌<◌}
 use Prim.Native.Char.{code}
 use native.Mathlib.Omega.{arith}
@@ -7,7 +8,6 @@ use mathlib.Core.Path.{◌≡◌, refl, sym, ap, fun_ext, ◌∙◌}
 use mathlib.Core.Logic.{⊎_elim}
 use mathlib.Core.Bool.{Bool, true, false, not, ◌&&◌}
 use mathlib.Core.List.{List}
-use mathlib.Core.Option.{Option, none, some}
 use lib.Bits.{bit_and, and_zero_l}
 use lib.ListN.{length, get_or-eq_default}
 use lib.Dec.{eqb, ltb, leb}
@@ -103,7 +103,7 @@ rule bits test e high c =
     (λ h. high c h ∙ sym (ap (λ (m : ℕ). not (eqb (bit_and m bits) 0)) (high_mask c h) ∙ ap (λ (x : ℕ). not (eqb x 0)) (and_zero_l bits))) (order c 256)
 
 unfoldable by_bits : ℕ → ℕ → Option Bool
-by_bits bits c = when eqb bits 0 then none else some (marked bits c)
+by_bits bits c = when eqb bits 0 then None else Some (marked bits c)
 
 -- two choices by the same test
 choice : {A B : Type 0} (f : A → B) (t : Bool) (x y : B) (u v : A) → x ≡ f u → y ≡ f v → (when t then x else y) ≡ f (when t then u else v)
@@ -115,17 +115,17 @@ choice f false x y u v e d = d
 by_bits_lem : (letter c : ℕ) → class_test letter c ≡ by_bits (class_bits letter) c
 unfolding class_test class_bits by_bits when◌then◌else◌ mask_of bit is_lower is_upper is_alpha is_alnum is_cntrl is_graph is_punct is_lua_whitespace is_digit is_xdigit
 by_bits_lem letter c =
-    choice f (eqb letter (code "a")) _ _ _ _ (ap some (rule 36 is_alpha refl high_alpha c))
-    (choice f (eqb letter (code "c")) _ _ _ _ (ap some (rule 1 is_cntrl refl high_cntrl c))
-    (choice f (eqb letter (code "d")) _ _ _ _ (ap some (rule 2 is_digit refl high_digit c))
-    (choice f (eqb letter (code "g")) _ _ _ _ (ap some (rule 46 is_graph refl high_graph c))
-    (choice f (eqb letter (code "l")) _ _ _ _ (ap some (rule 4 is_lower refl high_lower c))
-    (choice f (eqb letter (code "p")) _ _ _ _ (ap some (rule 8 is_punct refl high_punct c))
-    (choice f (eqb letter (code "s")) _ _ _ _ (ap some (rule 16 is_lua_whitespace refl high_space c))
-    (choice f (eqb letter (code "u")) _ _ _ _ (ap some (rule 32 is_upper refl high_upper c))
-    (choice f (eqb letter (code "w")) _ _ _ _ (ap some (rule 38 is_alnum refl high_alnum c))
-    (choice f (eqb letter (code "x")) _ _ _ _ (ap some (rule 64 is_xdigit refl high_xdigit c))
-    (choice f (eqb letter (code "z")) _ _ _ _ (ap some (rule 128 (λ c. eqb c 0) refl high_zero c)) refl))))))))))
+    choice f (eqb letter (code "a")) _ _ _ _ (ap Some (rule 36 is_alpha refl high_alpha c))
+    (choice f (eqb letter (code "c")) _ _ _ _ (ap Some (rule 1 is_cntrl refl high_cntrl c))
+    (choice f (eqb letter (code "d")) _ _ _ _ (ap Some (rule 2 is_digit refl high_digit c))
+    (choice f (eqb letter (code "g")) _ _ _ _ (ap Some (rule 46 is_graph refl high_graph c))
+    (choice f (eqb letter (code "l")) _ _ _ _ (ap Some (rule 4 is_lower refl high_lower c))
+    (choice f (eqb letter (code "p")) _ _ _ _ (ap Some (rule 8 is_punct refl high_punct c))
+    (choice f (eqb letter (code "s")) _ _ _ _ (ap Some (rule 16 is_lua_whitespace refl high_space c))
+    (choice f (eqb letter (code "u")) _ _ _ _ (ap Some (rule 32 is_upper refl high_upper c))
+    (choice f (eqb letter (code "w")) _ _ _ _ (ap Some (rule 38 is_alnum refl high_alnum c))
+    (choice f (eqb letter (code "x")) _ _ _ _ (ap Some (rule 64 is_xdigit refl high_xdigit c))
+    (choice f (eqb letter (code "z")) _ _ _ _ (ap Some (rule 128 (λ c. eqb c 0) refl high_zero c)) refl))))))))))
   where
     f : ℕ → Option Bool
     f bits = by_bits bits c
@@ -147,7 +147,7 @@ module _ (cl c : ℕ) where
   no_class z = rw (by_bits_lem (to_lower cl) c, eq-eqb (class_bits (to_lower cl)) 0 z)
 
   module _ (n : bits_of cl ≡ 0 → ⊥) where
-    in_class : class_test (to_lower cl) c ≡ some (marked (bits_of cl) c)
+    in_class : class_test (to_lower cl) c ≡ Some (marked (bits_of cl) c)
     unfolding bits_of by_bits when◌then◌else◌
     in_class = by_bits_lem (to_lower cl) c ∙ rw (ne_eqb (bits_of cl) 0 n)
 

@@ -1,44 +1,39 @@
 -- Laws of equal parts of the subject and of balanced pairs, one byte at a time, and of the byte before a place.
 -- Assumes nothing.
+use Rattle.std.specs.Prelude.{Option, None, Some}
 use Prim.Native.Nat.{ℕ, zero, suc, ◌+◌, ◌-◌, ◌<◌, ◌≤◌}
 use native.Mathlib.Omega.{arith}
-use mathlib.Core.Path.{◌≡◌, refl, ap}
-use mathlib.Core.Bool.{true, false}
+use native.Mathlib.Numerals.{add-one}
+use mathlib.Core.Path.{◌≡◌, refl, ap, ◌∙◌}
+use mathlib.Core.Bool.{Bool, ◌&&◌}
 use mathlib.Core.List.{List}
-use mathlib.Core.Option.{Option, none, some}
-use lib.ListN.{length}
+use lib.ListN.{length, take, drop}
+use lib.Seq.{drop-cons}
+use lib.Pointwise.{pointwise}
+use lib.Dec.{eqb}
 use borrow.Author.Tests.{lt-ltb, le-ltb, eq-eqb, ne_eqb}
 use Rattle.luck_text.specs.Bytes.{when◌then◌else◌, byte_at}
 use Rattle.lstr_class.specs.Subject.{same_bytes, balance_end, match_balance, byte_before}
 
--- ---- Equal parts: from the i-th of n bytes on
+-- ---- Equal parts
 
-module _ (sub : List ℕ) (n a b : ℕ) where
-  pub same_start : same_bytes sub n a b ≡ same_bytes sub (n - 0) (a + 0) (b + 0)
-  same_start =
-      let e : n - 0 ≡ n = omega arith in
-      let f : a + 0 ≡ a = omega arith in
-      let g : b + 0 ≡ b = omega arith in
-      rw (e, f, g)
+pub same_as_slices : (sub : List ℕ) (n a b : ℕ) → a + n ≤ length sub → b + n ≤ length sub
+    → pointwise eqb (take n (drop a sub)) (take n (drop b sub)) ≡ same_bytes sub n a b
+unfolding same_bytes
+same_as_slices sub zero a b h k = refl
+same_as_slices sub (suc n) a b h k =
+    let at_a : a < length sub = omega arith in
+    let at_b : b < length sub = omega arith in
+    rw (drop-cons sub a 0, drop-cons sub b 0, add-one a, add-one b)
+    (ap (λ (e : Bool). eqb (byte_at sub a) (byte_at sub b) && e) (same_as_slices sub n (suc a) (suc b) (omega arith) (omega arith)))
 
-  pub same_end : (i : ℕ) → n ≤ i → same_bytes sub (n - i) (a + i) (b + i) ≡ true
-  unfolding same_bytes
-  same_end i h = let e : n - i ≡ 0 = omega arith in rw e
-
-  module _ (i : ℕ) (h : i < n) where
-    one_left : n - i ≡ suc (n - (i + 1))
-    one_left = omega arith
-
-    pub same_not : (byte_at sub (a + i) ≡ byte_at sub (b + i) → ⊥) → same_bytes sub (n - i) (a + i) (b + i) ≡ false
-    unfolding same_bytes
-    same_not e = rw (one_left, ne_eqb (byte_at sub (a + i)) (byte_at sub (b + i)) e)
-
-    pub same_more : byte_at sub (a + i) ≡ byte_at sub (b + i) → same_bytes sub (n - i) (a + i) (b + i) ≡ same_bytes sub (n - (i + 1)) (a + (i + 1)) (b + (i + 1))
-    unfolding same_bytes
-    same_more e =
-        let f : a + i + 1 ≡ a + (i + 1) = omega arith in
-        let g : b + i + 1 ≡ b + (i + 1) = omega arith in
-        rw (one_left, eq-eqb (byte_at sub (a + i)) (byte_at sub (b + i)) e, f, g)
+-- the code's ranges end at a sum
+pub same_as_ranges : (sub : List ℕ) (n a b : ℕ) (r : Bool) → a + n ≤ length sub → b + n ≤ length sub
+    → r ≡ pointwise eqb (take (a + n - a) (drop a sub)) (take (b + n - b) (drop b sub)) → r ≡ same_bytes sub n a b
+same_as_ranges sub n a b r h k e =
+    let f : a + n - a ≡ n = omega arith in
+    let g : b + n - b ≡ n = omega arith in
+    (rw (f, g) at e) ∙ same_as_slices sub n a b h k
 
 -- ---- Balanced pairs
 
@@ -47,7 +42,7 @@ module _ (sub : List ℕ) (x y : ℕ) where
   abbrev pub balance_from : ℕ → ℕ → Option ℕ
   balance_from i d = balance_end sub x y (length sub - i) d i
 
-  pub balance_none : (i d : ℕ) → length sub ≤ i → balance_from i d ≡ none
+  pub balance_none : (i d : ℕ) → length sub ≤ i → balance_from i d ≡ None
   unfolding balance_end
   balance_none i d h = let e : length sub - i ≡ 0 = omega arith in rw e
 
@@ -55,7 +50,7 @@ module _ (sub : List ℕ) (x y : ℕ) where
     byte_left : length sub - i ≡ suc (length sub - (i + 1))
     byte_left = omega arith
 
-    pub balance_ends : byte_at sub i ≡ y → d ≡ 1 → balance_from i d ≡ some (i + 1)
+    pub balance_ends : byte_at sub i ≡ y → d ≡ 1 → balance_from i d ≡ Some (i + 1)
     unfolding balance_end when◌then◌else◌
     balance_ends e f = rw (byte_left, eq-eqb (byte_at sub i) y e, eq-eqb d 1 f)
 
@@ -71,11 +66,11 @@ module _ (sub : List ℕ) (x y : ℕ) where
     unfolding balance_end when◌then◌else◌
     balance_passes e f = rw (byte_left, ne_eqb (byte_at sub i) y e, ne_eqb (byte_at sub i) x f)
 
-  pub no_byte : (s : ℕ) → length sub ≤ s → match_balance sub x y s ≡ none
+  pub no_byte : (s : ℕ) → length sub ≤ s → match_balance sub x y s ≡ None
   unfolding match_balance when◌then◌else◌
   no_byte s h = rw (le-ltb s (length sub) h)
 
-  pub other_byte : (s : ℕ) → s < length sub → (byte_at sub s ≡ x → ⊥) → match_balance sub x y s ≡ none
+  pub other_byte : (s : ℕ) → s < length sub → (byte_at sub s ≡ x → ⊥) → match_balance sub x y s ≡ None
   unfolding match_balance when◌then◌else◌
   other_byte s h e = rw (lt-ltb s (length sub) h, ne_eqb (byte_at sub s) x e)
 

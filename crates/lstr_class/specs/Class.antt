@@ -1,8 +1,7 @@
 -- The classes of a pattern: match_class of lstrlib.c 5.4 (document 01, "The trial"), its tests in ASCII.
 -- Assumes nothing.
-use Rattle.std.specs.Prelude.{ℕ, ◌+◌, ◌-◌, Bool, not, ◌&&◌, ◌||◌, eqb, leb}
+use Rattle.std.specs.Prelude.{ℕ, ◌+◌, ◌-◌, Bool, not, ◌&&◌, ◌||◌, eqb, leb, Option, None, Some}
 use Prim.Native.Char.{code}
-use Rattle.std.proofs.Math.Option.{Option, none, some}
 use Rattle.luck_text.specs.Bytes.{when◌then◌else◌, between, is_digit, is_xdigit, is_lua_whitespace}
 
 -- isalpha and its kin of the C locale; isspace is is_lua_whitespace
@@ -33,22 +32,22 @@ to_lower c = when is_upper c then c + (code "a" - code "A") else c
 -- whether the byte c is in the class of this small letter; none where the letter names no class
 unfoldable pub class_test : ℕ → ℕ → Option Bool
 class_test letter c =
-    when eqb letter (code "a") then some (is_alpha c)
-    else when eqb letter (code "c") then some (is_cntrl c)
-    else when eqb letter (code "d") then some (is_digit c)
-    else when eqb letter (code "g") then some (is_graph c)
-    else when eqb letter (code "l") then some (is_lower c)
-    else when eqb letter (code "p") then some (is_punct c)
-    else when eqb letter (code "s") then some (is_lua_whitespace c)
-    else when eqb letter (code "u") then some (is_upper c)
-    else when eqb letter (code "w") then some (is_alnum c)
-    else when eqb letter (code "x") then some (is_xdigit c)
-    else when eqb letter (code "z") then some (eqb c 0) else none
+    when eqb letter (code "a") then Some (is_alpha c)
+    else when eqb letter (code "c") then Some (is_cntrl c)
+    else when eqb letter (code "d") then Some (is_digit c)
+    else when eqb letter (code "g") then Some (is_graph c)
+    else when eqb letter (code "l") then Some (is_lower c)
+    else when eqb letter (code "p") then Some (is_punct c)
+    else when eqb letter (code "s") then Some (is_lua_whitespace c)
+    else when eqb letter (code "u") then Some (is_upper c)
+    else when eqb letter (code "w") then Some (is_alnum c)
+    else when eqb letter (code "x") then Some (is_xdigit c)
+    else when eqb letter (code "z") then Some (eqb c 0) else None
 
 -- a capital is the complement; a byte that names no class is itself
 unfoldable pub class_by : Option Bool → ℕ → ℕ → Bool
-class_by none cl c = eqb cl c
-class_by (some inside) cl c = when is_upper cl then not inside else inside
+class_by None cl c = eqb cl c
+class_by (Some inside) cl c = when is_upper cl then not inside else inside
 
 -- match_class: the byte c fits `%` and the byte cl
 unfoldable pub match_class : ℕ → ℕ → Bool

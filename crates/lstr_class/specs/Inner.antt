@@ -1,14 +1,11 @@
--- What the code of classes and of the subject promises the matching. This crate is for the trial only, and no contract
+-- What the code of classes promises the matching. This crate is for the trial only, and no contract
 -- of `gsub` rests on these.
 -- Assumes nothing.
-use Rattle.std.specs.Prelude.{ℕ, ◌+◌, ◌<◌, ◌≤◌, Bool, true, false, not, List, eqb, ltb}
+use Rattle.std.specs.Prelude.{ℕ, ◌+◌, Bool, true, false, not, List, eqb, ltb}
 use Prim.Native.Char.{code}
-use Rattle.std.proofs.Math.Option.{Option, none, some}
 use Rattle.std.specs.Int.Bits.{bit_and}
 use Rattle.luck_text.specs.Bytes.{when◌then◌else◌, byte_at, is_digit, is_xdigit, is_lua_whitespace}
 use Rattle.lstr_class.specs.Class.{is_lower, is_upper, is_cntrl, is_punct, to_lower}
-use Rattle.lstr_class.specs.declared.subject.Found.{Found}
-use Rattle.lstr_class.specs.declared.subject.Found.TheVariants as found
 
 -- ---- Classes
 
@@ -86,15 +83,3 @@ by_mask bits mask cl c =
 -- the class test that a table stands for
 unfoldable pub class_in : List ℕ → ℕ → ℕ → Bool
 class_in table cl c = by_mask (bits_in table cl) (mask_in table c) cl c
-
--- ---- The subject
-
--- the code's place, or none
-abbrev pub found_of : Found → Option ℕ
-found_of (found.At e) = some e
-found_of found.Nothing = none
-
--- it lies behind place s, in a text of this length
-abbrev pub FoundIn : Found → ℕ → ℕ → Type 0
-FoundIn (found.At e) s len = (s < e) × (e ≤ len)
-FoundIn found.Nothing s len = Unit {0}

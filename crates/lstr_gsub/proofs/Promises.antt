@@ -1,12 +1,12 @@
 -- What is promised of the trial of gsub: demand 3, and then its part of demand 1. `gsub` and `output_after` are in specs/Gsub.antt, the checks in the specs of
 -- luck_pattern and luck_replacement.
 -- Assumes nothing.
+use Rattle.std.specs.Prelude.{Some}
 use Prim.Native.Nat.{ℕ, ◌≤◌}
 use native.Mathlib.Omega.{arith}
 use mathlib.Core.Path.{◌≡◌, ap}
 use mathlib.Core.Bool.{Bool, true, false}
 use mathlib.Core.List.{List, [], ◌∷◌}
-use mathlib.Core.Option.{some}
 use lib.ListN.{length}
 use Rattle.luck_text.specs.Bytes.{when◌then◌else◌, among}
 use Rattle.luck_text.proofs.Bytes.{front_length}
@@ -26,14 +26,14 @@ use Rattle.lstr_gsub.proofs.Versions.{with_25}
 
 module _ (ranges : Bool) (v w n k : ℕ) (pat rep : List ℕ)
     (pattern_accepted : check_pattern_as ranges v pat ≡ accepted n)
-    (replacement_accepted : check_replacement w (some n) rep ≡ accepted k)
+    (replacement_accepted : check_replacement w (Some n) rep ≡ accepted k)
     (not_51 : w ≡ 1 → ⊥) where
   -- the trials under any two of the six versions give the same answer, whole,
   pub same_answer : (sub output : List ℕ) (budget a b : ℕ) → is_version a ≡ true → is_version b ≡ true
       → gsub a pat rep sub budget (length output) ≡ gsub b pat rep sub budget (length output)
   unfolding gsub class_of when◌then◌else◌
   same_answer sub output budget a b i j =
-      let alike = writers_alike (some n) k rep sub (length output) a b (strict_accepted w (some n) rep k replacement_accepted not_51) in
+      let alike = writers_alike (Some n) k rep sub (length output) a b (strict_accepted w (Some n) rep k replacement_accepted not_51) in
       rw (i, j) (ap (λ write. str_gsub (class_of a) sub budget (length output) write pat) alike)
 
   -- and leave the same bytes in the whole output,
@@ -45,7 +45,7 @@ module _ (ranges : Bool) (v w n k : ℕ) (pat rep : List ℕ)
   pub none_raises : (sub output : List ℕ) (budget version : ℕ) → (gsub version pat rep sub budget (length output)).number ≡ 29 → ⊥
   none_raises sub output budget version =
       quiet ranges v version n k true pat rep sub budget (length output) pattern_accepted
-      (strict_accepted w (some n) rep k replacement_accepted not_51) (λ e. absurd_flag e)
+      (strict_accepted w (Some n) rep k replacement_accepted not_51) (λ e. absurd_flag e)
     where
       absurd_flag : true ≡ false → is_strict (rules_of version) ≡ false
       absurd_flag e = let z : ◌≡◌ {A = ℕ} 0 1 = cc in absurd (omega arith)
@@ -54,11 +54,11 @@ module _ (ranges : Bool) (v w n k : ℕ) (pat rep : List ℕ)
 
 pub never_raises_51 : (ranges : Bool) (v n k : ℕ) (pat rep sub output : List ℕ) (budget : ℕ)
     → check_pattern_as ranges v pat ≡ accepted n
-    → check_replacement 1 (some n) rep ≡ accepted k
+    → check_replacement 1 (Some n) rep ≡ accepted k
     → (gsub 1 pat rep sub budget (length output)).number ≡ 29
     → ⊥
 never_raises_51 ranges v n k pat rep sub output budget ok rok =
-    quiet ranges v 1 n k (is_strict (rules_of 1)) pat rep sub budget (length output) ok (walk_accepted 1 (some n) rep k rok) (λ e. e)
+    quiet ranges v 1 n k (is_strict (rules_of 1)) pat rep sub budget (length output) ok (walk_accepted 1 (Some n) rep k rok) (λ e. e)
 
 -- ---- Every trial, whatever it is given and however it ends
 

@@ -1,11 +1,11 @@
 -- A trial of an accepted pattern and an accepted replacement raises nothing.
 -- Assumes nothing.
+use Rattle.std.specs.Prelude.{Some}
 use Prim.Native.Nat.{ℕ}
 use native.Mathlib.Omega.{arith}
 use mathlib.Core.Path.{◌≡◌}
 use mathlib.Core.Bool.{Bool, false}
 use mathlib.Core.List.{List, []}
-use mathlib.Core.Option.{some}
 use Rattle.luck_answer.specs.Answer.{accepted}
 use Rattle.luck_pattern.specs.Pattern.{check_pattern_as}
 use Rattle.luck_pattern.specs.Items.{items}
@@ -21,7 +21,7 @@ use Rattle.lstr_gsub.proofs.Writings.{pieces_quiet}
 
 -- the replacement's walk is accepted, strict where the trial's version is
 pub quiet : (ranges : Bool) (v version n k : ℕ) (strict : Bool) (pat rep sub : List ℕ) (budget room : ℕ) → check_pattern_as ranges v pat ≡ accepted n
-    → pieces_walk strict (some n) (pieces rep) 0 ≡ accepted k → (strict ≡ false → is_strict (rules_of version) ≡ false) → (gsub version pat rep sub budget room).number ≡ 29 → ⊥
+    → pieces_walk strict (Some n) (pieces rep) 0 ≡ accepted k → (strict ≡ false → is_strict (rules_of version) ≡ false) → (gsub version pat rep sub budget room).number ≡ 29 → ⊥
 unfolding writer_of
 quiet ranges v version n k strict pat rep sub budget room ok walk old =
     (gsub_fine (λ u. Unit {0}) NotRaised (λ cs. AllClosed n (flags_of cs)) version pat rep sub budget room tt

@@ -1,11 +1,11 @@
 -- What the run over the subject keeps: K of the steps and of what is written, and E of the number, the kind, the steps and what was written that it ends with,
 -- from the same of each attempt and of each writing. `gsub_fine` is the law for those who do not look at what is written.
 -- Assumes nothing.
+use Rattle.std.specs.Prelude.{Option, None, Some}
 use Prim.Native.Nat.{ℕ, zero, suc, ◌+◌, ◌-◌, ◌≤◌, ◌<◌}
 use mathlib.Core.Path.{◌≡◌}
 use mathlib.Core.Bool.{Bool, true}
 use mathlib.Core.List.{List, [], ◌∷◌, ◌++◌}
-use mathlib.Core.Option.{Option, none, some}
 use lib.ListN.{length, drop, get_or}
 use lib.Dec.{eqb, leb, ltb}
 use borrow.Author.Tests.{ltb-true, ltb-false}
@@ -137,7 +137,7 @@ module _ (K : ℕ → List ℕ → Type 0) (E : ℕ → ℕ → ℕ → List ℕ
     round_keeps next ok (failed u) s last out n p = copy_keeps next ok s last out n u p
     round_keeps next ok (matched e cs u) s last out n p =
         by_test (Kept K E) _ _ _ (λ t. copy_keeps next ok s last out n u p.0)
-        (λ t. wrote_keeps _ (n + 1) u _ (writes s e cs p.1 u out p.0) (λ now g. ok e (some e) now (n + 1) u g))
+        (λ t. wrote_keeps _ (n + 1) u _ (writes s e cs p.1 u out p.0) (λ now g. ok e (Some e) now (n + 1) u g))
 
     anchored_keeps : (o : Outcome) → AttemptKeeps [] o → Kept K E (anchored_round sub room write o)
     unfolding anchored_round
@@ -160,7 +160,7 @@ module _ (K : ℕ → List ℕ → Type 0) (E : ℕ → ℕ → ℕ → List ℕ
       run_keeps pat h free held =
           by_test (Kept K E) _ _ _
           (λ t. anchored_keeps _ (held t 0 0 [] h))
-          (λ t. rounds_from_keep (items pat 0) free (suc (budget - 0)) 0 none [] 0 0 h)
+          (λ t. rounds_from_keep (items pat 0) free (suc (budget - 0)) 0 None [] 0 0 h)
 
   -- the whole trial, by what holds of each attempt from the pattern's start (anchored: from its second byte) and of each writing
   pub gsub_keeps : (version : ℕ) (pat rep sub : List ℕ) (budget : ℕ)

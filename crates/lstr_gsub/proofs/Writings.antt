@@ -1,12 +1,12 @@
 -- Writing an accepted replacement for a match whose captures are all closed raises nothing, and one that is accepted under a version with strict
 -- replacements is written alike under all versions.
 -- Assumes nothing.
+use Rattle.std.specs.Prelude.{Option, Some}
 use Prim.Native.Nat.{ℕ, zero, suc, ◌+◌, ◌-◌, ◌≤◌, ◌<◌, max}
 use native.Mathlib.Omega.{arith}
 use mathlib.Core.Path.{◌≡◌, refl, sym, ap, subst, ◌∙◌, fun_ext}
 use mathlib.Core.Bool.{Bool, true, false, true≢false}
 use mathlib.Core.List.{List, [], ◌∷◌}
-use mathlib.Core.Option.{Option, some}
 use lib.ListN.{length, get_or}
 use lib.Dec.{eqb, leb}
 use borrow.Author.Tests.{eqb-false, leb-true, leb-false}
@@ -106,24 +106,24 @@ module _ (sub : List ℕ) (room s e : ℕ) (cs : List Capture) (n : ℕ) (all : 
       (λ t1. absurd (omega (arith, eqb-false d 0 t0, eqb-false d 1 t1, leb-false d (length cs) t)))))
 
   -- accepted by the walk, and written as strictly or less
-  pub pieces_quiet : (strict writes : Bool) → (strict ≡ false → writes ≡ false) → (k : ℕ) (ps : List Piece) (p : ℕ) → pieces_walk strict (some n) ps p ≡ accepted k
+  pub pieces_quiet : (strict writes : Bool) → (strict ≡ false → writes ≡ false) → (k : ℕ) (ps : List Piece) (p : ℕ) → pieces_walk strict (Some n) ps p ≡ accepted k
       → (out : List ℕ) → WroteFine Quiet (add_pieces sub room s e cs writes ps out)
   unfolding pieces_walk add_pieces add_piece allows_digit
   pieces_quiet strict writes old k [] p ok out = tt
   pieces_quiet strict writes old k (literal b ∷ ps) p ok out =
       then_fine Quiet _ _ (append_fine Quiet (λ z. omega arith) room (b ∷ []) out) (λ now. pieces_quiet strict writes old k ps (p + 1) ok now)
   pieces_quiet strict writes old k (digit d ∷ ps) p ok out =
-      let y = if_passed (leb d (max n 1)) (pieces_walk strict (some n) ps (p + 2)) 21 (p + 1) k (omega arith) ok in
+      let y = if_passed (leb d (max n 1)) (pieces_walk strict (Some n) ps (p + 2)) 21 (p + 1) k (omega arith) ok in
       then_fine Quiet _ _ (digit_quiet d (leb-true d (max n 1) y.0) out) (λ now. pieces_quiet strict writes old k ps (p + 2) y.1 now)
   pieces_quiet strict writes old k (percent ∷ ps) p ok out =
       then_fine Quiet _ _ (append_fine Quiet (λ z. omega arith) room (37 ∷ []) out) (λ now. pieces_quiet strict writes old k ps (p + 2) ok now)
   pieces_quiet strict writes old k (other b ∷ ps) p ok out =
-      let y = if_refused k strict (pieces_walk strict (some n) ps (p + 2)) 20 (p + 1) (omega arith) ok in
+      let y = if_refused k strict (pieces_walk strict (Some n) ps (p + 2)) 20 (p + 1) (omega arith) ok in
       then_fine Quiet _ _
       (by_test (WroteFine Quiet) writes _ _ (λ t. absurd (true≢false (sym t ∙ old y.0))) (λ t. append_fine Quiet (λ z. omega arith) room (b ∷ []) out))
       (λ now. pieces_quiet strict writes old k ps (p + 2) y.1 now)
   pieces_quiet strict writes old k (lone ∷ ps) p ok out =
-      let y = if_refused k strict (pieces_walk strict (some n) ps (p + 1)) 19 p (omega arith) ok in
+      let y = if_refused k strict (pieces_walk strict (Some n) ps (p + 1)) 19 p (omega arith) ok in
       then_fine Quiet _ _
       (by_test (WroteFine Quiet) writes _ _ (λ t. absurd (true≢false (sym t ∙ old y.0))) (λ t. append_fine Quiet (λ z. omega arith) room (0 ∷ []) out))
       (λ now. pieces_quiet strict writes old k ps (p + 1) y.1 now)

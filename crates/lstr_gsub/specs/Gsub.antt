@@ -1,9 +1,8 @@
 -- The trial of gsub (str_gsub of lstrlib.c 5.4, and document 01, "The trial"), within a budget of steps and into an
 -- output of a given room.
 -- Assumes nothing.
-use Rattle.std.specs.Prelude.{ℕ, zero, suc, ◌+◌, ◌-◌, Bool, false, List, [], ◌∷◌, length, drop, eqb, ltb}
+use Rattle.std.specs.Prelude.{ℕ, zero, suc, ◌+◌, ◌-◌, Bool, false, List, [], ◌∷◌, length, drop, eqb, ltb, Option, None, Some}
 use Prim.Native.Char.{code}
-use Rattle.std.proofs.Math.Option.{Option, none, some}
 use Rattle.luck_text.specs.Bytes.{when◌then◌else◌, byte_at, in_front}
 use Rattle.luck_token.specs.Version.{is_version, rules_of}
 use Rattle.luck_pattern.specs.Items.{Item, items}
@@ -61,8 +60,8 @@ Writer = ℕ → ℕ → List Capture → List ℕ → Wrote
 
 -- a match that ends at e ends where the last one did
 unfoldable pub ends_again : ℕ → Option ℕ → Bool
-ends_again e none = false
-ends_again e (some last) = eqb e last
+ends_again e None = false
+ends_again e (Some last) = eqb e last
 
 module _ (sub : List ℕ) (room : ℕ) where
   -- no replacement at s: a byte is copied, or at the end the run stops
@@ -81,7 +80,7 @@ module _ (sub : List ℕ) (room : ℕ) where
     round next (stopped number kind u) s last out n = result number kind out n u
     round next (failed u) s last out n = copy_byte next s last out n u
     round next (matched e cs u) s last out n =
-        let on = and_wrote (write s e cs out) (n + 1) u (λ now. next e (some e) now (n + 1) u) in
+        let on = and_wrote (write s e cs out) (n + 1) u (λ now. next e (Some e) now (n + 1) u) in
         let again = copy_byte next s last out n u in
         when ends_again e last then again else on
 
@@ -106,7 +105,7 @@ module _ (in_class : ℕ → ℕ → Bool) (sub : List ℕ) (budget room : ℕ) 
   unfoldable pub str_gsub : List ℕ → TrialResult
   str_gsub pat =
       let anchored = anchored_round sub room write (match in_class sub budget (items pat 1) 0 1 [] 0) in
-      let all = rounds (items pat 0) 0 none [] 0 0 in
+      let all = rounds (items pat 0) 0 None [] 0 0 in
       when eqb (byte_at pat 0) (code "^") then anchored else all
 
 -- the writer of a replacement, strict or not by document 01's row "strict replacement, checked date"

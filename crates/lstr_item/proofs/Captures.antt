@@ -1,31 +1,24 @@
 -- Laws of captures: the code's pairs as the list of captures, where they lie, the one to close, a back-reference, and what is kept of them.
 -- Assumes nothing.
-use Prim.Native.Nat.{ℕ, zero, suc, ◌+◌, ◌-◌, ◌*◌, ◌<◌, ◌≤◌}
+use Rattle.std.specs.Prelude.{Option, None, Some, IsTrue, ◌↔◌}
+use Prim.Native.Nat.{ℕ, zero, suc, ◌+◌, ◌-◌, ◌<◌, ◌≤◌}
 use native.Mathlib.Omega.{arith}
 use native.Mathlib.Numerals.{add-one}
-use mathlib.Core.Path.{◌≡◌, refl, sym, ap, ap₂, subst, ◌∙◌}
-use mathlib.Core.Logic.{⊎_elim}
-use mathlib.Core.Bool.{true, false}
-use mathlib.Core.List.{List, [], ◌∷◌, ◌++◌, map}
-use mathlib.Core.Option.{Option, none, some}
-use lib.ListN.{length, get_or, set, length-set, length-map}
-use lib.Seq.{get_or-set_same, get_or-set_other}
-use lib.Dec.{eqb, leb}
-use borrow.Author.Tests.{lt-ltb, le-ltb, le-leb, lt-leb, eq-eqb, ne_eqb}
+use mathlib.Core.Path.{◌≡◌, refl, sym, ap, subst, ◌∙◌}
+use mathlib.Core.Bool.{Bool, true, false}
+use mathlib.Core.List.{List, [], ◌∷◌, ◌++◌}
+use lib.ListN.{length, get_or, set, take}
+use lib.Dec.{eqb, ltb, leb}
+use borrow.Author.Tests.{lt-ltb, le-ltb, le-leb, lt-leb, eq-eqb, ne_eqb, eqb-true, eqb-false}
+use Rattle.std.proofs.lemmas.List.{length-take-le, get_or-take}
 use Rattle.luck_text.specs.Bytes.{when◌then◌else◌}
-use Rattle.luck_text.proofs.Cases.{by_test, second_false, order}
+use Rattle.luck_text.proofs.Cases.{by_test, second_false}
 use Rattle.lstr_item.specs.Match.{Capture, opened, position, closed, start_of, is_finished, capture_to_close, Outcome, Rest, raised, failed, new_level, do_start_capture, do_end_capture, match_capture, do_back_reference}
 use Rattle.luck_pattern.specs.Captures.{open_by, latest_open}
 use Rattle.lstr_class.specs.Subject.{same_bytes}
-use Rattle.lstr_item.specs.Inner.{unfinished, positional, capture_of, no_pair, pairs_of, captures_of, captures_in, PairIn, Sound, KeptIn, close_of, CloseIn}
+use Rattle.lstr_item.specs.Inner.{unfinished, positional, capture_of, no_pair, pairs_of, captures_in, PairIn, Sound, KeptIn}
 use Rattle.lstr_item.specs.declared.capture.Pair.{Pair}
 use Rattle.lstr_item.specs.declared.capture.Captures.{Captures}
-use Rattle.lstr_item.specs.declared.capture.Close.{Close}
-use Rattle.lstr_item.specs.contracts.capture.Pair as pair
-
--- owning captures tells that there are 32 pairs, of what stands for them in memory
-pub all_pairs : (pairs : List Pair) → length (map (pair.the_field).into pairs) ≡ 32 → length pairs ≡ 32
-all_pairs pairs e = sym (length-map pairs (pair.the_field).into) ∙ e
 
 -- ---- One capture, by its length
 
@@ -48,11 +41,11 @@ module _ (start len : ℕ) where
       by_test (λ c. start_of c ≡ start) (eqb len unfinished) _ _ (λ _. refl)
       (λ _. by_test (λ c. start_of c ≡ start) (eqb len positional) _ _ (λ _. refl) (λ _. refl))
 
-  stays_none : (len ≡ unfinished → ⊥) → open_by (is_finished (capture_of start len)) none ≡ none
+  stays_none : (len ≡ unfinished → ⊥) → open_by (is_finished (capture_of start len)) None ≡ None
   unfolding capture_of when◌then◌else◌
   stays_none e =
       rw (ne_eqb len unfinished e)
-      (by_test (λ c. open_by (is_finished c) none ≡ none) (eqb len positional) (position start) (closed start len) (λ _. refl) (λ _. refl))
+      (by_test (λ c. open_by (is_finished c) None ≡ None) (eqb len positional) (position start) (closed start len) (λ _. refl) (λ _. refl))
 
 -- ---- The pairs as a list of captures
 
@@ -94,61 +87,46 @@ pairs_set (suc n) [] i q = refl
 pairs_set (suc n) (p ∷ pairs) zero q = refl
 pairs_set (suc n) (p ∷ pairs) (suc i) q = ap (λ (l : List Capture). of_pair p ∷ l) (pairs_set n pairs i q)
 
--- ---- The captures of start_capture and of end_capture
+-- ---- The pairs after start_capture and after end_capture
 
-abbrev pub started : Captures → ℕ → ℕ → Captures
-started c place len = record { count = c.count + 1; pairs = set c.pairs c.count (record { start = place; len = len }) }
+abbrev Pairs : Type 0
+Pairs = List Pair
+
+-- the n pairs lie before place s
+abbrev pub EachIn : ℕ → ℕ → Pairs → Type 0
+EachIn s n pairs = (i : ℕ) → i < n → PairIn s (get_or pairs i no_pair)
+
+abbrev pub started : ℕ → Pairs → ℕ → ℕ → Pairs
+started n pairs place len = set pairs n (record { start = place; len = len })
 
 -- the capture i, which began at `start`, ends at `place`
-abbrev pub finished : Captures → ℕ → ℕ → ℕ → Captures
-finished c i start place = record { count = c.count; pairs = set c.pairs i (record { start = start; len = place - start }) }
+abbrev pub finished : Pairs → ℕ → ℕ → ℕ → Pairs
+finished pairs i start place = set pairs i (record { start = start; len = place - start })
 
-pub started_captures : (c : Captures) (place len : ℕ) → c.count < length c.pairs → captures_of (started c place len) ≡ captures_of c ++ (capture_of place len ∷ [])
-started_captures c place len h = pairs_more c.count c.pairs (record { start = place; len = len }) h
-
-pub finished_captures : (c : Captures) (i start place : ℕ) → place < positional
-    → captures_of (finished c i start place) ≡ set (captures_of c) i (closed start (place - start))
-finished_captures c i start place h =
-    pairs_set c.count c.pairs i (record { start = start; len = place - start })
-    ∙ ap (set (captures_of c) i) (is_closed start (place - start) (λ e. omega arith) (λ e. omega arith))
-
--- what holds of a new pair, of the empty one and of the pairs beside it holds of each pair after a store
-after_set : (P : Pair → Type 0) (l : List Pair) (k i : ℕ) (v : Pair) → P v → P no_pair → ((i ≡ k → ⊥) → P (get_or l i no_pair)) → P (get_or (set l k v) i no_pair)
-after_set P [] k i v pv pn h = pn
-after_set P (x ∷ l) zero zero v pv pn h = pv
-after_set P (x ∷ l) zero (suc i) v pv pn h = h (λ e. omega arith)
-after_set P (x ∷ l) (suc k) zero v pv pn h = h (λ e. omega arith)
-after_set P (x ∷ l) (suc k) (suc i) v pv pn h = after_set P l k i v pv pn (λ n. h (λ e. n (omega arith)))
+finished_captures : (n : ℕ) (pairs : Pairs) (i start place : ℕ) → place < positional
+    → pairs_of n (finished pairs i start place) ≡ set (pairs_of n pairs) i (closed start (place - start))
+finished_captures n pairs i start place h =
+    pairs_set n pairs i (record { start = start; len = place - start })
+    ∙ ap (set (pairs_of n pairs) i) (is_closed start (place - start) (λ e. omega arith) (λ e. omega arith))
 
 pair_later : (s t : ℕ) (q : Pair) → s ≤ t → PairIn s q → PairIn t q
 pair_later s t q h p = (omega (arith, p.0), λ l. omega (arith, p.1 l))
 
 pub sound_later : (c : Captures) (s t : ℕ) → s ≤ t → Sound s c → Sound t c
-sound_later c s t h w = record { few = w.few; each = λ i l. pair_later s t _ h (w.each i l) }
+sound_later c s t h w = record { each = λ i l. pair_later s t _ h (w.each i l) }
 
-pub sound_started : (c : Captures) (place len : ℕ) → positional ≤ len → c.count < 32 → Sound place c → Sound place (started c place len)
-sound_started c place len h k w =
-    record {
-      few = omega arith;
-      each = λ i l. after_set (PairIn place) c.pairs c.count i _ (omega arith, λ m. absurd (omega arith)) (omega arith, λ m. omega arith) (λ n. w.each i (omega arith));
-    }
-
-pub sound_finished : (c : Captures) (i start place : ℕ) → i < c.count → start ≡ (get_or c.pairs i no_pair).start → Sound place c → Sound place (finished c i start place)
-sound_finished c i start place h e w =
-    let p : start ≤ place = omega (arith, (w.each i h).0) in
-    record {
-      few = w.few;
-      each = λ j l. after_set (PairIn place) c.pairs i j _ (p, λ m. omega arith) (omega arith, λ m. omega arith) (λ _. w.each j l);
-    }
+pub sound_one : (place : ℕ) (q : Pair) (pairs : Pairs) → PairIn place q → EachIn place 1 (q ∷ pairs)
+sound_one place q pairs w zero h = w
+sound_one place q pairs w (suc i) h = absurd (omega arith)
 
 -- ---- capture_to_close, from the last pair on
 
-pub close_none : (n : ℕ) (pairs : List Pair) → n ≤ 0 → capture_to_close (pairs_of n pairs) ≡ none
+pub close_none : (n : ℕ) (pairs : List Pair) → n ≤ 0 → capture_to_close (pairs_of n pairs) ≡ None
 unfolding pairs_of capture_to_close latest_open
 close_none zero pairs h = refl
 close_none (suc n) pairs h = absurd (omega arith)
 
-closes_last : (n : ℕ) (pairs : List Pair) → (get_or pairs n no_pair).len ≡ unfinished → capture_to_close (pairs_of (suc n) pairs) ≡ some n
+closes_last : (n : ℕ) (pairs : List Pair) → (get_or pairs n no_pair).len ≡ unfinished → capture_to_close (pairs_of (suc n) pairs) ≡ Some n
 unfolding pairs_of capture_to_close latest_open
 closes_last n [] e = absurd (omega arith)
 closes_last zero (q ∷ pairs) e = rw (is_open q.start q.len e)
@@ -165,46 +143,70 @@ module _ (n : ℕ) (pairs : List Pair) (h : 0 < n) where
   one_before : n ≡ suc (n - 1)
   one_before = omega arith
 
-  pub close_last : (get_or pairs (n - 1) no_pair).len ≡ unfinished → capture_to_close (pairs_of n pairs) ≡ some (n - 1)
+  pub close_last : (get_or pairs (n - 1) no_pair).len ≡ unfinished → capture_to_close (pairs_of n pairs) ≡ Some (n - 1)
   close_last e = ap (λ (m : ℕ). capture_to_close (pairs_of m pairs)) one_before ∙ closes_last (n - 1) pairs e
 
   pub close_earlier : ((get_or pairs (n - 1) no_pair).len ≡ unfinished → ⊥) → capture_to_close (pairs_of n pairs) ≡ capture_to_close (pairs_of (n - 1) pairs)
   close_earlier e = ap (λ (m : ℕ). capture_to_close (pairs_of m pairs)) one_before ∙ passes_last (n - 1) pairs e
 
--- what is known of the capture to close, once its shape is
-pub close_seen : (c : Captures) {r : Close} (shape : Close) → r ≡ shape → (close_of r ≡ capture_to_close (captures_of c)) × CloseIn r c
-    → (close_of shape ≡ capture_to_close (captures_of c)) × CloseIn shape c
-close_seen c shape e h = subst (λ (x : Close). (close_of x ≡ capture_to_close (captures_of c)) × CloseIn x c) e h
+open_below : (done : Bool) (o : Option ℕ) (n i : ℕ) → ((j : ℕ) → o ≡ Some j → j < n) → open_by done o ≡ Some i → i < suc n
+open_below done (Some j) n i w e = let f : suc j ≡ i = cc in let g : j < n = w j refl in omega arith
+open_below true None n i w e = cc
+open_below false None n i w e = let f : ◌≡◌ {A = ℕ} 0 i = cc in omega arith
+
+-- the one to close is among the n
+pub close_below : (n : ℕ) (pairs : Pairs) (i : ℕ) → capture_to_close (pairs_of n pairs) ≡ Some i → i < n
+unfolding pairs_of capture_to_close latest_open
+close_below zero pairs i e = cc
+close_below (suc n) [] i e = cc
+close_below (suc n) (q ∷ pairs) i e = open_below _ _ n i (close_below n pairs) e
+
+-- the latest is the one to close where it is open
+module _ (n : ℕ) (pairs : Pairs) where
+  abbrev LatestToClose : Bool → Type 0
+  LatestToClose here = IsTrue here ↔ (capture_to_close (pairs_of n pairs) ≡ Some (n - 1))
+
+  pub none_is_open : n ≤ 0 → LatestToClose (ltb 0 n)
+  none_is_open h = let e = close_none n pairs h in subst LatestToClose (sym (le-ltb 0 n h)) (λ t. cc, λ f. cc)
+
+  latest_by : 0 < n → (b : Bool) → eqb (get_or pairs (n - 1) no_pair).len unfinished ≡ b → LatestToClose b
+  latest_by h true e = (λ _. close_last n pairs h (eqb-true _ _ e), λ _. refl)
+  latest_by h false e =
+      let closed_here = eqb-false (get_or pairs (n - 1) no_pair).len unfinished e in
+      (λ t. cc, λ f. let below = close_below (n - 1) pairs (n - 1) (sym (close_earlier n pairs h closed_here) ∙ f) in absurd (omega arith))
+
+  pub latest_is_open : 0 < n → LatestToClose (eqb (get_or pairs (n - 1) no_pair).len unfinished)
+  latest_is_open h = latest_by h _ refl
 
 -- ---- start_capture and end_capture, by what they find
 
-module _ (c : Captures) (pairs : length c.pairs ≡ 32) (few : c.count ≤ 32) (rest : Rest) (s l u : ℕ) where
+module _ (n : ℕ) (pairs : Pairs) (whole : length pairs ≡ 32) (few : n ≤ 32) (rest : Rest) (s l u : ℕ) where
   -- the rest at a new level, with these captures
   abbrev goes_on : List Capture → Outcome
   goes_on cs = new_level l u (λ m. rest s m cs u)
 
-  pub all_taken : (x : Capture) → 32 ≤ c.count → raised 8 u ≡ do_start_capture x rest s l (captures_of c) u
+  pub all_taken : (x : Capture) → 32 ≤ n → raised 8 u ≡ do_start_capture x rest s l (pairs_of n pairs) u
   unfolding do_start_capture when◌then◌else◌
-  all_taken x h = rw (pairs_length c.count c.pairs (omega arith), le-ltb c.count 32 h)
+  all_taken x h = rw (pairs_length n pairs (omega arith), le-ltb n 32 h)
 
-  one_left : (x : Capture) → c.count < 32 → do_start_capture x rest s l (captures_of c) u ≡ goes_on (captures_of c ++ (x ∷ []))
+  one_left : (x : Capture) → n < 32 → do_start_capture x rest s l (pairs_of n pairs) u ≡ goes_on (pairs_of n pairs ++ (x ∷ []))
   unfolding do_start_capture when◌then◌else◌
-  one_left x h = rw (pairs_length c.count c.pairs (omega arith), lt-ltb c.count 32 h)
+  one_left x h = rw (pairs_length n pairs (omega arith), lt-ltb n 32 h)
 
-  pub starts_capture : (len : ℕ) → c.count < 32 → goes_on (captures_of (started c s len)) ≡ do_start_capture (capture_of s len) rest s l (captures_of c) u
-  starts_capture len h = ap goes_on (started_captures c s len (omega arith)) ∙ sym (one_left (capture_of s len) h)
+  pub starts_capture : (len : ℕ) → n < 32 → goes_on (pairs_of (n + 1) (started n pairs s len)) ≡ do_start_capture (capture_of s len) rest s l (pairs_of n pairs) u
+  starts_capture len h = ap goes_on (pairs_more n pairs (record { start = s; len = len }) (omega arith)) ∙ sym (one_left (capture_of s len) h)
 
-  pub none_to_close : none ≡ capture_to_close (captures_of c) → raised 5 u ≡ do_end_capture (capture_to_close (captures_of c)) rest s l (captures_of c) u
+  pub none_to_close : None ≡ capture_to_close (pairs_of n pairs) → raised 5 u ≡ do_end_capture (capture_to_close (pairs_of n pairs)) rest s l (pairs_of n pairs) u
   unfolding do_end_capture
-  none_to_close e = ap (λ (o : Option ℕ). do_end_capture o rest s l (captures_of c) u) e
+  none_to_close e = ap (λ (o : Option ℕ). do_end_capture o rest s l (pairs_of n pairs) u) e
 
-  pub ends_capture : (i : ℕ) → some i ≡ capture_to_close (captures_of c) → i < c.count → s < positional
-      → goes_on (captures_of (finished c i (get_or c.pairs i no_pair).start s)) ≡ do_end_capture (capture_to_close (captures_of c)) rest s l (captures_of c) u
+  pub ends_capture : (i : ℕ) → Some i ≡ capture_to_close (pairs_of n pairs) → i < n → s < positional
+      → goes_on (pairs_of n (finished pairs i (get_or pairs i no_pair).start s)) ≡ do_end_capture (capture_to_close (pairs_of n pairs)) rest s l (pairs_of n pairs) u
   unfolding do_end_capture
   ends_capture i e h k =
-      ap goes_on (finished_captures c i (get_or c.pairs i no_pair).start s k)
-      ∙ ap (λ (start : ℕ). goes_on (set (captures_of c) i (closed start (s - start)))) (sym (pairs_start c.count c.pairs i h (omega arith)))
-      ∙ ap (λ (o : Option ℕ). do_end_capture o rest s l (captures_of c) u) e
+      ap goes_on (finished_captures n pairs i (get_or pairs i no_pair).start s k)
+      ∙ ap (λ (start : ℕ). goes_on (set (pairs_of n pairs) i (closed start (s - start)))) (sym (pairs_start n pairs i h (omega arith)))
+      ∙ ap (λ (o : Option ℕ). do_end_capture o rest s l (pairs_of n pairs) u) e
 
 -- ---- match_capture, by its tests
 
@@ -259,80 +261,29 @@ module _ (sub : List ℕ) (n : ℕ) (pairs : List Pair) (d : ℕ) (rest : Rest) 
         unfolding match_capture when◌then◌else◌
         equal_bytes m q = sym (refers_closed ∙ rw (le-leb len (length sub - s) m, q))
 
--- ---- What is kept: pair j at the places 2 j and 2 j + 1
+-- ---- What is kept
 
--- the first n pairs are
-pub record Holds (n : ℕ) (pairs : List Pair) (kept : List ℕ) : Type 0 where
-  pub whole : length kept ≡ 64
-  pub starts : (j : ℕ) → j < n → get_or kept (j + j) 0 ≡ (get_or pairs j no_pair).start
-  pub lengths : (j : ℕ) → j < n → get_or kept (j + j + 1) 0 ≡ (get_or pairs j no_pair).len
-
-pub holds_none : (pairs : List Pair) (kept : List ℕ) → length kept ≡ 64 → Holds 0 pairs kept
-holds_none pairs kept e = record { whole = e; starts = λ j h. absurd (omega arith); lengths = λ j h. absurd (omega arith) }
-
-module _ (n : ℕ) (pairs : List Pair) (kept : List ℕ) (h : n < 32) (w : Holds n pairs kept) where
-  abbrev half : List ℕ
-  half = set kept (2 * n) (get_or pairs n no_pair).start
-
-  abbrev after : List ℕ
-  after = set half (2 * n + 1) (get_or pairs n no_pair).len
-
-  pub half_room : 2 * n + 1 < length half
-  half_room = omega (arith, w.whole, length-set kept (2 * n) (get_or pairs n no_pair).start)
-
-  beside : (k : ℕ) → k < 2 * n → get_or after k 0 ≡ get_or kept k 0
-  beside k l =
-      get_or-set_other half (2 * n + 1) k (get_or pairs n no_pair).len 0 (λ q. omega arith)
-      ∙ get_or-set_other kept (2 * n) k (get_or pairs n no_pair).start 0 (λ q. omega arith)
-
-  start_here : get_or after (2 * n) 0 ≡ (get_or pairs n no_pair).start
-  start_here =
-      get_or-set_other half (2 * n + 1) (2 * n) (get_or pairs n no_pair).len 0 (λ q. omega arith)
-      ∙ get_or-set_same kept (2 * n) (get_or pairs n no_pair).start 0 (omega (arith, w.whole))
-
-  length_here : get_or after (2 * n + 1) 0 ≡ (get_or pairs n no_pair).len
-  length_here = get_or-set_same half (2 * n + 1) (get_or pairs n no_pair).len 0 half_room
-
-  pub holds_more : Holds (n + 1) pairs after
-  holds_more =
-      record {
-        whole = length-set half (2 * n + 1) (get_or pairs n no_pair).len ∙ (length-set kept (2 * n) (get_or pairs n no_pair).start ∙ w.whole);
-        starts = λ j l.
-            ⊎_elim (λ m. beside (j + j) (omega arith) ∙ w.starts j m)
-            (λ m. let q : n ≡ j = omega arith in let d : j + j ≡ 2 * n = omega arith in rw (d, ← q) start_here) (order j n);
-        lengths = λ j l.
-            ⊎_elim (λ m. beside (j + j + 1) (omega arith) ∙ w.lengths j m)
-            (λ m. let q : n ≡ j = omega arith in let d : j + j ≡ 2 * n = omega arith in rw (d, ← q) length_here) (order j n);
-      }
-
-read_back : (n : ℕ) (pairs : List Pair) (kept : List ℕ) → n ≤ length pairs → n + n ≤ length kept
-    → ((j : ℕ) → j < n → get_or kept (j + j) 0 ≡ (get_or pairs j no_pair).start)
-    → ((j : ℕ) → j < n → get_or kept (j + j + 1) 0 ≡ (get_or pairs j no_pair).len)
-    → captures_in n kept ≡ pairs_of n pairs
-unfolding captures_in pairs_of
-read_back zero pairs kept h l s t = refl
-read_back (suc n) [] kept h l s t = absurd (omega arith)
-read_back (suc n) (q ∷ pairs) [] h l s t = absurd (omega arith)
-read_back (suc n) (q ∷ pairs) (a ∷ []) h l s t = absurd (omega arith)
-read_back (suc n) (q ∷ pairs) (a ∷ b ∷ kept) h l s t =
-    let first : a ≡ q.start = s 0 (omega arith) in
-    let second : b ≡ q.len = t 0 (omega arith) in
-    ap₂ (λ (c : Capture) (cs : List Capture). c ∷ cs) (ap₂ capture_of first second)
-    (read_back n pairs kept (omega arith) (omega arith)
-    (λ j m.
-    let e : suc (suc (j + j)) ≡ suc j + suc j = omega arith in
-    ap (λ (k : ℕ). get_or (a ∷ b ∷ kept) k 0) e ∙ s (suc j) (omega arith))
-    (λ j m.
-    let e : suc (suc (j + j + 1)) ≡ suc j + suc j + 1 = omega arith in
-    ap (λ (k : ℕ). get_or (a ∷ b ∷ kept) k 0) e ∙ t (suc j) (omega arith)))
-
-module _ (c : Captures) (kept : List ℕ) (few : c.count ≤ 32) (h : Holds c.count c.pairs kept) where
-  pub kept_captures : length c.pairs ≡ 32 → captures_in c.count kept ≡ captures_of c
-  kept_captures e = read_back c.count c.pairs kept (omega arith) (omega (arith, h.whole)) h.starts h.lengths
-
-  -- and lies where the captures do
-  pub kept_in : (s : ℕ) → Sound s c → KeptIn s c.count kept
-  kept_in s w = record { few = few; room = omega (arith, h.whole); each = λ i l. rw (h.starts i l, h.lengths i l) (w.each i l) }
-
-pub kept_later : (n : ℕ) (kept : List ℕ) (s t : ℕ) → s ≤ t → KeptIn s n kept → KeptIn t n kept
+pub kept_later : (n : ℕ) (kept : List Pair) (s t : ℕ) → s ≤ t → KeptIn s n kept → KeptIn t n kept
 kept_later n kept s t h w = record { few = w.few; room = w.room; each = λ i l. pair_later s t _ h (w.each i l) }
+
+-- lists whose first n pairs are the same
+pub same_pairs : (n : ℕ) (a b : Pairs) → n ≤ length a → n ≤ length b → ((k : ℕ) → k < n → get_or a k no_pair ≡ get_or b k no_pair) → pairs_of n a ≡ pairs_of n b
+unfolding pairs_of
+same_pairs zero a b la lb h = refl
+same_pairs (suc n) [] b la lb h = absurd (omega arith)
+same_pairs (suc n) (x ∷ a) [] la lb h = absurd (omega arith)
+same_pairs (suc n) (x ∷ a) (y ∷ b) la lb h =
+    ap (λ (q : Pair). of_pair q ∷ pairs_of n a) (h 0 (omega arith))
+    ∙ ap (λ (cs : List Capture). of_pair y ∷ cs) (same_pairs n a b (omega arith) (omega arith) (λ k l. h (suc k) (omega arith)))
+
+-- the first n pairs are all that the list of them has
+pub captures_part : (n : ℕ) (kept : List Pair) → captures_in (take n kept) ≡ pairs_of n kept
+unfolding captures_in pairs_of
+captures_part zero kept = refl
+captures_part (suc n) [] = refl
+captures_part (suc n) (q ∷ kept) = ap (λ (cs : List Capture). of_pair q ∷ cs) (captures_part n kept)
+
+pub kept_part : (s n : ℕ) (kept : List Pair) → KeptIn s n kept → KeptIn s (length (take n kept)) (take n kept)
+kept_part s n kept w =
+    let e : length (take n kept) ≡ n = length-take-le n kept w.room in
+    record { few = omega (arith, w.few); room = omega arith; each = λ i l. let k : i < n = omega arith in rw (get_or-take n kept i no_pair k) (w.each i k) }

@@ -1,12 +1,12 @@
 -- What the code's item says of the items from its place on, a law for each way that it is read.
 -- Assumes nothing.
+use Rattle.std.specs.Prelude.{Option, None, Some}
 use Prim.Native.Nat.{ℕ, ◌+◌, ◌-◌, ◌≤◌, ◌<◌}
 use native.Mathlib.Omega.{arith}
 use mathlib.Core.Path.{◌≡◌, refl, sym, ap, subst, ◌∙◌}
 use mathlib.Core.Logic.{◌⊎◌, ⊎_elim}
 use mathlib.Core.Bool.{false, ◌&&◌}
 use mathlib.Core.List.{List, [], ◌∷◌}
-use mathlib.Core.Option.{Option, none, some}
 use lib.ListN.{length, get_or-eq_default}
 use lib.Dec.{eqb}
 use borrow.Author.Tests.{lt-ltb, le-ltb, eq-eqb, ne_eqb}
@@ -54,12 +54,9 @@ use Rattle.luck_pattern.specs.Items.{
   items,
 }
 use Rattle.luck_pattern.proofs.Patterns as patterns
-use Rattle.lstr_item.specs.Inner.{single_of, SingleIn, closing_of, ClosesIn, repeat_as, repeat_in, repeat_read, Then, Single-then, ItemAt}
-use Rattle.lstr_class.specs.Inner.{found_of}
+use Rattle.lstr_item.specs.Inner.{single_of, SingleIn, closing_of, repeat_as, repeat_in, repeat_read, Then, Single-then, ItemAt}
 use Rattle.lstr_item.specs.declared.item.Item.{Item as Coded}
 use Rattle.lstr_item.specs.declared.item.Item.TheVariants as coded
-use Rattle.lstr_class.specs.declared.subject.Found.{Found}
-use Rattle.lstr_class.specs.declared.subject.Found.TheVariants as found
 use Rattle.lstr_item.proofs.Items.{items_at, IsRepeat, is_repeat}
 
 -- ---- The first member of a set
@@ -80,13 +77,13 @@ module _ (pat : List ℕ) (p : ℕ) where
 
 -- the place of the closing bracket, by what the check reads
 abbrev closed_by : Scanned → Option ℕ
-closed_by (past q) = some (q - 1)
-closed_by (fault a) = none
+closed_by (past q) = Some (q - 1)
+closed_by (fault a) = None
 
 module _ (pat : List ℕ) (p : ℕ) where
   closed_as_lem : (s : SetEnd) → closed_by (set_as false pat p s) ≡ closing_of s
   unfolding set_as closed_as reversed_of when◌then◌else◌
-  closed_as_lem (closes_at e) = let k : e + 1 - 1 ≡ e = omega arith in ap some k
+  closed_as_lem (closes_at e) = let k : e + 1 - 1 ≡ e = omega arith in ap Some k
   closed_as_lem (cut_at e) = refl
   closed_as_lem unclosed = refl
 
@@ -96,14 +93,14 @@ module _ (pat : List ℕ) (p : ℕ) where
 
   -- the first member stands at m, and the walk is at a place
   module _ (m at : ℕ) (whole : patterns.members pat at (eqb at m) ≡ set_end pat p) where
-    pub closes_nowhere : length pat ≤ at → none ≡ closing_of (set_end pat p)
+    pub closes_nowhere : length pat ≤ at → None ≡ closing_of (set_end pat p)
     unfolding members_end
     closes_nowhere h = ap closing_of (sym (walk_end (member_turn pat) members_end (length pat) at (eqb at m) h) ∙ whole)
 
-    pub closes_here : at < length pat → byte_at pat at ≡ 93 → m < at → some at ≡ closing_of (set_end pat p)
-    closes_here h b f = let k : at ≡ at + 1 - 1 = omega arith in ap some k ∙ closed_read (past (at + 1)) (patterns.set_closes pat p m at whole h false b f (patterns.untested false refl pat p at))
+    pub closes_here : at < length pat → byte_at pat at ≡ 93 → m < at → Some at ≡ closing_of (set_end pat p)
+    closes_here h b f = let k : at ≡ at + 1 - 1 = omega arith in ap Some k ∙ closed_read (past (at + 1)) (patterns.set_closes pat p m at whole h false b f (patterns.untested false refl pat p at))
 
-    pub closes_cut : at < length pat → byte_at pat at ≡ 37 → length pat - at ≡ 1 → none ≡ closing_of (set_end pat p)
+    pub closes_cut : at < length pat → byte_at pat at ≡ 37 → length pat - at ≡ 1 → None ≡ closing_of (set_end pat p)
     closes_cut h b f = closed_read _ (patterns.set_cut pat p m at whole h false b f)
 
 -- ---- A repeat
@@ -144,12 +141,12 @@ as_read minus = refl
 -- ---- A set, by what the code found
 
 abbrev set_by : List ℕ → ℕ → Option ℕ → Read
-set_by pat p (some e) = read_single pat (among_set (set_of pat p e)) (e + 1)
-set_by pat p none = last (raises 2)
+set_by pat p (Some e) = read_single pat (among_set (set_of pat p e)) (e + 1)
+set_by pat p None = last (raises 2)
 
 abbrev frontier_by : List ℕ → ℕ → Option ℕ → Read
-frontier_by pat o (some e) = item (frontier (set_of pat o e)) (e + 1)
-frontier_by pat o none = last (raises 2)
+frontier_by pat o (Some e) = item (frontier (set_of pat o e)) (e + 1)
+frontier_by pat o None = last (raises 2)
 
 set_by_lem : (pat : List ℕ) (p : ℕ) (s : SetEnd) → read_set pat p s ≡ set_by pat p (closing_of s)
 unfolding read_set
@@ -226,29 +223,29 @@ module _ (pat : List ℕ) (p : ℕ) (here : p < length pat) where
 
   -- ---- A set
 
-  module _ (b : byte_at pat p ≡ 91) (r : Found) (is : found_of r ≡ closing_of (set_end pat p)) where
-    read_set_lem : (x : Found) → r ≡ x → read_item pat p ≡ set_by pat p (found_of x)
+  module _ (b : byte_at pat p ≡ 91) where
+    read_set_lem : (o : Option ℕ) → o ≡ closing_of (set_end pat p) → read_item pat p ≡ set_by pat p o
     unfolding read_head
-    read_set_lem x e =
+    read_set_lem o is =
         read_as at_set (ap head_of b ∙ (unfold head_of when◌then◌else◌ in refl)) ∙ set_by_lem pat p (set_end pat p)
-        ∙ ap (set_by pat p) (sym is ∙ ap found_of e)
+        ∙ ap (set_by pat p) (sym is)
 
-    pub set_at : ClosesIn r p (length pat) → (e : ℕ) → r ≡ found.At e → (t : Coded) → t ≡ repeat_read (e + 1) (repeat_of (byte_at pat (e + 1))) → ItemAt pat p t
+    pub set_at : (e : ℕ) → Some e ≡ closing_of (set_end pat p) → p < e → e < length pat
+        → (t : Coded) → t ≡ repeat_read (e + 1) (repeat_of (byte_at pat (e + 1))) → ItemAt pat p t
     unfolding single_of when◌then◌else◌
-    set_at within e f =
-        let i : (p < e) × (e < length pat) = subst (λ (x : Found). ClosesIn x p (length pat)) f within in
+    set_at e is f g =
         let k : e ≡ e + 1 - 1 = omega arith in
         let lies : SingleIn pat p (e + 1) = record {
-          some = omega (arith, i.0);
-          inside = omega (arith, i.1);
-          escape = λ _. omega (arith, i.0);
-          set = λ _. omega (arith, i.0);
+          some = omega arith;
+          inside = omega arith;
+          escape = λ _. omega arith;
+          set = λ _. omega arith;
         } in
         let same : among_set (set_of pat p e) ≡ single_of pat p (e + 1) = rw (b, ← k) in
-        then_single (e + 1) lies (among_set (set_of pat p e)) same (read_set_lem (found.At e) f)
+        then_single (e + 1) lies (among_set (set_of pat p e)) same (read_set_lem (Some e) is)
 
-    pub set_unclosed : r ≡ found.Nothing → items pat p ≡ raises 2 ∷ []
-    set_unclosed f = then_last (raises 2) (read_set_lem found.Nothing f)
+    pub set_unclosed : None ≡ closing_of (set_end pat p) → items pat p ≡ raises 2 ∷ []
+    set_unclosed is = then_last (raises 2) (read_set_lem None is)
 
   -- ---- A byte
 
@@ -354,21 +351,20 @@ module _ (pat : List ℕ) (p : ℕ) (here : p < length pat) where
         pub frontier_last : length pat ≤ p + 2 → items pat p ≡ raises 3 ∷ []
         frontier_last h = frontier_no_set (λ g. let z : byte_at pat (p + 2) ≡ 0 = get_or-eq_default pat 0 h in omega arith)
 
-        module _ (g : byte_at pat (p + 2) ≡ 91) (r : Found) (is : found_of r ≡ closing_of (set_end pat (p + 2))) where
-          frontier_found : (x : Found) → r ≡ x → read_item pat p ≡ frontier_by pat (p + 2) (found_of x)
+        module _ (g : byte_at pat (p + 2) ≡ 91) where
+          frontier_found : (o : Option ℕ) → o ≡ closing_of (set_end pat (p + 2)) → read_item pat p ≡ frontier_by pat (p + 2) o
           unfolding read_escape
-          frontier_found x e =
+          frontier_found o is =
               read_frontier_lem ∙ if_true _ _ _ (eq-eqb (byte_at pat (p + 2)) 91 g) ∙ frontier_by_lem pat (p + 2) (set_end pat (p + 2))
-              ∙ ap (frontier_by pat (p + 2)) (sym is ∙ ap found_of e)
+              ∙ ap (frontier_by pat (p + 2)) (sym is)
 
-          pub frontier_at : ClosesIn r (p + 2) (length pat) → (e : ℕ) → r ≡ found.At e → ItemAt pat p (coded.Frontier (p + 2) (e + 1))
-          frontier_at within e h =
-              let i : (p + 2 < e) × (e < length pat) = subst (λ (x : Found). ClosesIn x (p + 2) (length pat)) h within in
+          pub frontier_at : (e : ℕ) → Some e ≡ closing_of (set_end pat (p + 2)) → p + 2 < e → e < length pat → ItemAt pat p (coded.Frontier (p + 2) (e + 1))
+          frontier_at e is h i =
               let k : e ≡ e + 1 - 1 = omega arith in (
                 then_on (frontier (set_of pat (p + 2) (e + 1 - 1))) (e + 1)
-                    (frontier_found (found.At e) h ∙ ap (λ (x : ℕ). item (frontier (set_of pat (p + 2) x)) (e + 1)) k) (omega (arith, i.0)) (omega (arith, i.1)),
-                omega (arith, i.0),
+                    (frontier_found (Some e) is ∙ ap (λ (x : ℕ). item (frontier (set_of pat (p + 2) x)) (e + 1)) k) (omega arith) (omega arith),
+                omega arith,
               )
 
-          pub frontier_unclosed : r ≡ found.Nothing → items pat p ≡ raises 2 ∷ []
-          frontier_unclosed h = then_last (raises 2) (frontier_found found.Nothing h)
+          pub frontier_unclosed : None ≡ closing_of (set_end pat (p + 2)) → items pat p ≡ raises 2 ∷ []
+          frontier_unclosed is = then_last (raises 2) (frontier_found None is)

@@ -3,7 +3,7 @@
 use Prim.Native.Nat.{ℕ, zero, suc, ◌+◌, ◌-◌, ◌≤◌, ◌<◌}
 use Prim.Native.Char.{code}
 use native.Mathlib.Omega.{arith}
-use mathlib.Core.Path.{◌≡◌}
+use mathlib.Core.Path.{◌≡◌, sym, ◌∙◌}
 use mathlib.Core.Bool.{Bool, true, false}
 use mathlib.Core.List.{List}
 use lib.ListN.{length}
@@ -11,7 +11,7 @@ use lib.Dec.{eqb, ltb}
 use borrow.Author.Tests.{lt-ltb, le-ltb, ltb-true, ne_eqb}
 use Rattle.luck_text.specs.Bytes.{when◌then◌else◌, byte_at}
 use Rattle.luck_text.proofs.Cases.{and_left}
-use Rattle.luck_pattern.specs.Items.{Set, Single, class, set_of}
+use Rattle.luck_pattern.specs.Items.{Set, Single, set_of}
 use Rattle.lstr_item.specs.Single.{in_set, fits}
 use Rattle.lstr_class.specs.Subject.{byte_before}
 use Rattle.lstr_item.specs.Match.{is_frontier, fits_at, Reach, reached, spent, reach}
@@ -44,20 +44,27 @@ module _ (in_class : ℕ → ℕ → Bool) (sub pat : List ℕ) (p e s : ℕ) wh
     unfolding fits_at single_of fits when◌then◌else◌
     fits_byte a b d = rw (lt-ltb s (length sub) h, ne_eqb (byte_at pat p) (code ".") a, ne_eqb (byte_at pat p) (code "%") b, ne_eqb (byte_at pat p) (code "[") d)
 
--- ---- A class
+-- ---- What a byte is tested for, by the single's first byte
 
-pub of_class : (pat : List ℕ) (p e : ℕ) → byte_at pat p ≡ code "%" → class (byte_at pat (p + 1)) ≡ single_of pat p e
-unfolding single_of when◌then◌else◌
-of_class pat p e b = rw b
+module _ (in_class : ℕ → ℕ → Bool) (pat : List ℕ) (p e c : ℕ) where
+  abbrev Takes : Bool → Type 0
+  Takes r = r ≡ fits in_class (single_of pat p e) c
 
-module _ (in_class : ℕ → ℕ → Bool) (sub : List ℕ) (letter s : ℕ) where
-  pub class_end : length sub ≤ s → fits_at in_class sub (class letter) s ≡ false
-  unfolding fits_at
-  class_end h = rw (le-ltb s (length sub) h)
+  pub any_takes : byte_at pat p ≡ code "." → Takes true
+  unfolding single_of fits when◌then◌else◌
+  any_takes b = rw b
 
-  pub class_fits : s < length sub → in_class letter (byte_at sub s) ≡ fits_at in_class sub (class letter) s
-  unfolding fits_at fits
-  class_fits h = rw (lt-ltb s (length sub) h)
+  pub class_takes : byte_at pat p ≡ code "%" → Takes (in_class (byte_at pat (p + 1)) c)
+  unfolding single_of fits when◌then◌else◌
+  class_takes b = rw b
+
+  pub set_takes : byte_at pat p ≡ code "[" → Takes (in_set in_class (set_of pat p (e - 1)) c)
+  unfolding single_of fits when◌then◌else◌
+  set_takes b = rw b
+
+  pub byte_takes : (byte_at pat p ≡ code "." → ⊥) → (byte_at pat p ≡ code "%" → ⊥) → (byte_at pat p ≡ code "[" → ⊥) → Takes (eqb (byte_at pat p) c)
+  unfolding single_of fits when◌then◌else◌
+  byte_takes a b d = rw (ne_eqb (byte_at pat p) (code ".") a, ne_eqb (byte_at pat p) (code "%") b, ne_eqb (byte_at pat p) (code "[") d)
 
 module _ (in_class : ℕ → ℕ → Bool) (sub : List ℕ) where
   -- ---- Frontiers
@@ -74,6 +81,10 @@ module _ (in_class : ℕ → ℕ → Bool) (sub : List ℕ) where
   -- ---- Repeats
 
   module _ (x : Single) (s : ℕ) where
+    pub fits_here : s < length sub → fits in_class x (byte_at sub s) ≡ fits_at in_class sub x s
+    unfolding fits_at
+    fits_here h = rw (lt-ltb s (length sub) h)
+
     pub fits_inside : fits_at in_class sub x s ≡ true → s < length sub
     unfolding fits_at
     fits_inside e = ltb-true s (length sub) (and_left (ltb s (length sub)) (fits in_class x (byte_at sub s)) e)
@@ -87,10 +98,17 @@ module _ (in_class : ℕ → ℕ → Bool) (sub : List ℕ) where
       spent_by zero h = rw (le-ltb u budget h)
       spent_by (suc n) h = rw (le-ltb u budget h)
 
+      pub end_spent : budget ≤ u → reach in_class sub budget x 0 s u ≡ spent u
+      end_spent h = spent_by 0 h
+
       pub reach_spent : budget ≤ u → reach_from s u ≡ spent u
       reach_spent h = spent_by (length sub - s) h
 
       module _ (h : u < budget) where
+        pub end_reached : reach in_class sub budget x 0 s u ≡ reached s (u + 1)
+        unfolding reach when◌then◌else◌
+        end_reached = rw (lt-ltb u budget h)
+
         stop_by : (n : ℕ) → fits_at in_class sub x s ≡ false → reach in_class sub budget x n s u ≡ reached s (u + 1)
         unfolding reach when◌then◌else◌
         stop_by zero e = rw (lt-ltb u budget h)
@@ -104,3 +122,10 @@ module _ (in_class : ℕ → ℕ → Bool) (sub : List ℕ) where
         reach_more e =
             let n : length sub - s ≡ suc (length sub - (s + 1)) = omega (arith, fits_inside e) in
             rw (n, lt-ltb u budget h, e)
+
+      -- the tests up to the subject's end make all of it
+      pub reach_rest : (whole r : Reach) → whole ≡ reach_from s u → length sub ≤ s → s ≤ length sub → r ≡ reach in_class sub budget x 0 (length sub) u → r ≡ whole
+      reach_rest whole r e f g k =
+          let n : length sub - s ≡ 0 = omega arith in
+          let t : s ≡ length sub = omega arith in
+          k ∙ sym (e ∙ rw (n, t))

@@ -1,11 +1,11 @@
 -- Laws of matching from a place of the pattern on: levels, and a turn for each item.
 -- Assumes nothing.
+use Rattle.std.specs.Prelude.{None, Some}
 use Prim.Native.Nat.{ℕ, ◌+◌, ◌≤◌, ◌<◌}
 use native.Mathlib.Omega.{arith}
 use mathlib.Core.Path.{◌≡◌, refl, sym, ap, ◌∙◌}
 use mathlib.Core.Bool.{Bool, true, false}
 use mathlib.Core.List.{List, [], ◌∷◌}
-use mathlib.Core.Option.{none, some}
 use lib.ListN.{length}
 use borrow.Author.Tests.{lt-ltb, le-ltb, eq-eqb, ne_eqb}
 use Rattle.luck_text.specs.Bytes.{when◌then◌else◌}
@@ -13,7 +13,7 @@ use Rattle.luck_text.proofs.Cases.{if_true, if_false}
 use Rattle.luck_pattern.specs.Items.{Set, Single, Repeat, once, optional, star, plus, minus, repeat_width, Item, start_capture, position_capture, end_capture, end_anchor, balance, frontier, back_reference, single, raises, items}
 use Rattle.lstr_item.specs.Match.{Capture, opened, position, capture_to_close, Outcome, matched, failed, stopped, raised, Rest, due, new_level, do_start_capture, do_end_capture, do_back_reference, goes_on_at, is_frontier, passed_over, fits_at, expand, do_item, match}
 use Rattle.lstr_class.specs.Subject.{match_balance}
-use Rattle.lstr_item.specs.Inner.{Then, is_once, has_to_fit, is_greedy}
+use Rattle.lstr_item.specs.Inner.{Then, is_once, has_to_fit}
 
 -- ---- Levels
 
@@ -85,16 +85,6 @@ module _ (pat : List ℕ) (p e : ℕ) (x : Single) (k : Repeat) (t : Then pat p 
   pub behind_repeat : is_once k ≡ false → (p < e + 1) × (e + 1 ≤ length pat)
   behind_repeat h = let w = repeat_width_lem k h in (omega (arith, t.further), omega (arith, t.inside))
 
-  greedy_repeats : (r : Repeat) → is_greedy r ≡ true → is_once r ≡ false
-  greedy_repeats once g = absurd (false_true g)
-  greedy_repeats optional g = refl
-  greedy_repeats star g = refl
-  greedy_repeats plus g = refl
-  greedy_repeats minus g = refl
-
-  pub behind_greedy : is_greedy k ≡ true → (p < e + 1) × (e + 1 ≤ length pat)
-  behind_greedy g = behind_repeat (greedy_repeats k g)
-
 -- ---- A turn
 
 module _ (in_class : ℕ → ℕ → Bool) (sub pat : List ℕ) (budget : ℕ) where
@@ -152,11 +142,11 @@ module _ (in_class : ℕ → ℕ → Bool) (sub pat : List ℕ) (budget : ℕ) w
       unfolding do_item
       at_balance x y t = item (balance x y) q t
 
-      pub balanced : (x y e : ℕ) → Then pat p (balance x y) q → some e ≡ match_balance sub x y s → on q e l cs (u + 1) ≡ on p s l cs u
+      pub balanced : (x y e : ℕ) → Then pat p (balance x y) q → Some e ≡ match_balance sub x y s → on q e l cs (u + 1) ≡ on p s l cs u
       unfolding goes_on_at
       balanced x y e t f = ap (λ o. goes_on_at o (on q) l cs (u + 1)) f ∙ at_balance x y t
 
-      pub unbalanced : (x y : ℕ) → Then pat p (balance x y) q → none ≡ match_balance sub x y s → failed (u + 1) ≡ on p s l cs u
+      pub unbalanced : (x y : ℕ) → Then pat p (balance x y) q → None ≡ match_balance sub x y s → failed (u + 1) ≡ on p s l cs u
       unfolding goes_on_at
       unbalanced x y t f = ap (λ o. goes_on_at o (on q) l cs (u + 1)) f ∙ at_balance x y t
 

@@ -1,10 +1,9 @@
 -- What the code of items, singles and captures promises the matching and the writing of a match. This crate is for the
 -- trial only, and no contract of `gsub` rests on these.
 -- Assumes nothing.
-use Rattle.std.specs.Prelude.{ℕ, zero, suc, ◌+◌, ◌-◌, ◌<◌, ◌≤◌, ◌≡◌, Bool}
+use Rattle.std.specs.Prelude.{ℕ, zero, suc, ◌+◌, ◌-◌, ◌<◌, ◌≤◌, ◌≡◌, Bool, Option, None, Some, Result, Ok, Err, IfOk}
 use Rattle.std.specs.Prelude.{true, false, List, [], ◌∷◌, length, get_or, eqb}
 use Prim.Native.Char.{code}
-use Rattle.std.proofs.Math.Option.{Option, none, some}
 use Rattle.luck_text.specs.Bytes.{when◌then◌else◌, byte_at}
 use Rattle.luck_pattern.specs.Reading.{SetEnd, closes_at, cut_at, unclosed}
 use Rattle.luck_pattern.specs.Items.{
@@ -33,28 +32,13 @@ use Rattle.luck_pattern.specs.Items.{
   repeat_width,
   items,
 }
-use Rattle.lstr_item.specs.Match.{
-  Capture,
-  opened,
-  position,
-  closed,
-  failed,
-  raised,
-  Rest,
-  Reach,
-  reached,
-  spent,
-  reach,
-}
-use Rattle.lstr_class.specs.declared.subject.Found.{Found}
-use Rattle.lstr_class.specs.declared.subject.Found.TheVariants as found
+use Rattle.lstr_item.specs.Match.{Capture, opened, position, closed, failed, raised, new_level, Rest, Reach, reached, spent}
+use Rattle.lstr_item.specs.Errors.{kind_of}
+use Rattle.lstr_item.specs.declared.error.LuaError.{LuaError}
 use Rattle.lstr_item.specs.declared.single.Reached.{Reached}
+use Rattle.lstr_item.specs.declared.single.Spent.{Spent}
 use Rattle.lstr_item.specs.declared.capture.Pair.{Pair}
 use Rattle.lstr_item.specs.declared.capture.Captures.{Captures}
-use Rattle.lstr_item.specs.declared.capture.Close.{Close}
-use Rattle.lstr_item.specs.declared.capture.Close.TheVariants as close
-use Rattle.lstr_item.specs.declared.capture.Held.{Held}
-use Rattle.lstr_item.specs.declared.capture.Held.TheVariants as held
 use Rattle.lstr_item.specs.declared.item.Item.{Item as Read}
 use Rattle.lstr_item.specs.declared.item.Item.TheVariants as read
 use Rattle.lstr_item.specs.declared.item.Repeat.{Repeat as Repeated}
@@ -77,15 +61,12 @@ pub record SingleIn (pat : List ℕ) (p e : ℕ) : Type 0 where
   pub escape : byte_at pat p ≡ code "%" → p + 1 < e
   pub set : byte_at pat p ≡ code "[" → p + 1 < e
 
-abbrev pub reach_of : Reached → Reach
-reach_of r = elim r.is_spent [ true ↦ spent r.steps | false ↦ reached r.end r.steps ]
+abbrev pub reach_of : Result Reached Spent → Reach
+reach_of (Ok r) = reached r.end r.steps
+reach_of (Err r) = spent r.steps
 
--- how far a class fits
-abbrev pub class_reach : (ℕ → ℕ → Bool) → List ℕ → ℕ → ℕ → ℕ → ℕ → Reach
-class_reach in_class sub budget letter s u = reach in_class sub budget (class letter) (length sub - s) s u
-
-abbrev pub ReachIn : Reached → ℕ → ℕ → Type 0
-ReachIn r s len = (s ≤ r.end) × (r.end ≤ len)
+abbrev pub ReachIn : Result Reached Spent → ℕ → ℕ → Type 0
+ReachIn r s len = IfOk r (λ at. (s ≤ at.end) × (at.end ≤ len))
 
 -- ---- Captures
 
@@ -112,56 +93,46 @@ pairs_of (suc n) (q ∷ pairs) = capture_of q.start q.len ∷ pairs_of n pairs
 abbrev pub captures_of : Captures → List Capture
 captures_of captures = pairs_of captures.count captures.pairs
 
--- the first n that were kept: starts at the even places, lengths at the odd ones
-unfoldable pub captures_in : ℕ → List ℕ → List Capture
-captures_in zero kept = []
-captures_in (suc n) [] = []
-captures_in (suc n) (start ∷ []) = []
-captures_in (suc n) (start ∷ len ∷ kept) = capture_of start len ∷ captures_in n kept
+-- all of these pairs
+unfoldable pub captures_in : List Pair → List Capture
+captures_in [] = []
+captures_in (q ∷ pairs) = capture_of q.start q.len ∷ captures_in pairs
 
 -- they lie before place s: each starts there at the latest, and a closed one ends there at the latest
 abbrev pub PairIn : ℕ → Pair → Type 0
 PairIn s q = (q.start ≤ s) × (q.len < positional → q.start + q.len ≤ s)
 
 pub record Sound (s : ℕ) (captures : Captures) : Type 0 where
-  pub few : captures.count ≤ 32
   pub each : (i : ℕ) → i < captures.count → PairIn s (get_or captures.pairs i no_pair)
 
--- the same of what was kept, n pairs
-pub record KeptIn (s n : ℕ) (kept : List ℕ) : Type 0 where
+-- the same of the first n pairs that were kept
+pub record KeptIn (s n : ℕ) (kept : List Pair) : Type 0 where
   pub few : n ≤ 32
-  pub room : n + n ≤ length kept
-  pub each : (i : ℕ) → i < n → PairIn s (record { start = get_or kept (i + i) 0; len = get_or kept (i + i + 1) 0 })
+  pub room : n ≤ length kept
+  pub each : (i : ℕ) → i < n → PairIn s (get_or kept i no_pair)
 
-abbrev pub close_of : Close → Option ℕ
-close_of (close.Capture i) = some i
-close_of close.Nothing = none
+-- the rest goes on with these captures, at a new level, or Lua raises an error
+abbrev pub goes_on_as : Result Unit LuaError → Rest → Rest
+goes_on_as (Ok _) rest s l cs u = new_level l u (λ m. rest s m cs u)
+goes_on_as (Err e) rest s l cs u = raised (kind_of e) u
 
-abbrev pub CloseIn : Close → Captures → Type 0
-CloseIn (close.Capture i) captures = i < captures.count
-CloseIn close.Nothing captures = Unit {0}
+abbrev pub held_as : Result (Option ℕ) LuaError → Rest → Rest
+held_as (Err e) rest s l cs u = raised (kind_of e) u
+held_as (Ok None) rest s l cs u = failed u
+held_as (Ok (Some n)) rest s l cs u = rest (s + n) l cs u
 
-abbrev pub held_as : Held → Rest → Rest
-held_as held.Bad rest s l cs u = raised 7 u
-held_as held.Differs rest s l cs u = failed u
-held_as (held.Same n) rest s l cs u = rest (s + n) l cs u
-
-abbrev pub HeldIn : Held → ℕ → ℕ → Type 0
-HeldIn held.Bad s len = Unit {0}
-HeldIn held.Differs s len = Unit {0}
-HeldIn (held.Same n) s len = s + n ≤ len
+abbrev pub HeldIn : Result (Option ℕ) LuaError → ℕ → ℕ → Type 0
+HeldIn (Err e) s len = Unit {0}
+HeldIn (Ok None) s len = Unit {0}
+HeldIn (Ok (Some n)) s len = s + n ≤ len
 
 -- ---- Items
 
 -- the place of the closing `]`
 abbrev pub closing_of : SetEnd → Option ℕ
-closing_of (closes_at e) = some e
-closing_of (cut_at e) = none
-closing_of unclosed = none
-
-abbrev pub ClosesIn : Found → ℕ → ℕ → Type 0
-ClosesIn (found.At e) p len = (p < e) × (e < len)
-ClosesIn found.Nothing p len = Unit {0}
+closing_of (closes_at e) = Some e
+closing_of (cut_at e) = None
+closing_of unclosed = None
 
 -- what stands at place p
 abbrev pub AtSet : List ℕ → ℕ → Type 0
@@ -229,7 +200,7 @@ pub record Single-then (pat : List ℕ) (p e : ℕ) (k : Repeat) : Type 0 where
 abbrev pub ItemAt : List ℕ → ℕ → Read → Type 0
 ItemAt pat p read.End = items pat p ≡ []
 ItemAt pat p read.EndAnchor = items pat p ≡ end_anchor ∷ []
-ItemAt pat p (read.Raises kind) = items pat p ≡ raises kind ∷ []
+ItemAt pat p (read.Raises error) = items pat p ≡ raises (kind_of error) ∷ []
 ItemAt pat p (read.StartCapture q) = Then pat p start_capture q
 ItemAt pat p (read.PositionCapture q) = Then pat p position_capture q
 ItemAt pat p (read.EndCapture q) = Then pat p end_capture q

@@ -1,3 +1,4 @@
+pub mod Errors
 pub mod Single
 pub mod Match
 pub mod Inner

@@ -4,9 +4,8 @@
 -- In what follows s is a place of the subject, l the level, cs the captures in the order of their `(`, u the steps
 -- used.
 -- Assumes nothing.
-use Rattle.std.specs.Prelude.{ℕ, zero, suc, ◌+◌, ◌-◌, Bool, true, false, not, ◌&&◌}
+use Rattle.std.specs.Prelude.{ℕ, zero, suc, ◌+◌, ◌-◌, Bool, true, false, not, ◌&&◌, Option, None, Some}
 use Rattle.std.specs.Prelude.{List, [], ◌∷◌, ◌++◌, length, get_or, set, eqb, leb, ltb}
-use Rattle.std.proofs.Math.Option.{Option, none, some}
 use Rattle.luck_text.specs.Bytes.{when◌then◌else◌, byte_at}
 use Rattle.luck_pattern.specs.Captures.{max_captures, latest_open}
 use Rattle.luck_pattern.specs.Items.{
@@ -107,8 +106,8 @@ do_start_capture c rest s l cs u =
 
 -- end_capture, of the capture i, whose start is s at the latest
 unfoldable pub do_end_capture : Option ℕ → Rest → ℕ → ℕ → List Capture → ℕ → Outcome
-do_end_capture none rest s l cs u = raised 5 u
-do_end_capture (some i) rest s l cs u =
+do_end_capture None rest s l cs u = raised 5 u
+do_end_capture (Some i) rest s l cs u =
     let start = start_of (get_or cs i (opened 0)) in
     new_level l u (λ m. rest s m (set cs i (closed start (s - start))) u)
 
@@ -128,8 +127,8 @@ do_back_reference sub d rest s l cs u =
 
 -- `%b`: the items that follow go on after the balanced part
 unfoldable pub goes_on_at : Option ℕ → Rest → ℕ → List Capture → ℕ → Outcome
-goes_on_at none rest l cs u = failed u
-goes_on_at (some e) rest l cs u = rest e l cs u
+goes_on_at None rest l cs u = failed u
+goes_on_at (Some e) rest l cs u = rest e l cs u
 
 -- the byte before s is outside the set, and the byte at s inside
 unfoldable pub is_frontier : (ℕ → ℕ → Bool) → List ℕ → Set → ℕ → Bool

@@ -1,24 +1,14 @@
 // The items of a pattern.
-ghost use Rattle.std.specs.Prelude.{◌+◌, ◌<◌, length, ◌≡◌};
+ghost use Rattle.std.specs.Prelude.{◌+◌, ◌<◌, length, ◌≡◌, IfSome};
 ghost use Rattle.luck_text.specs.Bytes.{byte_at};
 ghost use Rattle.luck_pattern.specs.Reading.{set_end};
 ghost use Rattle.luck_pattern.specs.Items.{repeat_of};
-ghost use Rattle.lstr_class.specs.Inner.{found_of};
-ghost use Rattle.lstr_item.specs.Inner.{closing_of, ClosesIn, AtSet, AtEscape, AtFrontier, repeat_as, is_once, has_to_fit, is_greedy, repeat_read, ItemAt};
+ghost use Rattle.lstr_item.specs.Inner.{closing_of, AtSet, AtEscape, AtFrontier, repeat_as, is_once, has_to_fit, is_greedy, repeat_read, ItemAt};
 
-use lstr_class::subject::Found;
-
-// The kinds of an error in a pattern, by lstrlib.c's message.
-pub const ENDS_WITH_PERCENT: u8 = 1;
-
-pub const MISSING_BRACKET: u8 = 2;
-
-pub const MISSING_SET: u8 = 3;
-
-pub const MISSING_ARGUMENTS: u8 = 4;
+use crate::error::LuaError;
 
 // What stands after a single: nothing, `?`, `*`, `+` or `-`.
-#[derive(Clone, Copy)]
+#[derive(Clone, Copy, Debug, PartialEq, Eq)]
 pub enum Repeat {
     Once,
     Optional,
@@ -27,12 +17,35 @@ pub enum Repeat {
     Minus,
 }
 
+impl Repeat {
+    // Whether a single stands without a repeat.
+    pub fn is_once(self) -> bool
+        ensures { result ≡ is_once (repeat_as self) }
+    {
+        matches!(self, Repeat::Once)
+    }
+
+    // Whether the single has to fit, without a repeat or with `+`: before `?`, `*` and `-` it is passed over.
+    pub fn has_to_fit(self) -> bool
+        ensures { result ≡ has_to_fit (repeat_as self) }
+    {
+        matches!(self, Repeat::Once | Repeat::Plus)
+    }
+
+    // Whether it takes as many bytes as it can, with `*` or `+`.
+    pub fn is_greedy(self) -> bool
+        ensures { result ≡ is_greedy (repeat_as self) }
+    {
+        matches!(self, Repeat::Star | Repeat::Plus)
+    }
+}
+
 // What stands at a place of a pattern, with the place after it.
-#[derive(Clone, Copy)]
+#[derive(Clone, Copy, Debug, PartialEq, Eq)]
 pub enum Item {
     End,
     EndAnchor,
-    Raises(u8),
+    Raises(LuaError),
     StartCapture(usize),
     PositionCapture(usize),
     EndCapture(usize),
@@ -44,49 +57,10 @@ pub enum Item {
     Frontier(usize, usize),
 }
 
-// Whether a single stands without a repeat.
-pub fn is_once(repeat: Repeat) -> bool
-    ensures { result ≡ is_once (repeat_as repeat) }
-{
-    match repeat {
-        Repeat::Once => true,
-        Repeat::Optional => false,
-        Repeat::Star => false,
-        Repeat::Plus => false,
-        Repeat::Minus => false,
-    }
-}
-
-// Whether it has to fit, without a repeat or with `+`: before `?`, `*` and `-` it is passed over.
-pub fn has_to_fit(repeat: Repeat) -> bool
-    ensures { result ≡ has_to_fit (repeat_as repeat) }
-{
-    match repeat {
-        Repeat::Once => true,
-        Repeat::Optional => false,
-        Repeat::Star => false,
-        Repeat::Plus => true,
-        Repeat::Minus => false,
-    }
-}
-
-// Whether it takes as many bytes as it can, with `*` or `+`.
-pub fn is_greedy(repeat: Repeat) -> bool
-    ensures { result ≡ is_greedy (repeat_as repeat) }
-{
-    match repeat {
-        Repeat::Once => false,
-        Repeat::Optional => false,
-        Repeat::Star => true,
-        Repeat::Plus => true,
-        Repeat::Minus => false,
-    }
-}
-
 // The closing `]` of the set whose `[` stands at `opening`: one member is taken after `[` or `[^`, even a `]`, and `%` takes one more byte.
-pub fn set_end(pattern: &[u8], opening: usize) -> Found
+pub fn set_end(pattern: &[u8], opening: usize) -> Option<usize>
     requires { opening < length pattern.now }
-    ensures { (found_of result ≡ closing_of (set_end pattern.now opening)) × ClosesIn result opening (length pattern.now) }
+    ensures { (result ≡ closing_of (set_end pattern.now opening)) × IfSome result (λ closing. (opening < closing) × (closing < length pattern.now)) }
 {
     let mut at = opening + 1;
     if at < pattern.len() {
@@ -95,27 +69,25 @@ pub fn set_end(pattern: &[u8], opening: usize) -> Found
         }
     }
     let first = at;
-    let closing = 'members: loop {
-        if pattern.len() <= at {
-            return Found::Nothing;
-        }
+    // a member is one byte, or two from `%` on: no counted index
+    while at < pattern.len() {
         match pattern[at] {
             b']' => {
                 if first < at {
-                    break 'members at;
+                    return Some(at);
                 }
                 at += 1;
             }
             b'%' => {
                 if pattern.len() - at == 1 {
-                    return Found::Nothing;
+                    return None;
                 }
                 at += 2;
             }
             _ => at += 1,
         }
-    };
-    Found::At(closing)
+    }
+    None
 }
 
 // A single, with the repeat that may stand at its suffix.
@@ -139,10 +111,9 @@ fn read_set(pattern: &[u8], at: usize) -> Item
     requires { AtSet pattern.now at }
     ensures { ItemAt pattern.now at result }
 {
-    let found = set_end(pattern, at);
-    match found {
-        Found::At(closing) => repeated(pattern, closing + 1),
-        Found::Nothing => Item::Raises(MISSING_BRACKET),
+    match set_end(pattern, at) {
+        Some(closing) => repeated(pattern, closing + 1),
+        None => Item::Raises(LuaError::MissingBracket),
     }
 }
 
@@ -154,14 +125,13 @@ fn read_frontier(pattern: &[u8], at: usize) -> Item
     let opening = at + 2;
     if opening < pattern.len() {
         if pattern[opening] == b'[' {
-            let found = set_end(pattern, opening);
-            return match found {
-                Found::At(closing) => Item::Frontier(opening, closing + 1),
-                Found::Nothing => Item::Raises(MISSING_BRACKET),
+            return match set_end(pattern, opening) {
+                Some(closing) => Item::Frontier(opening, closing + 1),
+                None => Item::Raises(LuaError::MissingBracket),
             };
         }
     }
-    Item::Raises(MISSING_SET)
+    Item::Raises(LuaError::MissingSet)
 }
 
 // The escape whose `%` stands at `at`.
@@ -170,7 +140,7 @@ fn read_escape(pattern: &[u8], at: usize) -> Item
     ensures { ItemAt pattern.now at result }
 {
     if pattern.len() - at == 1 {
-        return Item::Raises(ENDS_WITH_PERCENT);
+        return Item::Raises(LuaError::EndsWithPercent);
     }
     let next = at + 1;
     let escape = pattern[next];
@@ -178,7 +148,7 @@ fn read_escape(pattern: &[u8], at: usize) -> Item
         b'0'..=b'9' => Item::BackReference(escape - b'0', at + 2),
         b'b' => {
             if pattern.len() - at < 4 {
-                return Item::Raises(MISSING_ARGUMENTS);
+                return Item::Raises(LuaError::MissingArguments);
             }
             Item::Balance(pattern[at + 2], pattern[at + 3], at + 4)
         }

@@ -3,5 +3,7 @@
 
 pub mod ahead;
 pub mod capture;
+pub mod error;
 pub mod item;
 pub mod single;
+pub mod state;

@@ -1,22 +1,26 @@
 // What one byte of the subject is tested for: a byte, any byte, a class or a set.
-ghost use Rattle.std.specs.Prelude.{◌≡◌, ◌-◌, ◌<◌, ◌≤◌, length};
+ghost use Rattle.std.specs.Prelude.{◌≡◌, ℕ, Bool, ◌-◌, ◌<◌, ◌≤◌, length};
 ghost use Rattle.luck_pattern.specs.Elements.{elements_of};
-ghost use Rattle.luck_pattern.specs.Items.{set_of};
-ghost use Rattle.lstr_item.specs.Single.{is_any_of, in_set};
+ghost use Rattle.luck_pattern.specs.Items.{Single, set_of};
+ghost use Rattle.lstr_item.specs.Single.{is_any_of, in_set, fits};
 ghost use Rattle.lstr_item.specs.Match.{is_frontier, fits_at, reach};
 ghost use Rattle.lstr_class.specs.Inner.{class_in};
-ghost use Rattle.lstr_item.specs.Inner.{SingleIn, single_of, class_reach, reach_of, ReachIn};
+ghost use Rattle.lstr_item.specs.Inner.{SingleIn, single_of, reach_of, ReachIn};
 
+use crate::state::MatchState;
 use lstr_class::{class, subject};
 use luck_text::scan;
 
 // Whether the byte is among the elements from `from` up to the closing `]` at `closing`.
-fn is_any_of(classes: &[u8; 512], pattern: &[u8], from: usize, closing: usize, byte: u8) -> bool
-    requires { closing < length pattern.now }
-    ensures { result ≡ is_any_of (class_in classes.now) (elements_of pattern.now closing from) byte }
+fn is_any_of(state: &MatchState, from: usize, closing: usize, byte: u8) -> bool
+    requires { closing < length state.now.pattern.now }
+    ensures { result ≡ is_any_of (class_in state.now.classes.now) (elements_of state.now.pattern.now closing from) byte }
 {
+    let pattern = state.pattern;
+    let classes = state.classes;
     let mut at = from;
-    'elements: while at < closing {
+    // an element has one byte, two from `%` on, or three: no counted index
+    while at < closing {
         let element = pattern[at];
         let next = at + 1;
         if element == b'%' {
@@ -24,59 +28,45 @@ fn is_any_of(classes: &[u8; 512], pattern: &[u8], from: usize, closing: usize, b
                 return true;
             }
             at += 2;
-            continue 'elements;
-        }
-        if 2 < closing - at {
-            if pattern[next] == b'-' {
-                let last = at + 2;
-                if element <= byte {
-                    if byte <= pattern[last] {
-                        return true;
-                    }
-                }
-                at += 3;
-                continue 'elements;
+        } else if 2 < closing - at && pattern[next] == b'-' {
+            if element <= byte && byte <= pattern[at + 2] {
+                return true;
             }
+            at += 3;
+        } else {
+            if element == byte {
+                return true;
+            }
+            at = next;
         }
-        if element == byte {
-            return true;
-        }
-        at = next;
     }
     false
 }
 
 // matchbracketclass: whether the byte is in the set from its `[` at `opening` to its `]` at `closing`.
-pub fn in_set(classes: &[u8; 512], pattern: &[u8], opening: usize, closing: usize, byte: u8) -> bool
-    requires { (opening < closing) × (closing < length pattern.now) }
-    ensures { result ≡ in_set (class_in classes.now) (set_of pattern.now opening closing) byte }
+pub fn in_set(state: &MatchState, opening: usize, closing: usize, byte: u8) -> bool
+    requires { (opening < closing) × (closing < length state.now.pattern.now) }
+    ensures { result ≡ in_set (class_in state.now.classes.now) (set_of state.now.pattern.now opening closing) byte }
 {
     let next = opening + 1;
-    if pattern[next] == b'^' {
-        return !is_any_of(classes, pattern, opening + 2, closing, byte);
+    if state.pattern[next] == b'^' {
+        return !is_any_of(state, opening + 2, closing, byte);
     }
-    is_any_of(classes, pattern, next, closing, byte)
+    is_any_of(state, next, closing, byte)
 }
 
 // singlematch: whether the single from `at` up to `suffix` fits the subject's byte at `place`.
-pub fn fits(
-    classes: &[u8; 512],
-    subject: &[u8],
-    pattern: &[u8],
-    at: usize,
-    suffix: usize,
-    place: usize,
-) -> bool
-    requires { SingleIn pattern.now at suffix }
-    ensures { result ≡ fits_at (class_in classes.now) subject.now (single_of pattern.now at suffix) place }
+pub fn fits(state: &MatchState, at: usize, suffix: usize, place: usize) -> bool
+    requires { SingleIn state.now.pattern.now at suffix }
+    ensures { result ≡ fits_at (class_in state.now.classes.now) state.now.subject.now (single_of state.now.pattern.now at suffix) place }
 {
-    if place < subject.len() {
-        let byte = subject[place];
-        let first = pattern[at];
+    if place < state.subject.len() {
+        let byte = state.subject[place];
+        let first = state.pattern[at];
         return match first {
             b'.' => true,
-            b'%' => class::match_class(classes, pattern[at + 1], byte),
-            b'[' => in_set(classes, pattern, at, suffix - 1, byte),
+            b'%' => class::match_class(state.classes, state.pattern[at + 1], byte),
+            b'[' => in_set(state, at, suffix - 1, byte),
             _ => first == byte,
         };
     }
@@ -84,126 +74,111 @@ pub fn fits(
 }
 
 // Whether the set from its `[` at `opening` to its `]` at `closing` begins at `place`.
-pub fn is_frontier(
-    classes: &[u8; 512],
-    subject: &[u8],
-    pattern: &[u8],
-    opening: usize,
-    closing: usize,
-    place: usize,
-) -> bool
-    requires { (opening < closing) × (closing < length pattern.now) }
-    ensures { result ≡ is_frontier (class_in classes.now) subject.now (set_of pattern.now opening closing) place }
+pub fn is_frontier(state: &MatchState, opening: usize, closing: usize, place: usize) -> bool
+    requires { (opening < closing) × (closing < length state.now.pattern.now) }
+    ensures { result ≡ is_frontier (class_in state.now.classes.now) state.now.subject.now (set_of state.now.pattern.now opening closing) place }
 {
-    if in_set(
-        classes,
-        pattern,
+    !in_set(
+        state,
         opening,
         closing,
-        subject::byte_before(subject, place),
-    ) {
-        return false;
-    }
-    in_set(
-        classes,
-        pattern,
-        opening,
-        closing,
-        scan::byte_at(subject, place),
-    )
+        subject::byte_before(state.subject, place),
+    ) && in_set(state, opening, closing, scan::byte_at(state.subject, place))
 }
 
-// Where a repeat's tests end, and the steps used then; or that no step was left for one.
-#[derive(Clone, Copy)]
+// Where a repeat's tests end, and the steps used then.
+#[derive(Clone, Copy, Debug, PartialEq, Eq)]
 pub struct Reached {
-    pub is_spent: bool,
     pub end: usize,
     pub steps: u32,
 }
 
-// max_expand's first loop for `%` and a letter, whose bits are found once.
-fn reach_class(
-    classes: &[u8; 512],
-    subject: &[u8],
-    letter: u8,
-    place: usize,
-    budget: u32,
-    steps: u32,
-) -> Reached
-    requires { place ≤ length subject.now }
-    ensures { (reach_of result ≡ class_reach (class_in classes.now) subject.now budget letter place steps) × ReachIn result place (length subject.now) }
-{
-    let bits = class::class_bits(classes, letter);
-    let mut tested = place;
-    let mut steps = steps;
-    loop {
-        if budget <= steps {
-            return Reached {
-                is_spent: true,
-                end: tested,
-                steps,
-            };
-        }
-        steps += 1;
-        if subject.len() <= tested {
-            return Reached {
-                is_spent: false,
-                end: tested,
-                steps,
-            };
-        }
-        if !class::match_bits(classes, letter, bits, subject[tested]) {
-            return Reached {
-                is_spent: false,
-                end: tested,
-                steps,
-            };
-        }
-        tested += 1;
-    }
+// No step was left where one was due: the steps used.
+#[derive(Clone, Copy, Debug, PartialEq, Eq)]
+pub struct Spent {
+    pub steps: u32,
 }
 
-// max_expand's first loop: the single is tested from `place` on, with a step for each test, until one fails.
+// max_expand's first loop: a byte after another is tested from `place` on, with a step for each test, until one fails; none fits at the subject's end.
+fn reach_by<F: Fn(u8) -> bool>(
+    state: &MatchState,
+    place: usize,
+    steps: u32,
+    test: F,
+) -> Result<Reached, Spent>
+    requires callable { F.IsAlwaysCallable test }
+    requires inside { place ≤ length state.now.subject.now }
+    ensures reaches { (x : Single) → ((byte : ℕ) (r : Bool) → byte < 256 → F.post test byte r → r ≡ fits (class_in state.now.classes.now) x byte)
+        → reach_of result ≡ reach (class_in state.now.classes.now) state.now.subject.now state.now.budget x (length state.now.subject.now - place) place steps }
+    ensures within { ReachIn result place (length state.now.subject.now) }
+{
+    // read once: behind a reference they would be read at each byte
+    let subject = state.subject;
+    let budget = state.budget;
+    let mut steps = steps;
+    for tested in place..subject.len() {
+        if budget <= steps {
+            return Err(Spent { steps });
+        }
+        steps += 1;
+        if !test(subject[tested]) {
+            return Ok(Reached { end: tested, steps });
+        }
+    }
+    if budget <= steps {
+        return Err(Spent { steps });
+    }
+    Ok(Reached {
+        end: subject.len(),
+        steps: steps + 1,
+    })
+}
+
+// How far the single from `at` up to `suffix` fits. What it is, and the bits of a class, are looked up once and not at each byte.
 pub fn reach(
-    classes: &[u8; 512],
-    subject: &[u8],
-    pattern: &[u8],
+    state: &MatchState,
     at: usize,
     suffix: usize,
     place: usize,
-    budget: u32,
     steps: u32,
-) -> Reached
-    requires { SingleIn pattern.now at suffix × (place ≤ length subject.now) }
-    ensures { (reach_of result ≡ reach (class_in classes.now) subject.now budget (single_of pattern.now at suffix) (length subject.now - place) place steps)
-        × ReachIn result place (length subject.now) }
+) -> Result<Reached, Spent>
+    requires { SingleIn state.now.pattern.now at suffix × (place ≤ length state.now.subject.now) }
+    ensures { (reach_of result ≡ reach (class_in state.now.classes.now) state.now.subject.now state.now.budget (single_of state.now.pattern.now at suffix) (length state.now.subject.now - place) place steps)
+        × ReachIn result place (length state.now.subject.now) }
 {
-    if pattern[at] == b'%' {
-        let r = reach_class(classes, subject, pattern[at + 1], place, budget, steps);
-        return Reached {
-            is_spent: r.is_spent,
-            end: r.end,
-            steps: r.steps,
-        };
-    }
-    let mut tested = place;
-    let mut steps = steps;
-    loop {
-        if budget <= steps {
-            return Reached {
-                is_spent: true,
-                end: tested,
+    let first = state.pattern[at];
+    match first {
+        b'.' => reach_by(state, place, steps, |_| true),
+        b'%' => {
+            let classes = state.classes;
+            let letter = state.pattern[at + 1];
+            let bits = class::class_bits(classes, letter);
+            reach_by(
+                state,
+                place,
                 steps,
-            };
+                |byte| class::match_bits(classes, letter, bits, byte),
+            )
         }
-        steps += 1;
-        if !fits(classes, subject, pattern, at, suffix, tested) {
-            return Reached {
-                is_spent: false,
-                end: tested,
+        b'[' => {
+            let closing = suffix - 1;
+            let next = at + 1;
+            if state.pattern[next] == b'^' {
+                let from = at + 2;
+                return reach_by(
+                    state,
+                    place,
+                    steps,
+                    |byte| !is_any_of(state, from, closing, byte),
+                );
+            }
+            reach_by(
+                state,
+                place,
                 steps,
-            };
+                |byte| is_any_of(state, next, closing, byte),
+            )
         }
-        tested += 1;
+        _ => reach_by(state, place, steps, |byte| first == byte),
     }
 }

@@ -1,12 +1,12 @@
 -- A pattern that the check accepts with its count of captures is read into items that are well formed, and so is what follows a leading `^`. For that the
 -- check is followed from each item to the next, also with its test of ranges, where the item has no reversed range.
 -- Assumes nothing.
+use Rattle.std.specs.Prelude.{Option, None, Some}
 use Prim.Native.Nat.{ℕ, zero, suc, ◌+◌, ◌-◌, ◌≤◌, ◌<◌}
 use native.Mathlib.Omega.{arith}
 use mathlib.Core.Path.{◌≡◌, refl, sym, ap, subst, ◌∙◌}
 use mathlib.Core.Bool.{Bool, true, false}
 use mathlib.Core.List.{List, [], ◌∷◌, ◌++◌}
-use mathlib.Core.Option.{Option, none, some}
 use lib.ListN.{length, set}
 use lib.Dec.{eqb, leb, ltb}
 use borrow.Author.Tests.{ltb-true, leb-true, leb-false, eqb-true}
@@ -85,10 +85,10 @@ module _ (pat : List ℕ) (c : ℕ) where
 
   -- it comes from place p to q, and accepts from there; with the test it comes there too, if the item at p has no reversed range
   abbrev pub Comes : ℕ → List Bool → ℕ → List Bool → Type 0
-  Comes p flags q after = Accepts q after × (item_reversed pat p ≡ none → Tested pat p flags ≡ Tested pat q after)
+  Comes p flags q after = Accepts q after × (item_reversed pat p ≡ None → Tested pat p flags ≡ Tested pat q after)
 
   -- by way of a place whose item has no set
-  by_way : (p q r : ℕ) (flags between after : List Bool) (h : Head) → head_of (byte_at pat q) ≡ h → head_set pat q h ≡ none → Comes p flags q between → Comes q between r after
+  by_way : (p q r : ℕ) (flags between after : List Bool) (h : Head) → head_of (byte_at pat q) ≡ h → head_set pat q h ≡ None → Comes p flags q between → Comes q between r after
       → Comes p flags r after
   unfolding item_reversed reversed_set item_set
   by_way p q r flags between after h e s x y = (y.0, λ n. x.1 n ∙ y.1 (ap (reversed_set pat) (ap (head_set pat q) e ∙ s)))
@@ -125,7 +125,7 @@ module _ (pat : List ℕ) (c : ℕ) where
   -- `)`: a capture is open, and is closed
   record Closed (p : ℕ) (flags : List Bool) : Type 0 where
     pub after : List Bool
-    pub closes : close_latest flags ≡ some after
+    pub closes : close_latest flags ≡ Some after
     pub on : Comes p flags (p + 1) after
 
   after_close_lem : (p : ℕ) (flags : List Bool) → p < length pat → After p flags (head_turn false pat p flags at_close) → Closed p flags
@@ -133,8 +133,8 @@ module _ (pat : List ℕ) (c : ℕ) where
   after_close_lem p flags h a = go (close_latest flags) refl a
     where
       go : (o : Option (List Bool)) → close_latest flags ≡ o → After p flags (after_close p o) → Closed p flags
-      go none e a = refused_accepted (refused 11 p) c a (omega arith)
-      go (some after) e a = record { after = after; closes = e; on = a (omega arith) (omega arith) }
+      go None e a = refused_accepted (refused 11 p) c a (omega arith)
+      go (Some after) e a = record { after = after; closes = e; on = a (omega arith) (omega arith) }
 
   -- a byte that stands for itself, or a repeat
   after_byte : (p : ℕ) (flags : List Bool) → p < length pat → head_of (byte_at pat p) ≡ at_other → Accepts p flags → Comes p flags (p + 1) flags
@@ -175,7 +175,7 @@ module _ (pat : List ℕ) (c : ℕ) where
 
 -- ---- The items
 
-latest_opened : (flags : List Bool) → latest_open (flags ++ (false ∷ [])) ≡ some (length flags)
+latest_opened : (flags : List Bool) → latest_open (flags ++ (false ∷ [])) ≡ Some (length flags)
 unfolding latest_open
 latest_opened [] = refl
 latest_opened (f ∷ flags) = rw (latest_opened flags)
@@ -184,9 +184,9 @@ set_opened : (flags : List Bool) → set (flags ++ (false ∷ [])) (length flags
 set_opened [] = refl
 set_opened (f ∷ flags) = ap {B = List Bool} (λ r. f ∷ r) (set_opened flags)
 
-close_opened : (flags : List Bool) → close_latest (flags ++ (false ∷ [])) ≡ some (flags ++ (true ∷ []))
+close_opened : (flags : List Bool) → close_latest (flags ++ (false ∷ [])) ≡ Some (flags ++ (true ∷ []))
 unfolding close_latest
-close_opened flags = ap (close_at (flags ++ (false ∷ []))) (latest_opened flags) ∙ ap some (set_opened flags)
+close_opened flags = ap (close_at (flags ++ (false ∷ []))) (latest_opened flags) ∙ ap Some (set_opened flags)
 
 abbrev There : Escape → Type 0
 There (esc_digit d) = Unit {0}
@@ -244,7 +244,7 @@ module _ (pat : List ℕ) (c p : ℕ) (flags : List Bool) where
       let b = eqb-true (byte_at pat (p + 1)) 41 e in
       let i = present pat (p + 1) (omega arith) in
       let shut = after_close_lem pat c (p + 1) (flags ++ (false ∷ [])) i (by_head pat c (p + 1) (flags ++ (false ∷ [])) i y.1.0 at_close (closing_head b)) in
-      let same : some shut.after ≡ some (flags ++ (true ∷ [])) = sym shut.closes ∙ close_opened flags in
+      let same : Some shut.after ≡ Some (flags ++ (true ∷ [])) = sym shut.closes ∙ close_opened flags in
       let after : shut.after ≡ flags ++ (true ∷ []) = cc in
       let both = by_way pat c p (p + 1) (p + 1 + 1) flags (flags ++ (false ∷ [])) shut.after at_close (closing_head b) refl y.1 shut.on in
       let on : Comes pat c p flags (p + 2) shut.after = subst (λ (q : ℕ). Comes pat c p flags q shut.after) (omega arith) both in
@@ -335,8 +335,8 @@ module _ (pat : List ℕ) (c : ℕ) where
 
 after_utf8_lem : (place : Option ℕ) (walked : Answer) (c : ℕ) → after_utf8 refused place walked ≡ accepted c → walked ≡ accepted c
 unfolding after_utf8
-after_utf8_lem none walked c e = e
-after_utf8_lem (some place) walked c e = refused_accepted (refused 23 place) c e (omega arith)
+after_utf8_lem None walked c e = e
+after_utf8_lem (Some place) walked c e = refused_accepted (refused 23 place) c e (omega arith)
 
 -- an accepted text is accepted by its walk
 pub text_accepted : (version : ℕ) (text : List ℕ) (walked : Answer) (c : ℕ) → check_text version text walked ≡ accepted c → walked ≡ accepted c

@@ -2,10 +2,10 @@
 -- holds of what an item makes of the rest. What is promised of attempts are instances: P and U, of the steps, are chosen, and the items that change
 -- or read captures are dealt with one by one.
 -- Assumes nothing.
+use Rattle.std.specs.Prelude.{Option, None, Some}
 use Prim.Native.Nat.{ℕ, zero, suc, ◌+◌, ◌-◌, ◌≤◌, ◌<◌}
 use mathlib.Core.Bool.{Bool}
 use mathlib.Core.List.{List}
-use mathlib.Core.Option.{Option, none, some}
 use lib.ListN.{length}
 use borrow.Author.Tests.{ltb-true, ltb-false}
 use Rattle.luck_text.proofs.Cases.{by_test}
@@ -98,8 +98,8 @@ module _ (in_class : ℕ → ℕ → Bool) (sub : List ℕ) (budget : ℕ) (P : 
 
     goes_kept : (e : Option ℕ) (l u : ℕ) → U u → P (goes_on_at e rest l cs u)
     unfolding goes_on_at
-    goes_kept none l u h = kept.fails u h
-    goes_kept (some e) l u h = on e l u h
+    goes_kept None l u h = kept.fails u h
+    goes_kept (Some e) l u h = on e l u h
 
     -- the items that leave the captures alone and raise nothing
     pub single_kept : (x : Single) (r : Repeat) (s l u : ℕ) → U u → P (do_item in_class sub budget (single x r) rest s l cs u)

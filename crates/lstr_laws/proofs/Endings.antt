@@ -1,12 +1,12 @@
 -- How every attempt ends, whatever it is given: its steps are at most its budget; 27 says that they are spent; and a kind from 1 to 10 goes with 29 only.
 -- `numbers` are those of a trial that attempts are made for: what an attempt stops with, and the trial's own.
 -- Assumes nothing.
+use Rattle.std.specs.Prelude.{Option, None, Some}
 use Prim.Native.Nat.{ℕ, zero, suc, ◌+◌, ◌-◌, ◌≤◌}
 use native.Mathlib.Omega.{arith}
 use mathlib.Core.Path.{◌≡◌, refl}
 use mathlib.Core.Bool.{Bool, true}
 use mathlib.Core.List.{List, [], ◌∷◌}
-use mathlib.Core.Option.{Option, none, some}
 use lib.ListN.{length, get_or}
 use lib.Dec.{eqb, leb, ltb}
 use Rattle.luck_text.specs.Bytes.{byte_at, among}
@@ -166,8 +166,8 @@ module _ (numbers : List ℕ) (has : HasStops numbers) (budget : ℕ) where
 
       end_low : (o : Option ℕ) (s l : ℕ) (cs : List Capture) (u : ℕ) → U u → Low (do_end_capture o rest s l cs u)
       unfolding do_end_capture
-      end_low none s l cs u h = raise_low 5 u (omega arith) (omega arith) h
-      end_low (some i) s l cs u h = level_kept in_class sub budget Low U kept l u _ h (λ m. low s m _ u h)
+      end_low None s l cs u h = raise_low 5 u (omega arith) (omega arith) h
+      end_low (Some i) s l cs u h = level_kept in_class sub budget Low U kept l u _ h (λ m. low s m _ u h)
 
       reference_low : (c : Capture) (s l : ℕ) (cs : List Capture) (u : ℕ) → U u → Low (match_capture sub c rest s l cs u)
       unfolding match_capture

@@ -1,11 +1,11 @@
 -- An attempt goes forward: a match ends no earlier than it starts, and a match or a failure takes a step at least, within the budget.
 -- Assumes nothing.
+use Rattle.std.specs.Prelude.{Option, None, Some}
 use Prim.Native.Nat.{ℕ, zero, suc, ◌+◌, ◌-◌, ◌≤◌}
 use native.Mathlib.Omega.{arith}
 use mathlib.Core.Path.{◌≡◌, refl}
 use mathlib.Core.Bool.{Bool}
 use mathlib.Core.List.{List, [], ◌∷◌}
-use mathlib.Core.Option.{Option, none, some}
 use lib.ListN.{length, get_or}
 use lib.Dec.{eqb, ltb}
 use borrow.Author.Tests.{ltb-true}
@@ -100,8 +100,8 @@ module _ (in_class : ℕ → ℕ → Bool) (sub : List ℕ) (budget : ℕ) (b w 
     passed_on minus s l cs u p h = on s l cs u p h
 
     abbrev Later : ℕ → Option ℕ → Type 0
-    Later s none = Unit {0}
-    Later s (some e) = s ≤ e
+    Later s None = Unit {0}
+    Later s (Some e) = s ≤ e
 
     balance_later : (x y n depth s t : ℕ) → t ≤ s → Later t (balance_end sub x y n depth s)
     unfolding balance_end
@@ -119,8 +119,8 @@ module _ (in_class : ℕ → ℕ → Bool) (sub : List ℕ) (budget : ℕ) (b w 
 
     goes_on : (e : Option ℕ) (s l : ℕ) (cs : List Capture) (u : ℕ) → b ≤ s → Later s e → U u → Onward (goes_on_at e rest l cs u)
     unfolding goes_on_at
-    goes_on none s l cs u p q h = fails u h
-    goes_on (some e) s l cs u p q h = on e l cs u (omega arith) h
+    goes_on None s l cs u p q h = fails u h
+    goes_on (Some e) s l cs u p q h = on e l cs u (omega arith) h
 
     start_on : (c : Capture) (s l : ℕ) (cs : List Capture) (u : ℕ) → b ≤ s → U u → Onward (do_start_capture c rest s l cs u)
     unfolding do_start_capture
@@ -128,8 +128,8 @@ module _ (in_class : ℕ → ℕ → Bool) (sub : List ℕ) (budget : ℕ) (b w 
 
     end_on : (o : Option ℕ) (s l : ℕ) (cs : List Capture) (u : ℕ) → b ≤ s → U u → Onward (do_end_capture o rest s l cs u)
     unfolding do_end_capture
-    end_on none s l cs u p h = stops 29 5 u
-    end_on (some i) s l cs u p h = level_on l u _ (λ m. on s m _ u p h)
+    end_on None s l cs u p h = stops 29 5 u
+    end_on (Some i) s l cs u p h = level_on l u _ (λ m. on s m _ u p h)
 
     capture_on : (c : Capture) (s l : ℕ) (cs : List Capture) (u : ℕ) → b ≤ s → U u → Onward (match_capture sub c rest s l cs u)
     unfolding match_capture

@@ -1,13 +1,13 @@
 -- Of the patterns that the check accepts without its test of ranges, it accepts exactly those with it whose items, as the matching reads them, have no
 -- reversed range. The check walks over the bytes and the matching runs the items: both come from item to item (Accepted.antt).
 -- Assumes nothing.
+use Rattle.std.specs.Prelude.{Option, None, Some}
 use Prim.Native.Nat.{ℕ, zero, suc, ◌+◌, ◌-◌, ◌≤◌, ◌<◌}
 use native.Mathlib.Omega.{arith}
 use mathlib.Core.Path.{◌≡◌, refl, sym, ap, ◌∙◌}
 use mathlib.Core.Logic.{◌↔◌}
 use mathlib.Core.Bool.{Bool, true, false}
 use mathlib.Core.List.{List, []}
-use mathlib.Core.Option.{Option, none, some}
 use lib.ListN.{length}
 use lib.Dec.{leb}
 use borrow.Author.Tests.{leb-true, leb-false}
@@ -32,19 +32,19 @@ module _ (pat : List ℕ) (c : ℕ) where
       walk_end (pattern_turn true pat) (pattern_end pat) (length pat) p flags h ∙ sym (walk_end (pattern_turn false pat) (pattern_end pat) (length pat) p flags h) ∙ a
 
   -- an item that is accepted with the test has no reversed range
-  none_here : (p : ℕ) (flags : List Bool) → p < length pat → Tested pat p flags ≡ accepted c → item_reversed pat p ≡ none
+  none_here : (p : ℕ) (flags : List Bool) → p < length pat → Tested pat p flags ≡ accepted c → item_reversed pat p ≡ None
   none_here p flags h a = go (item_reversed pat p) refl
     where
-      go : (o : Option ℕ) → item_reversed pat p ≡ o → item_reversed pat p ≡ none
-      go none e = e
-      go (some k) e =
+      go : (o : Option ℕ) → item_reversed pat p ≡ o → item_reversed pat p ≡ None
+      go None e = e
+      go (Some k) e =
           let stops = walk_stop (pattern_turn true pat) (pattern_end pat) (length pat) p flags (refused 39 k) h ((is_39 pat p flags k h).1 e) in
           refused_accepted (refused 39 k) c (sym stops ∙ a) (omega arith)
 
   -- an item and those behind it
   read_upwards : (m p : ℕ) (flags : List Bool) → p < length pat → length pat ≤ p + suc m
       → ((q : ℕ) (after : List Bool) → length pat ≤ q + m → Accepts pat c q after → UpwardsFrom q after (items_from pat m q))
-      → (r : Read) → (item_reversed pat p ≡ none) ↔ UpwardsItem (item_of r) → Leads pat c p flags r → UpwardsFrom p flags (then_items (items_from pat m) r)
+      → (r : Read) → (item_reversed pat p ≡ None) ↔ UpwardsItem (item_of r) → Leads pat c p flags r → UpwardsFrom p flags (then_items (items_from pat m) r)
   unfolding then_items
   read_upwards m p flags h l later (last i) alike y = (
     λ a. (alike.0 (none_here p flags h a), tt),

@@ -1,11 +1,11 @@
 -- From items that are well formed after the captures so far, no attempt raises, and a match has all its captures, closed.
 -- Assumes nothing.
+use Rattle.std.specs.Prelude.{Option, None, Some}
 use Prim.Native.Nat.{ℕ, zero, suc, ◌-◌, ◌<◌}
 use native.Mathlib.Omega.{arith}
 use mathlib.Core.Path.{◌≡◌, refl, sym, ap, subst, ◌∙◌}
 use mathlib.Core.Bool.{Bool, true, false, ◌&&◌, true≢false}
 use mathlib.Core.List.{List, [], ◌∷◌, ◌++◌}
-use mathlib.Core.Option.{Option, none, some}
 use lib.ListN.{length, get_or, set}
 use lib.Dec.{eqb, leb, ltb}
 use borrow.Author.Tests.{ltb-true, ltb-false, le-leb}
@@ -50,7 +50,7 @@ flag_inside (f ∷ flags) (suc i) e = let h = flag_inside flags i e in omega ari
 -- where the flags have a capture to close, so have the captures, and it is the same
 record Closing (cs : List Capture) (after : List Bool) : Type 0 where
   pub at : ℕ
-  pub found : capture_to_close cs ≡ some at
+  pub found : capture_to_close cs ≡ Some at
   pub flags : (start n : ℕ) → flags_of (set cs at (closed start n)) ≡ after
 
 flags_set : (cs : List Capture) (i : ℕ) (c : Capture) → flags_of (set cs i c) ≡ set (flags_of cs) i (is_finished c)
@@ -58,13 +58,13 @@ flags_set [] i c = refl
 flags_set (x ∷ cs) zero c = refl
 flags_set (x ∷ cs) (suc i) c = ap {B = List Bool} (λ r. is_finished x ∷ r) (flags_set cs i c)
 
-close_found : (cs : List Capture) (after : List Bool) → close_latest (flags_of cs) ≡ some after → Closing cs after
+close_found : (cs : List Capture) (after : List Bool) → close_latest (flags_of cs) ≡ Some after → Closing cs after
 unfolding close_latest capture_to_close
 close_found cs after e = go (latest_open (flags_of cs)) refl e
   where
-    go : (o : Option ℕ) → latest_open (flags_of cs) ≡ o → close_at (flags_of cs) o ≡ some after → Closing cs after
-    go none p q = let z : ◌≡◌ {A = ℕ} 0 1 = cc in absurd (omega arith)
-    go (some i) p q = let s : set (flags_of cs) i true ≡ after = cc in record { at = i; found = p; flags = λ start n. flags_set cs i (closed start n) ∙ s }
+    go : (o : Option ℕ) → latest_open (flags_of cs) ≡ o → close_at (flags_of cs) o ≡ Some after → Closing cs after
+    go None p q = let z : ◌≡◌ {A = ℕ} 0 1 = cc in absurd (omega arith)
+    go (Some i) p q = let s : set (flags_of cs) i true ≡ after = cc in record { at = i; found = p; flags = λ start n. flags_set cs i (closed start n) ∙ s }
 
 -- ---- An attempt
 
@@ -99,10 +99,10 @@ module _ (in_class : ℕ → ℕ → Bool) (sub : List ℕ) (budget n : ℕ) whe
         (λ t. absurd (omega (arith, ltb-false (length cs) 32 t)))
 
     end_sound : (i s l : ℕ) (cs : List Capture) (u : ℕ) → ((m start k : ℕ) → Sound (rest s m (set cs i (closed start k)) u))
-        → (o : Option ℕ) → o ≡ some i → Sound (do_end_capture o rest s l cs u)
+        → (o : Option ℕ) → o ≡ Some i → Sound (do_end_capture o rest s l cs u)
     unfolding do_end_capture
-    end_sound i s l cs u on none e = let z : ◌≡◌ {A = ℕ} 0 1 = cc in absurd (omega arith)
-    end_sound i s l cs u on (some j) e =
+    end_sound i s l cs u on None e = let z : ◌≡◌ {A = ℕ} 0 1 = cc in absurd (omega arith)
+    end_sound i s l cs u on (Some j) e =
         let q : i ≡ j = cc in
         let start = start_of (get_or cs j (opened 0)) in
         level_kept in_class sub budget Sound U kept l u _ tt

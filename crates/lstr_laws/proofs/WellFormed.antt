@@ -1,9 +1,9 @@
 -- Items that are well formed, with the captures before them: what `Accepted` says of a pattern, and what `Sound` asks for.
+use Rattle.std.specs.Prelude.{Some}
 use Prim.Native.Nat.{ℕ, ◌<◌}
 use mathlib.Core.Path.{◌≡◌}
 use mathlib.Core.Bool.{Bool, true, false}
 use mathlib.Core.List.{List, [], ◌∷◌, ◌++◌}
-use mathlib.Core.Option.{some}
 use lib.ListN.{length}
 use Rattle.luck_pattern.specs.Captures.{close_latest, is_closed, all_closed}
 use Rattle.luck_pattern.specs.Items.{
@@ -29,7 +29,7 @@ abbrev pub WellFormed : List Item → List Bool → ℕ → Type 0
 WellFormed [] flags n = AllClosed n flags
 WellFormed (start_capture ∷ is) flags n = (length flags < 32) × WellFormed is (flags ++ (false ∷ [])) n
 WellFormed (position_capture ∷ is) flags n = (length flags < 32) × WellFormed is (flags ++ (true ∷ [])) n
-WellFormed (end_capture ∷ is) flags n = (after : List Bool) × (close_latest flags ≡ some after) × WellFormed is after n
+WellFormed (end_capture ∷ is) flags n = (after : List Bool) × (close_latest flags ≡ Some after) × WellFormed is after n
 WellFormed (end_anchor ∷ is) flags n = AllClosed n flags
 WellFormed (balance x y ∷ is) flags n = WellFormed is flags n
 WellFormed (frontier x ∷ is) flags n = WellFormed is flags n

@@ -1,2 +1,2 @@
+pub mod Attempts
 pub mod Repeats
-pub mod Passed

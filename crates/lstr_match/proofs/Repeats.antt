@@ -1,205 +1,195 @@
--- How an attempt's outcome is told, the repeats' loops, and what the functions of lstr_item found.
+-- What a repeat tries, a place at a time: at each the rest of the pattern at a new level, and where that has failed what is left.
 -- Assumes nothing.
+use Rattle.std.specs.Prelude.{Option, None, Some, IsTrue, IfSome, IsSomeAnd, ◌↔◌}
 use Prim.Native.Nat.{ℕ, zero, suc, ◌+◌, ◌-◌, ◌≤◌, ◌<◌}
 use native.Mathlib.Omega.{arith}
 use mathlib.Core.Path.{◌≡◌, refl, sym, ap, subst, ◌∙◌}
-use mathlib.Core.Logic.{⊎_elim}
 use mathlib.Core.Bool.{Bool, true, false}
 use mathlib.Core.List.{List}
-use mathlib.Core.Option.{Option}
 use lib.ListN.{length}
-use lib.Dec.{eqb}
-use borrow.Author.Tests.{lt-ltb, le-ltb, ne_eqb}
+use lib.Dec.{ltb}
+use borrow.Author.Tests.{lt-ltb, le-ltb}
 use Rattle.luck_text.specs.Bytes.{when◌then◌else◌}
-use Rattle.luck_text.proofs.Cases.{order}
-use Rattle.luck_pattern.specs.Items.{Single, optional, star, plus, minus}
-use Rattle.lstr_item.specs.Match.{Capture, Outcome, matched, failed, stopped, Rest, due, new_level, or_else, Reach, reached, spent, longest_first, max_expand, fits_at, reach, min_expand, expand}
-use Rattle.lstr_item.specs.Inner.{held_as, reach_of, captures_in, KeptIn}
-use Rattle.lstr_class.specs.Inner.{found_of}
-use Rattle.lstr_match.specs.Inner.{outcome_by, outcome_of, AttemptIn, EndsAs, MatchesAs}
+use Rattle.luck_pattern.specs.Items.{Single, optional, star, plus, minus, items}
+use Rattle.lstr_item.specs.Match.{Capture, capture_to_close, Outcome, matched, failed, stopped, Rest, due, new_level, or_else, Reach, reached, spent, reach, longest_first, max_expand, fits_at, min_expand, expand, match}
+use Rattle.lstr_item.specs.Inner.{SingleIn}
+use Rattle.lstr_item.specs.Ahead.{Sure, FailsHere}
+use Rattle.lstr_item.specs.declared.ahead.Ahead.{Ahead}
+use Rattle.lstr_item.specs.declared.capture.Pair.{Pair}
+use Rattle.lstr_match.specs.Inner.{ended_as, outcome_of}
 use Rattle.lstr_match.specs.declared.outcome.Attempt.{Attempt}
-use Rattle.lstr_item.specs.declared.capture.Held.{Held}
-use Rattle.lstr_item.specs.declared.single.Reached.{Reached}
-use Rattle.lstr_class.specs.declared.subject.Found.{Found}
+use Rattle.lstr_match.specs.declared.outcome.Ending.{Ending}
+use Rattle.lstr_match.specs.declared.outcome.Ending.TheVariants as ending
 
--- ---- How an attempt ends
+-- ---- An attempt, and what is tried after it
 
-module _ (r : Attempt) (kept : List ℕ) where
-  pub is_failure : r.number ≡ 1 → outcome_of r kept ≡ failed r.steps
-  unfolding outcome_of outcome_by
-  is_failure e = rw e
-
-  abbrev Other : Outcome → Type 0
-  Other (matched e cs u) = Unit {0}
-  Other (failed u) = ⊥
-  Other (stopped number kind u) = Unit {0}
-
-  other_by : (m f : Bool) → f ≡ false → Other (outcome_by m f r kept)
-  unfolding outcome_by
-  other_by true f e = tt
-  other_by false true e = let z : ◌≡◌ {A = ℕ} 0 1 = cc in absurd (omega arith)
-  other_by false false e = tt
-
-  other : (r.number ≡ 1 → ⊥) → Other (outcome_of r kept)
-  unfolding outcome_of
-  other n = other_by (eqb r.number 0) (eqb r.number 1) (ne_eqb r.number 1 n)
+module _ (r : Attempt) (kept : List Pair) (o : Outcome) (w : outcome_of r kept ≡ o) where
+  pub has_failed : r.ending ≡ ending.Failed → failed r.steps ≡ o
+  has_failed e = ap (λ (x : Ending). ended_as x kept r.steps) (sym e) ∙ w
 
   -- what is no failure is not tried again
-  else_other : (o : Outcome) (k : ℕ → Outcome) → Other o → or_else o k ≡ o
+  final_as : (x : Ending) → (x ≡ ending.Failed → ⊥) → (k : ℕ → Outcome) → or_else (ended_as x kept r.steps) k ≡ ended_as x kept r.steps
   unfolding or_else
-  else_other (matched e cs u) k h = refl
-  else_other (failed u) k h = absurd h
-  else_other (stopped number kind u) k h = refl
+  final_as (ending.Matched e n) h k = refl
+  final_as ending.Failed h k = absurd (h refl)
+  final_as (ending.Stopped s) h k = refl
 
-  pub ends_it : (r.number ≡ 1 → ⊥) → (o : Outcome) → outcome_of r kept ≡ o → (k : ℕ → Outcome) → outcome_of r kept ≡ or_else o k
-  ends_it n o e k = sym (else_other (outcome_of r kept) k (other n)) ∙ ap (λ x. or_else x k) e
+  pub is_final : (r.ending ≡ ending.Failed → ⊥) → (k : ℕ → Outcome) → outcome_of r kept ≡ or_else o k
+  is_final h k = sym (final_as r.ending h k) ∙ ap (λ x. or_else x k) w
 
-  pub goes_on : r.number ≡ 1 → (o : Outcome) → outcome_of r kept ≡ o → (k : ℕ → Outcome) → k r.steps ≡ or_else o k
-  unfolding or_else
-  goes_on e o f k = ap (λ x. or_else x k) (sym (is_failure e) ∙ f)
+-- a failure is not the last word
+pub goes_on : (o : Outcome) (k : ℕ → Outcome) (v : ℕ) → failed v ≡ o → k v ≡ or_else o k
+unfolding or_else
+goes_on o k v e = ap (λ x. or_else x k) e
 
-  -- an attempt that does not match says nothing of its end
-  pub no_match : (len : ℕ) → (r.number ≡ 0 → ⊥) → AttemptIn r kept len
-  no_match len n = record { end = λ e. absurd (n e); captures = λ e. absurd (n e) }
+nothing_else : (o : Outcome) → or_else o (λ v. failed v) ≡ o
+unfolding or_else
+nothing_else (matched e cs u) = refl
+nothing_else (failed u) = refl
+nothing_else (stopped number kind u) = refl
 
--- what the functions of `outcome` say of the whole
-module _ (r : Attempt) (kept : List ℕ) (len : ℕ) (o whole : Outcome) where
-  pub ended : EndsAs r o → o ≡ whole → (outcome_of r kept ≡ whole) × AttemptIn r kept len
-  ended w e = ((w kept len).0 ∙ e, (w kept len).1)
+-- ---- max_expand's second loop
 
-  pub answered : (a : Attempt) → a ≡ r → (outcome_of r kept ≡ o) × AttemptIn r kept len → o ≡ whole → (outcome_of a kept ≡ whole) × AttemptIn a kept len
-  answered a f w e = subst (λ (x : Attempt). (outcome_of x kept ≡ whole) × AttemptIn x kept len) (sym f) (w.0 ∙ e, w.1)
+-- the n places from s on, the farthest first
+abbrev pub downwards : Rest → ℕ → ℕ → List Capture → ℕ → ℕ → Outcome
+downwards rest s l cs zero u = failed u
+downwards rest s l cs (suc n) u = longest_first rest n s l cs u
 
-pub kept_matched : (r : Attempt) (e n u : ℕ) (kept : List ℕ) (len : ℕ) (cs : List Capture) (whole : Outcome)
-    → MatchesAs r e n u → e ≤ len → KeptIn len n kept → captures_in n kept ≡ cs → matched e cs u ≡ whole
-    → (outcome_of r kept ≡ whole) × AttemptIn r kept len
-kept_matched r e n u kept len cs whole w h i f g =
-    ((w kept len h i).0 ∙ ap (λ (x : List Capture). matched e x u) f ∙ g, (w kept len h i).1)
+module _ (rest : Rest) (s l : ℕ) (cs : List Capture) where
+  one_of : (n u : ℕ) → or_else (new_level l u (λ m. rest (s + n) m cs u)) (λ v. downwards rest s l cs n v) ≡ longest_first rest n s l cs u
+  unfolding longest_first
+  one_of zero u =
+      let e : s + 0 ≡ s = omega arith in
+      nothing_else (new_level l u (λ m. rest (s + 0) m cs u)) ∙ ap (λ (y : ℕ). new_level l u (λ m. rest y m cs u)) e
+  one_of (suc n) u = refl
 
--- ---- Repeats
+  -- with `bound` the place above those that are left
+  module _ (bound i u : ℕ) (b : bound ≡ i + 1) (h : s ≤ i) where
+    pub down : or_else (new_level l u (λ m. rest i m cs u)) (λ v. downwards rest s l cs (i - s) v) ≡ downwards rest s l cs (bound - s) u
+    down =
+        let e : bound - s ≡ suc (i - s) = omega arith in
+        let f : i ≡ s + (i - s) = omega arith in
+        ap (λ (y : ℕ). or_else (new_level l u (λ m. rest y m cs u)) (λ v. downwards rest s l cs (i - s) v)) f
+        ∙ one_of (i - s) u ∙ ap (λ (n : ℕ). downwards rest s l cs n u) (sym e)
 
+    pub further_down : (v : ℕ) → failed v ≡ new_level l u (λ m. rest i m cs u) → downwards rest s l cs (i - s) v ≡ downwards rest s l cs (bound - s) u
+    further_down v w = goes_on _ (λ v. downwards rest s l cs (i - s) v) v w ∙ down
+
+  pub none_left : (n u : ℕ) → n ≡ 0 → failed u ≡ downwards rest s l cs n u
+  none_left n u e = rw e
+
+  down_from : (e u : ℕ) → s ≤ e → downwards rest s l cs (e + 1 - s) u ≡ max_expand (reached e u) rest s l cs
+  unfolding max_expand
+  down_from e u h = let f : e + 1 - s ≡ suc (e - s) = omega arith in ap (λ (n : ℕ). downwards rest s l cs n u) f
+
+  pub all_down : (e u : ℕ) (t : Reach) → s ≤ e → reached e u ≡ t → downwards rest s l cs (e + 1 - s) u ≡ max_expand t rest s l cs
+  all_down e u t h w = down_from e u h ∙ ap (λ x. max_expand x rest s l cs) w
+
+  pub none_reached : (u : ℕ) (t : Reach) → spent u ≡ t → stopped 27 0 u ≡ max_expand t rest s l cs
+  unfolding max_expand
+  none_reached u t w = ap (λ x. max_expand x rest s l cs) w
+
+-- `?`, `*` and `+`, of a single that has fitted at s
 module _ (in_class : ℕ → ℕ → Bool) (sub : List ℕ) (budget : ℕ) (x : Single) (rest : Rest) (s l : ℕ) (cs : List Capture) (u : ℕ) where
-  pub star_on : (t : Reach) → t ≡ reach in_class sub budget x (length sub - (s + 1)) (s + 1) u
-      → max_expand t rest s l cs ≡ expand in_class sub budget x star rest s l cs u
+  pub optional_on : or_else (new_level l u (λ m. rest (s + 1) m cs u)) (λ v. rest s l cs v) ≡ expand in_class sub budget x optional rest s l cs u
   unfolding expand
-  star_on t e = ap (λ y. max_expand y rest s l cs) e
+  optional_on = refl
 
-  pub plus_on : (t : Reach) → t ≡ reach in_class sub budget x (length sub - (s + 1)) (s + 1) u
-      → max_expand t rest (s + 1) l cs ≡ expand in_class sub budget x plus rest s l cs u
+  pub optional_fails : (v : ℕ) → failed v ≡ new_level l u (λ m. rest (s + 1) m cs u) → rest s l cs v ≡ expand in_class sub budget x optional rest s l cs u
+  optional_fails v w = goes_on _ (λ v. rest s l cs v) v w ∙ optional_on
+
+  abbrev reach_on : Reach
+  reach_on = reach in_class sub budget x (length sub - (s + 1)) (s + 1) u
+
+  pub star_on : max_expand reach_on rest s l cs ≡ expand in_class sub budget x star rest s l cs u
   unfolding expand
-  plus_on t e = ap (λ y. max_expand y rest (s + 1) l cs) e
+  star_on = refl
 
--- `?` behind its byte, at a new level, and then without it
-module _ (in_class : ℕ → ℕ → Bool) (sub : List ℕ) (budget : ℕ) (x : Single) (rest : Rest) (s l : ℕ) (cs : List Capture) (u : ℕ) (r : Attempt) (kept : List ℕ)
-    (w : outcome_of r kept ≡ new_level l u (λ m. rest (s + 1) m cs u)) where
-  pub optional_ends : (r.number ≡ 1 → ⊥) → outcome_of r kept ≡ expand in_class sub budget x optional rest s l cs u
+  pub plus_on : max_expand reach_on rest (s + 1) l cs ≡ expand in_class sub budget x plus rest s l cs u
   unfolding expand
-  optional_ends n = ends_it r kept n _ w _
+  plus_on = refl
 
-  pub optional_fails : r.number ≡ 1 → rest s l cs r.steps ≡ expand in_class sub budget x optional rest s l cs u
-  unfolding expand
-  optional_fails e = goes_on r kept e _ w (λ v. rest s l cs v)
+-- ---- min_expand
 
-expand_spent : (rest : Rest) (s l : ℕ) (cs : List Capture) (u : ℕ) → stopped 27 0 u ≡ max_expand (spent u) rest s l cs
-unfolding max_expand
-expand_spent rest s l cs u = refl
-
-expand_from : (rest : Rest) (e s l : ℕ) (cs : List Capture) (u : ℕ) → longest_first rest (e - s) s l cs u ≡ max_expand (reached e u) rest s l cs
-unfolding max_expand
-expand_from rest e s l cs u = refl
-
--- max_expand's second loop, with its place at i
-module _ (rest : Rest) (i s l : ℕ) (cs : List Capture) (u : ℕ) where
-  abbrev here : Outcome
-  here = new_level l u (λ m. rest i m cs u)
-
-  last_one : i ≡ s → new_level l u (λ m. rest s m cs u) ≡ longest_first rest (i - s) s l cs u
-  unfolding longest_first
-  last_one e = let z : i - s ≡ 0 = omega arith in rw z
-
-  more : s < i → or_else (new_level l u (λ m. rest (s + suc (i - 1 - s)) m cs u)) (λ v. longest_first rest (i - 1 - s) s l cs v) ≡ longest_first rest (i - s) s l cs u
-  unfolding longest_first
-  more h = let z : i - s ≡ suc (i - 1 - s) = omega arith in rw z
-
-  pub longer : s < i → or_else here (λ v. longest_first rest (i - 1 - s) s l cs v) ≡ longest_first rest (i - s) s l cs u
-  longer h =
-      let z : i ≡ s + suc (i - 1 - s) = omega arith in
-      ap (λ (y : ℕ). or_else (new_level l u (λ m. rest y m cs u)) (λ v. longest_first rest (i - 1 - s) s l cs v)) z ∙ more h
-
-  pub shortest : i ≡ s → here ≡ longest_first rest (i - s) s l cs u
-  shortest e = ap (λ (y : ℕ). new_level l u (λ m. rest y m cs u)) e ∙ last_one e
-
-  module _ (r : Attempt) (kept : List ℕ) (w : outcome_of r kept ≡ here) where
-    pub longest_ends : s ≤ i → (r.number ≡ 1 → ⊥) → outcome_of r kept ≡ longest_first rest (i - s) s l cs u
-    longest_ends g n = ⊎_elim (λ h. ends_it r kept n here w _ ∙ longer h) (λ h. w ∙ shortest (omega arith)) (order s i)
-
--- min_expand, with the rest tried at i
 module _ (in_class : ℕ → ℕ → Bool) (sub : List ℕ) (budget : ℕ) (x : Single) (rest : Rest) (l : ℕ) (cs : List Capture) where
+  -- place i and those above it, each after its test
   abbrev pub from : ℕ → ℕ → Outcome
-  from i u = or_else (new_level l u (λ m. rest i m cs u)) (λ w. min_expand in_class sub budget x rest (length sub - i) i l cs w)
+  from i u = or_else (new_level l u (λ m. rest i m cs u)) (λ v. min_expand in_class sub budget x rest (length sub - i) i l cs v)
 
-  test_spent : (n i u : ℕ) → budget ≤ u → stopped 27 0 u ≡ min_expand in_class sub budget x rest n i l cs u
-  unfolding min_expand due when◌then◌else◌
-  test_spent zero i u h = rw (le-ltb u budget h)
-  test_spent (suc n) i u h = rw (le-ltb u budget h)
+  -- and once the rest has failed at i: the byte at s, the first, has fitted before
+  abbrev pub behind : ℕ → ℕ → ℕ → Outcome
+  behind s i v =
+      let tested = min_expand in_class sub budget x rest (length sub - i) i l cs v in
+      when ltb s i then tested else from (i + 1) v
 
-  test_fails : (n i u : ℕ) → u < budget → fits_at in_class sub x i ≡ false → failed (u + 1) ≡ min_expand in_class sub budget x rest n i l cs u
-  unfolding min_expand due when◌then◌else◌
-  test_fails zero i u h f = rw (lt-ltb u budget h)
-  test_fails (suc n) i u h f = rw (lt-ltb u budget h, f)
+  abbrev pub upwards : ℕ → ℕ → ℕ → Outcome
+  upwards s i u = or_else (new_level l u (λ m. rest i m cs u)) (λ v. behind s i v)
 
-  test_fits : (i u : ℕ) → u < budget → fits_at in_class sub x i ≡ true → i < length sub
-      → from (i + 1) (u + 1) ≡ min_expand in_class sub budget x rest (length sub - i) i l cs u
-  unfolding min_expand due when◌then◌else◌
-  test_fits i u h f g =
-      let z : length sub - i ≡ suc (length sub - (i + 1)) = omega arith in
-      rw (z, lt-ltb u budget h, f)
+  pub rest_failed : (s i u v : ℕ) → failed v ≡ new_level l u (λ m. rest i m cs u) → (o : Outcome) → upwards s i u ≡ o → behind s i v ≡ o
+  rest_failed s i u v w o e = goes_on _ (λ v. behind s i v) v w ∙ e
 
-  module _ (s u : ℕ) (r : Attempt) (kept : List ℕ) (w : outcome_of r kept ≡ new_level l u (λ m. rest s m cs u)) where
-    pub first_ends : (r.number ≡ 1 → ⊥) → outcome_of r kept ≡ expand in_class sub budget x minus rest s l cs u
-    unfolding expand
-    first_ends n = ends_it r kept n _ w _
+  pub all_up : (s u : ℕ) → upwards s s u ≡ expand in_class sub budget x minus rest s l cs u
+  unfolding expand when◌then◌else◌
+  all_up s u = rw (le-ltb s s (omega arith))
 
-    pub first_fails : r.number ≡ 1 → from (s + 1) r.steps ≡ expand in_class sub budget x minus rest s l cs u
-    unfolding expand
-    first_fails e = goes_on r kept e _ w (λ v. from (s + 1) v)
+  -- above s there is a test at every place
+  one_up : (s i u : ℕ) → s < i → upwards s i u ≡ from i u
+  unfolding when◌then◌else◌
+  one_up s i u h = rw (lt-ltb s i h)
 
-    pub later_ends : (r.number ≡ 1 → ⊥) → outcome_of r kept ≡ from s u
-    later_ends n = ends_it r kept n _ w _
+  -- the rest has failed at i
+  module _ (s i v : ℕ) (o : Outcome) (w : behind s i v ≡ o) where
+    pub up_first : s ≤ i → i ≤ s → upwards s (i + 1) v ≡ o
+    unfolding when◌then◌else◌
+    up_first g h = one_up s (i + 1) v (omega arith) ∙ subst (λ b. (let tested = min_expand in_class sub budget x rest (length sub - i) i l cs v in when b then tested else from (i + 1) v) ≡ o) (le-ltb s i h) w
 
-    module _ (e : r.number ≡ 1) where
-      tested : min_expand in_class sub budget x rest (length sub - s) s l cs r.steps ≡ from s u
-      tested = goes_on r kept e _ w (λ v. min_expand in_class sub budget x rest (length sub - s) s l cs v)
+    module _ (h : s < i) where
+      tested : min_expand in_class sub budget x rest (length sub - i) i l cs v ≡ o
+      unfolding when◌then◌else◌
+      tested = subst (λ b. (let tested = min_expand in_class sub budget x rest (length sub - i) i l cs v in when b then tested else from (i + 1) v) ≡ o) (lt-ltb s i h) w
 
-      pub later_spent : budget ≤ r.steps → stopped 27 0 r.steps ≡ from s u
-      later_spent h = test_spent (length sub - s) s r.steps h ∙ tested
+      test_spent : (n : ℕ) → budget ≤ v → stopped 27 0 v ≡ min_expand in_class sub budget x rest n i l cs v
+      unfolding min_expand due when◌then◌else◌
+      test_spent zero g = rw (le-ltb v budget g)
+      test_spent (suc n) g = rw (le-ltb v budget g)
 
-      pub later_fails : r.steps < budget → fits_at in_class sub x s ≡ false → failed (r.steps + 1) ≡ from s u
-      later_fails h f = test_fails (length sub - s) s r.steps h f ∙ tested
+      test_fails : (n : ℕ) → v < budget → fits_at in_class sub x i ≡ false → failed (v + 1) ≡ min_expand in_class sub budget x rest n i l cs v
+      unfolding min_expand due when◌then◌else◌
+      test_fails zero g f = rw (lt-ltb v budget g)
+      test_fails (suc n) g f = rw (lt-ltb v budget g, f)
 
-      pub later_next : r.steps < budget → fits_at in_class sub x s ≡ true → s < length sub → from (s + 1) (r.steps + 1) ≡ from s u
-      later_next h f g = test_fits s r.steps h f g ∙ tested
+      test_fits : v < budget → fits_at in_class sub x i ≡ true → i < length sub → from (i + 1) (v + 1) ≡ min_expand in_class sub budget x rest (length sub - i) i l cs v
+      unfolding min_expand due when◌then◌else◌
+      test_fits g f k =
+          let z : length sub - i ≡ suc (length sub - (i + 1)) = omega arith in
+          rw (z, lt-ltb v budget g, f)
 
--- ---- What the functions below found
+      pub up_spent : budget ≤ v → stopped 27 0 v ≡ o
+      up_spent g = test_spent (length sub - i) g ∙ tested
 
-module _ (rest : Rest) (s l : ℕ) (cs : List Capture) (u : ℕ) (o : Outcome) where
-  pub held_as_lem : {r : Held} (shape : Held) → r ≡ shape → held_as r rest s l cs u ≡ o → held_as shape rest s l cs u ≡ o
-  held_as_lem shape e w = subst (λ x. held_as x rest s l cs u ≡ o) e w
+      pub up_fails : v < budget → fits_at in_class sub x i ≡ false → failed (v + 1) ≡ o
+      up_fails g f = test_fails (length sub - i) g f ∙ tested
 
-pub found_as : {r : Found} (shape : Found) → r ≡ shape → (o : Option ℕ) → found_of r ≡ o → found_of shape ≡ o
-found_as shape e o w = subst (λ x. found_of x ≡ o) e w
+      pub up_next : v < budget → fits_at in_class sub x i ≡ true → i < length sub → upwards s (i + 1) (v + 1) ≡ o
+      up_next g f k = one_up s (i + 1) (v + 1) (omega arith) ∙ test_fits g f k ∙ tested
 
-module _ (r : Reached) where
-  reach_is_spent : r.is_spent ≡ true → spent r.steps ≡ reach_of r
-  reach_is_spent e = rw e
+-- ---- A place where the rest surely fails
 
-  pub reach_is : r.is_spent ≡ false → reached r.end r.steps ≡ reach_of r
-  reach_is e = rw e
+pub none_open : (b : Bool) (cs : List Capture) (n : ℕ) → IsTrue b ↔ (capture_to_close cs ≡ Some n) → b ≡ true → capture_to_close cs ≡ None → ⊥
+none_open b cs n w h f = let g = w.0 h in let z : ◌≡◌ {A = ℕ} 0 1 = cc in absurd (omega arith)
 
-  -- what max_expand makes of it
-  module _ (t : Reach) (w : reach_of r ≡ t) (rest : Rest) (s l : ℕ) (cs : List Capture) where
-    pub spent_expands : r.is_spent ≡ true → stopped 27 0 r.steps ≡ max_expand t rest s l cs
-    spent_expands e = expand_spent rest s l cs r.steps ∙ ap (λ (x : Reach). max_expand x rest s l cs) (reach_is_spent e ∙ w)
+module _ (pat : List ℕ) (next l : ℕ) (is_open : Bool) where
+  abbrev pub SureIf : Option Ahead → Type 0
+  SureIf first = IfSome first (λ a. (count : ℕ) → Sure pat next l count is_open a)
 
-    pub reach_expands : r.is_spent ≡ false → longest_first rest (r.end - s) s l cs r.steps ≡ max_expand t rest s l cs
-    reach_expands e = expand_from rest r.end s l cs r.steps ∙ ap (λ (x : Reach). max_expand x rest s l cs) (reach_is e ∙ w)
+  pub sure_single : (first : Option Ahead) → SureIf first → IfSome first (λ a. SingleIn pat a.at a.suffix)
+  sure_single None h = h
+  sure_single (Some a) h = (h 0).single
+
+  pub fails_ahead : (in_class : ℕ → ℕ → Bool) (sub : List ℕ) (budget s : ℕ) (cs : List Capture) (u v : ℕ) (first : Option Ahead)
+      → (is_open ≡ true → capture_to_close cs ≡ None → ⊥) → SureIf first → IsSomeAnd first (λ a. (v ≡ u + a.steps) × FailsHere in_class sub pat a s budget u)
+      → failed v ≡ new_level l u (λ m. match in_class sub budget (items pat next) s m cs u)
+  fails_ahead in_class sub budget s cs u v None o sure h = absurd h
+  fails_ahead in_class sub budget s cs u v (Some a) o sure h =
+      let f = h.1 in
+      ap failed h.0 ∙ (sure (length cs)).fails in_class sub budget s cs u (omega arith) o f.left f.unfit

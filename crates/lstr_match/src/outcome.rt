@@ -1,107 +1,115 @@
 // How an attempt ends.
 ghost use Rattle.std.specs.Prelude.{◌≡◌};
-ghost use Rattle.lstr_item.specs.Match.{failed, stopped, raised};
-ghost use Rattle.lstr_match.specs.Inner.{EndsAs, MatchesAs};
+ghost use Rattle.lstr_match.specs.Inner.{number_of, kind_of_stop};
 
-pub const MATCHED: u8 = 0;
+use lstr_item::error::LuaError;
 
-pub const FAILED: u8 = 1;
+// What stops the trial in an attempt.
+#[derive(Clone, Copy, Debug, PartialEq, Eq)]
+pub enum Stop {
+    // no step was left where one was due
+    Spent,
+    // a level too many was to be opened
+    TooDeep,
+    Raised(LuaError),
+}
 
-pub const SPENT: u8 = 27;
+impl Stop {
+    // The numbers that include/luck.h gives it.
+    pub fn number(self) -> u8
+        ensures { result ≡ number_of self }
+    {
+        match self {
+            Stop::Spent => 27,
+            Stop::TooDeep => 28,
+            Stop::Raised(_) => 29,
+        }
+    }
 
-pub const TOO_DEEP: u8 = 28;
+    // 0 where Lua raised no error.
+    pub fn kind(self) -> u8
+        ensures { result ≡ kind_of_stop self }
+    {
+        match self {
+            Stop::Spent | Stop::TooDeep => 0,
+            Stop::Raised(error) => error.kind(),
+        }
+    }
+}
 
-pub const RAISED: u8 = 29;
+// A match has its end and the count of its captures. The end stands between what is narrower: neighbours of one width are copied as one, which waits for both
+// to be written.
+#[derive(Clone, Copy, Debug, PartialEq, Eq)]
+pub enum Ending {
+    Matched { end: usize, count: u16 },
+    Failed,
+    Stopped(Stop),
+}
 
-// The kinds of an error, by lstrlib.c's message.
-pub const INVALID_PATTERN_CAPTURE: u8 = 5;
-
-pub const INVALID_CAPTURE_INDEX: u8 = 7;
-
-pub const TOO_MANY_CAPTURES: u8 = 8;
-
-// By its number: a match has its end and the count of its captures, an error its kind; what an end does not have is 0. Neighbours are of
-// different widths: two of one width are copied as one, which waits for both to be written.
-#[derive(Clone, Copy)]
+// With the steps used by then.
+#[derive(Clone, Copy, Debug, PartialEq, Eq)]
 pub struct Attempt {
-    pub end: usize,
+    pub ending: Ending,
     pub steps: u32,
-    pub number: u8,
-    pub count: u16,
-    pub kind: u8,
 }
 
-pub fn matched(end: usize, count: u16, steps: u32) -> Attempt
-    ensures { MatchesAs result end count steps }
-{
-    Attempt {
-        end,
-        steps,
-        number: MATCHED,
-        count,
-        kind: 0,
+impl Attempt {
+    ghost use Rattle.lstr_item.specs.Errors.{kind_of};
+    ghost use Rattle.lstr_item.specs.Match.{failed, stopped, raised};
+    ghost use Rattle.lstr_match.specs.Inner.{EndsAs, MatchesAs};
+
+    pub fn matched(end: usize, count: u16, steps: u32) -> Attempt
+        ensures { MatchesAs result end count steps }
+    {
+        Attempt {
+            ending: Ending::Matched { end, count },
+            steps,
+        }
     }
-}
 
-pub fn failed(steps: u32) -> Attempt
-    ensures { EndsAs result (failed steps) }
-{
-    Attempt {
-        end: 0,
-        steps,
-        number: FAILED,
-        count: 0,
-        kind: 0,
+    pub fn failed(steps: u32) -> Attempt
+        ensures { EndsAs result (failed steps) }
+    {
+        Attempt {
+            ending: Ending::Failed,
+            steps,
+        }
     }
-}
 
-// No step was left where one was due.
-pub fn spent(steps: u32) -> Attempt
-    ensures { EndsAs result (stopped 27 0 steps) }
-{
-    Attempt {
-        end: 0,
-        steps,
-        number: SPENT,
-        count: 0,
-        kind: 0,
+    pub fn spent(steps: u32) -> Attempt
+        ensures { EndsAs result (stopped 27 0 steps) }
+    {
+        Attempt {
+            ending: Ending::Stopped(Stop::Spent),
+            steps,
+        }
     }
-}
 
-// A level too many was to be opened.
-pub fn too_deep(steps: u32) -> Attempt
-    ensures { EndsAs result (stopped 28 0 steps) }
-{
-    Attempt {
-        end: 0,
-        steps,
-        number: TOO_DEEP,
-        count: 0,
-        kind: 0,
+    pub fn too_deep(steps: u32) -> Attempt
+        ensures { EndsAs result (stopped 28 0 steps) }
+    {
+        Attempt {
+            ending: Ending::Stopped(Stop::TooDeep),
+            steps,
+        }
     }
-}
 
-pub fn raised(kind: u8, steps: u32) -> Attempt
-    ensures { EndsAs result (raised kind steps) }
-{
-    Attempt {
-        end: 0,
-        steps,
-        number: RAISED,
-        count: 0,
-        kind,
+    pub fn raised(error: LuaError, steps: u32) -> Attempt
+        ensures { EndsAs result (raised (kind_of error) steps) }
+    {
+        Attempt {
+            ending: Ending::Stopped(Stop::Raised(error)),
+            steps,
+        }
     }
-}
 
-// The same attempt, built anew from its fields: handed on whole, what a call has just written is read back as one piece, and that waits (8 ns).
-pub fn answer(r: Attempt) -> Attempt
-    ensures { result ≡ r }
-{
-    Attempt {
-        end: r.end,
-        steps: r.steps,
-        number: r.number,
-        count: r.count,
-        kind: r.kind,
+    // The same attempt, built anew from its fields: handed on whole, what a call has just written is read back as one piece, and that waits (8 ns).
+    pub fn answer(self) -> Attempt
+        ensures { result ≡ self }
+    {
+        Attempt {
+            ending: self.ending,
+            steps: self.steps,
+        }
     }
 }

@@ -93,9 +93,6 @@ module _ (number : ℕ) (digits : List ℕ) (first left : ℕ) (so_far : Digits 
       let e : first - 1 + 1 ≡ first = omega (arith, so_far.low) in
       put_front digits (first - 1) (48 + left % 10) (omega (arith, so_far.all, so_far.low, so_far.high)) ∙ ap (λ (k : ℕ). (48 + left % 10) ∷ drop k digits) e
 
-  pub put_fits : 20 ≤ length put
-  put_fits = omega (arith, length-set digits (first - 1) (48 + left % 10), so_far.all)
-
   pub one_digit : (left / 10 ≡ 0 → ⊥) → Digits number put (first - 1) (left / 10)
   one_digit n =
       let less = tens_less first left so_far.low so_far.few in

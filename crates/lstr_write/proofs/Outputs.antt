@@ -1,17 +1,23 @@
 -- The lent output while it is written: what stands up to a place, and behind it what the output held at entry. Two writings make one.
 -- Assumes nothing.
+use Rattle.std.specs.Prelude.{Result, Ok, Err}
 use Prim.Native.Nat.{ℕ, ◌+◌, ◌-◌, ◌≤◌, ◌<◌}
 use native.Mathlib.Numerals.{add-one}
 use native.Mathlib.Omega.{arith}
 use mathlib.Core.Path.{◌≡◌, refl, sym, ap, subst, ◌∙◌}
+use mathlib.Core.Logic.{⊎_elim}
 use mathlib.Core.List.{List, [], ◌∷◌, ◌++◌}
 use lib.ListN.{length, get_or, set, take, drop, take-append-drop, length-set, drop_of_length-le}
 use lib.Seq.{length-take-le, drop-append-add, drop-drop, drop-set-lt, take-suc-set, drop-cons}
-use borrow.Author.Tests.{eq-eqb, ne_eqb, lt-ltb, le-ltb}
-use Rattle.luck_text.proofs.Cases.{if_true, if_false}
-use Rattle.lstr_write.specs.Replace.{Wrote, wrote, ended, append}
-use Rattle.lstr_write.specs.Inner.{wrote_by, wrote_of, WroteAs}
-use Rattle.lstr_write.specs.declared.replace.Wrote.{Wrote as Written}
+use borrow.Author.Tests.{lt-ltb, le-ltb}
+use Rattle.luck_text.specs.Bytes.{when◌then◌else◌}
+use Rattle.luck_text.proofs.Cases.{if_true, if_false, order}
+use Rattle.lstr_write.specs.Replace.{Wrote, wrote, ended, and_then, append}
+use Rattle.lstr_write.specs.Stops.{number_of, kind_of_stop}
+use Rattle.lstr_write.specs.Inner.{end_of, WroteAs}
+use Rattle.lstr_write.specs.declared.stop.Stop.{Stop}
+use Rattle.lstr_write.specs.declared.stop.Stop.TheVariants as stop
+use Rattle.lstr_write.specs.declared.stop.Stopped.{Stopped}
 
 pub record Upto (at : ℕ) (entry : List ℕ) (next : ℕ) (now : List ℕ) : Type 0 where
   pub untouched : now ≡ take next now ++ drop next entry
@@ -35,9 +41,12 @@ module _ (at : ℕ) (entry : List ℕ) (next : ℕ) (now : List ℕ) (upto : Upt
   length_so_far = length-take-le next now (omega (arith, upto.inside, upto.same))
 
   -- what is written so far is all
-  pub stays : (number kind : ℕ) (w : Wrote) → wrote_of (record { at = next; number = number; kind = kind }) (take next now) ≡ w
-      → WroteAs (record { at = next; number = number; kind = kind }) at entry now w
-  stays number kind w e = record { is = e; untouched = upto.untouched; further = upto.further; inside = upto.inside }
+  pub stays : (w : Wrote) → wrote (take next now) ≡ w → WroteAs (Ok next) at entry now w
+  stays w e = record { is = e; untouched = upto.untouched; further = upto.further; inside = upto.inside }
+
+  -- or the writing ends here
+  pub stops : (s : Stop) (w : Wrote) → ended (number_of s) (kind_of_stop s) (take next now) ≡ w → WroteAs (Err (record { at = next; stop = s })) at entry now w
+  stops s w e = record { is = e; untouched = upto.untouched; further = upto.further; inside = upto.inside }
 
   -- one more byte
   module _ (b : ℕ) (h : next < length entry) where
@@ -56,11 +65,11 @@ module _ (at : ℕ) (entry : List ℕ) (next : ℕ) (now : List ℕ) (upto : Upt
         }
 
   -- another writing from here
-  module _ (r : Written) (exit : List ℕ) (w : Wrote) (more : WroteAs r next now exit w) (same : length exit ≡ length now) where
-    pub goes_on : Upto at entry r.at exit
+  module _ (r : Result ℕ Stopped) (exit : List ℕ) (w : Wrote) (more : WroteAs r next now exit w) (same : length exit ≡ length now) where
+    pub goes_on : Upto at entry (end_of r) exit
     goes_on =
         record {
-          untouched = more.untouched ∙ ap (λ (rest : List ℕ). take r.at exit ++ rest) (behind r.at more.further);
+          untouched = more.untouched ∙ ap (λ (rest : List ℕ). take (end_of r) exit ++ rest) (behind (end_of r) more.further);
           further = omega (arith, more.further, upto.further);
           inside = omega (arith, more.inside, upto.same);
           same = same ∙ upto.same;
@@ -70,58 +79,82 @@ module _ (at : ℕ) (entry : List ℕ) (next : ℕ) (now : List ℕ) (upto : Upt
     ends_all all e =
         record { is = more.is ∙ e; untouched = goes_on.untouched; further = goes_on.further; inside = goes_on.inside }
 
--- ---- What a writing says
+-- ---- A writing in parts
 
-module _ (r : Written) (out : List ℕ) where
-  pub is_wrote : r.number ≡ 0 → wrote_of r out ≡ wrote out
-  unfolding wrote_of wrote_by
-  is_wrote e = rw (eq-eqb r.number 0 e)
+module _ (at : ℕ) (entry : List ℕ) (whole : Wrote) where
+  -- what is left to write, behind what is written, makes the whole writing
+  pub record Left (rest : List ℕ → Wrote) (next : ℕ) (now : List ℕ) : Type 0 where
+    pub upto : Upto at entry next now
+    pub is : rest (take next now) ≡ whole
 
-  pub is_ended : (r.number ≡ 0 → ⊥) → wrote_of r out ≡ ended r.number r.kind out
-  unfolding wrote_of wrote_by
-  is_ended n = rw (ne_eqb r.number 0 n)
+  module _ (part rest : List ℕ → Wrote) (next : ℕ) (now : List ℕ) (left : Left (λ out. and_then (part out) rest) next now)
+      (exit : List ℕ) (same : length exit ≡ length now) where
+    pub part_done : (k : ℕ) → WroteAs (Ok k) next now exit (part (take next now)) → Left rest k exit
+    unfolding and_then
+    part_done k w =
+        record { upto = goes_on at entry next now left.upto (Ok k) exit _ w same; is = ap (λ (x : Wrote). and_then x rest) w.is ∙ left.is }
+
+    pub part_stops : (e : Stopped) → WroteAs (Err e) next now exit (part (take next now)) → WroteAs (Err e) at entry exit whole
+    unfolding and_then
+    part_stops e w =
+        let u = goes_on at entry next now left.upto (Err e) exit _ w same in
+        record {
+          is = ap (λ (x : Wrote). and_then x rest) w.is ∙ left.is;
+          untouched = u.untouched;
+          further = u.further;
+          inside = u.inside;
+        }
 
 -- ---- Bytes in order
 
-module _ (room : ℕ) (bytes : List ℕ) (i : ℕ) (out : List ℕ) where
-  pub none_left : length bytes ≤ i → append room (drop i bytes) out ≡ wrote out
-  unfolding append
-  none_left h = rw (drop_of_length-le bytes {i = i} h)
+one_first : (room b : ℕ) (more out : List ℕ) → append room (b ∷ more) out ≡ and_then (append room (b ∷ []) out) (λ now. append room more now)
+unfolding append and_then when◌then◌else◌
+one_first room b more out =
+    ⊎_elim (λ l. rw (lt-ltb (length out) room l)) (λ l. rw (le-ltb (length out) room l)) (order (length out) room)
 
-  module _ (h : i < length bytes) where
-    cut : drop i bytes ≡ get_or bytes i 0 ∷ drop (i + 1) bytes
-    cut = rw (drop-cons bytes i 0 h, add-one i)
+pub none_left : (room : ℕ) (bytes : List ℕ) (i : ℕ) (out : List ℕ) → length bytes ≤ i → append room (drop i bytes) out ≡ wrote out
+unfolding append
+none_left room bytes i out h = rw (drop_of_length-le bytes {i = i} h)
 
-    pub one_more : length out < room → append room (drop i bytes) out ≡ append room (drop (i + 1) bytes) (out ++ (get_or bytes i 0 ∷ []))
-    unfolding append
-    one_more l = ap (λ (rest : List ℕ). append room rest out) cut ∙ if_true _ _ _ (lt-ltb (length out) room l)
+module _ (at : ℕ) (entry bytes : List ℕ) where
+  abbrev pub BytesLeft : ℕ → ℕ → List ℕ → Type 0
+  BytesLeft i next now =
+      Left at entry (append (length entry) bytes (take at entry)) (λ out. append (length entry) (drop i bytes) out) next now
 
-    pub is_full : room ≤ length out → append room (drop i bytes) out ≡ ended 26 0 out
-    unfolding append
-    is_full l = ap (λ (rest : List ℕ). append room rest out) cut ∙ if_false _ _ _ (le-ltb (length out) room l)
+  pub next_byte : (i next : ℕ) (now : List ℕ) → i < length bytes → BytesLeft i next now
+      → Left at entry (append (length entry) bytes (take at entry))
+      (λ out. and_then (append (length now) (get_or bytes i 0 ∷ []) out) (λ more. append (length entry) (drop (i + 1) bytes) more)) next now
+  next_byte i next now h left =
+      let cut : drop i bytes ≡ get_or bytes i 0 ∷ drop (i + 1) bytes = rw (drop-cons bytes i 0 h, add-one i) in
+      record {
+        upto = left.upto;
+        is =
+            ap (λ (room : ℕ). and_then (append room (get_or bytes i 0 ∷ []) (take next now)) (λ more. append (length entry) (drop (i + 1) bytes) more)) left.upto.same
+            ∙ sym (one_first (length entry) (get_or bytes i 0) (drop (i + 1) bytes) (take next now))
+            ∙ ap (λ (rest : List ℕ). append (length entry) rest (take next now)) (sym cut) ∙ left.is;
+      }
 
 -- ---- One byte
 
 module _ (at : ℕ) (entry : List ℕ) (next : ℕ) (now : List ℕ) (upto : Upto at entry next now) (b : ℕ) where
-  pub byte_put : next < length entry
-      → WroteAs (record { at = next + 1; number = 0; kind = 0 }) at entry (set now next b) (append (length entry) (b ∷ []) (take next now))
-  unfolding append wrote_of wrote_by
+  pub byte_put : next < length entry → WroteAs (Ok (next + 1)) at entry (set now next b) (append (length entry) (b ∷ []) (take next now))
+  unfolding append
   byte_put h =
-      stays at entry (next + 1) (set now next b) (puts at entry next now upto b h) 0 0 _
+      stays at entry (next + 1) (set now next b) (puts at entry next now upto b h) _
       (ap wrote (put_byte at entry next now upto b h)
       ∙ sym (if_true _ _ _ (lt-ltb (length (take next now)) (length entry) (omega (arith, length_so_far at entry next now upto)))))
 
-  pub byte_full : length entry ≤ next → WroteAs (record { at = next; number = 26; kind = 0 }) at entry now (append (length entry) (b ∷ []) (take next now))
-  unfolding append wrote_of wrote_by
+  pub byte_full : length entry ≤ next → WroteAs (Err (record { at = next; stop = stop.OutputFull })) at entry now (append (length entry) (b ∷ []) (take next now))
+  unfolding append
   byte_full h =
-      stays at entry next now upto 26 0 _
+      stops at entry next now upto stop.OutputFull _
       (sym (if_false _ _ _ (le-ltb (length (take next now)) (length entry) (omega (arith, length_so_far at entry next now upto)))))
 
 -- the same writing by another name
-pub known_as : (r : Written) (at : ℕ) (entry exit : List ℕ) (w all : Wrote) → WroteAs r at entry exit w → w ≡ all → WroteAs r at entry exit all
+pub known_as : (r : Result ℕ Stopped) (at : ℕ) (entry exit : List ℕ) (w all : Wrote) → WroteAs r at entry exit w → w ≡ all → WroteAs r at entry exit all
 known_as r at entry exit w all more e = subst (λ (x : Wrote). WroteAs r at entry exit x) e more
 
 -- nothing is written
-pub raises : (at : ℕ) (out : List ℕ) (number kind : ℕ) (w : Wrote) → at ≤ length out → (number ≡ 0 → ⊥) → ended number kind (take at out) ≡ w
-    → WroteAs (record { at = at; number = number; kind = kind }) at out out w
-raises at out number kind w h n e = stays at out at out (begins at out h) number kind w (is_ended (record { at = at; number = number; kind = kind }) (take at out) n ∙ e)
+pub raises : (at : ℕ) (out : List ℕ) (s : Stop) (w : Wrote) → at ≤ length out → ended (number_of s) (kind_of_stop s) (take at out) ≡ w
+    → WroteAs (Err (record { at = at; stop = s })) at out out w
+raises at out s w h e = stops at out at out (begins at out h) s w e

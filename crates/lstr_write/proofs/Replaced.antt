@@ -1,9 +1,10 @@
 -- What is written for a digit, an escape and the pieces of a replacement, case by case.
 -- Assumes nothing.
-use Prim.Native.Nat.{ℕ, zero, suc, ◌+◌, ◌-◌, ◌*◌, ◌≤◌, ◌<◌}
+use Rattle.std.specs.Prelude.{Ok, Err}
+use Prim.Native.Nat.{ℕ, zero, suc, ◌+◌, ◌-◌, ◌≤◌, ◌<◌}
 use native.Mathlib.Numerals.{add-one}
 use native.Mathlib.Omega.{arith}
-use mathlib.Core.Path.{◌≡◌, refl, sym, ap, ap₂, subst, ◌∙◌}
+use mathlib.Core.Path.{◌≡◌, refl, sym, ap, ◌∙◌}
 use mathlib.Core.Bool.{Bool, true, false}
 use mathlib.Core.List.{List, [], ◌∷◌}
 use lib.ListN.{length, get_or, take, drop, drop_of_length-le}
@@ -14,10 +15,11 @@ use Rattle.luck_text.proofs.Cases.{if_true, if_false}
 use Rattle.luck_replacement.specs.Replacement.{Piece, literal, digit, percent, other, lone, escaped, pieces}
 use Rattle.lstr_item.specs.Match.{Capture, opened}
 use Rattle.lstr_write.specs.Replace.{Wrote, wrote, ended, and_then, append, decimal, add_capture, add_digit, add_piece, add_pieces}
-use Rattle.lstr_item.specs.Inner.{unfinished, positional, capture_of, PairIn, captures_in, KeptIn}
-use Rattle.lstr_write.specs.Inner.{wrote_of, WroteAs}
-use Rattle.lstr_write.specs.declared.replace.Wrote.{Wrote as Written}
-use Rattle.lstr_write.proofs.Outputs.{Upto, is_wrote, is_ended, goes_on}
+use Rattle.lstr_item.specs.Inner.{unfinished, positional, capture_of, no_pair, captures_in}
+use Rattle.lstr_item.specs.declared.capture.Pair.{Pair}
+use Rattle.lstr_write.specs.Inner.{WroteAs}
+use Rattle.lstr_write.specs.declared.stop.Stopped.{Stopped}
+use Rattle.lstr_write.proofs.Outputs.{Left, part_done, part_stops}
 
 -- ---- A capture
 
@@ -35,34 +37,19 @@ module _ (sub : List ℕ) (room start len : ℕ) (out : List ℕ) where
     unfolding add_capture capture_of when◌then◌else◌
     is_closed m = rw (ne_eqb len unfinished n, ne_eqb len positional m)
 
--- ---- The captures that were kept
+-- ---- The captures of a match
 
-captures_length : (n : ℕ) (kept : List ℕ) → n + n ≤ length kept → length (captures_in n kept) ≡ n
+captures_length : (pairs : List Pair) → length (captures_in pairs) ≡ length pairs
 unfolding captures_in
-captures_length zero kept h = refl
-captures_length (suc n) [] h = absurd (omega arith)
-captures_length (suc n) (start ∷ []) h = absurd (omega arith)
-captures_length (suc n) (start ∷ len ∷ kept) h = ap suc (captures_length n kept (omega arith))
+captures_length [] = refl
+captures_length (q ∷ pairs) = ap suc (captures_length pairs)
 
-pub captures_few : (n : ℕ) (kept : List ℕ) → length (captures_in n kept) ≤ n
+captures_at : (pairs : List Pair) (i : ℕ) → i < length pairs
+    → get_or (captures_in pairs) i (opened 0) ≡ capture_of (get_or pairs i no_pair).start (get_or pairs i no_pair).len
 unfolding captures_in
-captures_few zero kept = omega arith
-captures_few (suc n) [] = omega arith
-captures_few (suc n) (start ∷ []) = omega arith
-captures_few (suc n) (start ∷ len ∷ kept) = omega (arith, captures_few n kept)
-
-captures_at : (n : ℕ) (kept : List ℕ) (i : ℕ) → n + n ≤ length kept → i < n
-    → get_or (captures_in n kept) i (opened 0) ≡ capture_of (get_or kept (i + i) 0) (get_or kept (i + i + 1) 0)
-unfolding captures_in
-captures_at zero kept i h l = absurd (omega arith)
-captures_at (suc n) [] i h l = absurd (omega arith)
-captures_at (suc n) (start ∷ []) i h l = absurd (omega arith)
-captures_at (suc n) (start ∷ len ∷ kept) zero h l = refl
-captures_at (suc n) (start ∷ len ∷ kept) (suc i) h l =
-    let e : suc i + suc i ≡ suc (suc (i + i)) = omega arith in
-    let f : suc i + suc i + 1 ≡ suc (suc (i + i + 1)) = omega arith in
-    captures_at n kept i (omega arith) (omega arith)
-    ∙ sym (ap₂ (λ (x y : ℕ). capture_of (get_or (start ∷ len ∷ kept) x 0) (get_or (start ∷ len ∷ kept) y 0)) e f)
+captures_at [] i h = absurd (omega arith)
+captures_at (q ∷ pairs) zero h = refl
+captures_at (q ∷ pairs) (suc i) h = captures_at pairs i (omega arith)
 
 -- ---- A digit
 
@@ -84,14 +71,25 @@ module _ (sub : List ℕ) (room s e : ℕ) (cs : List Capture) (d : ℕ) (out : 
     unfolding add_digit
     digit_none h f = sym (if_false _ _ _ (ne_eqb d 0 n) ∙ if_false _ _ _ (lt-leb d (length cs) h) ∙ if_false _ _ _ (ne_eqb d 1 f))
 
--- the capture of a digit, by the places where it was kept
-pub digit_kept : (sub : List ℕ) (room s e n : ℕ) (kept : List ℕ) (d : ℕ) (out : List ℕ) → n + n ≤ length kept → (d ≡ 0 → ⊥) → d - 1 < n
-    → add_capture sub room (capture_of (get_or kept (2 * (d - 1)) 0) (get_or kept (2 * (d - 1) + 1) 0)) out ≡ add_digit sub room s e (captures_in n kept) d out
-digit_kept sub room s e n kept d out h z l =
-    let e2 : 2 * (d - 1) ≡ d - 1 + (d - 1) = omega arith in
-    ap (λ (x : ℕ). add_capture sub room (capture_of (get_or kept x 0) (get_or kept (x + 1) 0)) out) e2
-    ∙ ap (λ (c : Capture). add_capture sub room c out) (sym (captures_at n kept (d - 1) h l))
-    ∙ digit_capture sub room s e (captures_in n kept) d out z (omega (arith, captures_length n kept h))
+-- a digit among those of a match, and one that is not
+module _ (sub : List ℕ) (room s e : ℕ) (pairs : List Pair) (d : ℕ) (out : List ℕ) (z : d ≡ 0 → ⊥) where
+  abbrev here : Pair
+  here = get_or pairs (d - 1) no_pair
+
+  abbrev Digit : Wrote → Type 0
+  Digit w = w ≡ add_digit sub room s e (captures_in pairs) d out
+
+  pub digit_kept : d - 1 < length pairs → Digit (add_capture sub room (capture_of here.start here.len) out)
+  digit_kept l =
+      ap (λ (c : Capture). add_capture sub room c out) (sym (captures_at pairs (d - 1) l))
+      ∙ digit_capture sub room s e (captures_in pairs) d out z (omega (arith, captures_length pairs))
+
+  module _ (l : length pairs ≤ d - 1) where
+    pub digit_one : d - 1 ≡ 0 → Digit (append room (part sub s e) out)
+    digit_one f = digit_whole sub room s e (captures_in pairs) d out z (omega (arith, captures_length pairs)) (omega arith)
+
+    pub digit_missing : (d - 1 ≡ 0 → ⊥) → Digit (ended 29 10 out)
+    digit_missing f = digit_none sub room s e (captures_in pairs) d out z (omega (arith, captures_length pairs)) (λ g. f (omega arith))
 
 -- ---- An escape
 
@@ -174,74 +172,60 @@ then_wrote (ended number kind out) = refl
 -- ---- The pieces from a place on, behind what is written
 
 module _ (sub : List ℕ) (s e : ℕ) (cs : List Capture) (strict : Bool) (rep : List ℕ) (at : ℕ) (entry : List ℕ) where
-  abbrev pub on : ℕ → List ℕ → Wrote
+  abbrev on : ℕ → List ℕ → Wrote
   on read out = add_pieces sub (length entry) s e cs strict (pieces (drop read rep)) out
+
+  abbrev all : Wrote
+  all = add_pieces sub (length entry) s e cs strict (pieces rep) (take at entry)
 
   -- the pieces from `read` on, behind what is written up to `next`, make the whole writing
   pub record Pieces (read next : ℕ) (now : List ℕ) : Type 0 where
     pub inside : read ≤ length rep
-    pub upto : Upto at entry next now
-    pub is : on read (take next now) ≡ add_pieces sub (length entry) s e cs strict (pieces rep) (take at entry)
+    pub left : Left at entry all (on read) next now
 
   module _ (read next : ℕ) (now : List ℕ) (so_far : Pieces read next now) where
-    pub all_pieces : length rep ≤ read → wrote (take next now) ≡ add_pieces sub (length entry) s e cs strict (pieces rep) (take at entry)
+    abbrev Ends : Wrote → Type 0
+    Ends w = w ≡ all
+
+    pub all_pieces : length rep ≤ read → Ends (wrote (take next now))
     unfolding add_pieces
     all_pieces h =
-        sym (ap (λ (ps : List Piece). add_pieces sub (length entry) s e cs strict ps (take next now)) (at_end rep read h)) ∙ so_far.is
+        sym (ap (λ (ps : List Piece). add_pieces sub (length entry) s e cs strict ps (take next now)) (at_end rep read h)) ∙ so_far.left.is
 
     -- a piece from `read` up to `after`
-    module _ (p : Piece) (after : ℕ) (here : pieces (drop read rep) ≡ p ∷ pieces (drop after rep)) (fits : after ≤ length rep)
-        (r : Written) (exit : List ℕ) (w : WroteAs r next now exit (add_piece sub (length now) s e cs strict p (take next now))) (same : length exit ≡ length now) where
-      cut : and_then (wrote_of r (take r.at exit)) (λ out. on after out) ≡ add_pieces sub (length entry) s e cs strict (pieces rep) (take at entry)
+    module _ (p : Piece) (after : ℕ) (here : pieces (drop read rep) ≡ p ∷ pieces (drop after rep)) where
+      abbrev adds_here : List ℕ → Wrote
+      adds_here out = add_piece sub (length now) s e cs strict p out
+
+      cut : Left at entry all (λ out. and_then (adds_here out) (on after)) next now
       unfolding add_pieces
       cut =
-          ap (λ (x : Wrote). and_then x (λ out. on after out))
-          (w.is ∙ ap (λ (room : ℕ). add_piece sub room s e cs strict p (take next now)) so_far.upto.same)
-          ∙ sym (ap (λ (ps : List Piece). add_pieces sub (length entry) s e cs strict ps (take next now)) here) ∙ so_far.is
-
-      pub piece_done : r.number ≡ 0 → Pieces after r.at exit
-      unfolding and_then
-      piece_done z =
           record {
-            inside = fits;
-            upto = goes_on at entry next now so_far.upto r exit _ w same;
-            is = sym (ap (λ (x : Wrote). and_then x (λ out. on after out)) (is_wrote r (take r.at exit) z)) ∙ cut;
-          }
-
-      pub piece_ended : (r.number ≡ 0 → ⊥)
-          → WroteAs (record { at = r.at; number = r.number; kind = r.kind }) at entry exit (add_pieces sub (length entry) s e cs strict (pieces rep) (take at entry))
-      unfolding and_then
-      piece_ended n =
-          let u = goes_on at entry next now so_far.upto r exit _ w same in
-          record {
+            upto = so_far.left.upto;
             is =
-                is_ended r (take r.at exit) n
-                ∙ sym (ap (λ (x : Wrote). and_then x (λ out. on after out)) (is_ended r (take r.at exit) n)) ∙ cut;
-            untouched = u.untouched;
-            further = u.further;
-            inside = u.inside;
+                ap (λ (room : ℕ). and_then (add_piece sub room s e cs strict p (take next now)) (on after)) so_far.left.upto.same
+                ∙ sym (ap (λ (ps : List Piece). add_pieces sub (length entry) s e cs strict ps (take next now)) here) ∙ so_far.left.is;
           }
+
+      module _ (exit : List ℕ) (same : length exit ≡ length now) where
+        pub piece_done : after ≤ length rep → (k : ℕ) → WroteAs (Ok k) next now exit (adds_here (take next now)) → Pieces after k exit
+        piece_done fits k w = record { inside = fits; left = part_done at entry all adds_here (on after) next now cut exit same k w }
+
+        pub piece_stops : (x : Stopped) → WroteAs (Err x) next now exit (adds_here (take next now)) → WroteAs (Err x) at entry exit all
+        piece_stops x w = part_stops at entry all adds_here (on after) next now cut exit same x w
 
     -- a final `%`
     module _ (h : read < length rep) (b : byte_at rep read ≡ 37) (l : length rep ≤ read + 1) where
-      only : add_piece sub (length entry) s e cs strict lone (take next now) ≡ add_pieces sub (length entry) s e cs strict (pieces rep) (take at entry)
+      only : Ends (add_piece sub (length entry) s e cs strict lone (take next now))
       unfolding add_pieces
       only =
           sym (then_wrote (add_piece sub (length entry) s e cs strict lone (take next now)))
-          ∙ sym (ap (λ (ps : List Piece). add_pieces sub (length entry) s e cs strict ps (take next now)) (at_lone rep read h b l)) ∙ so_far.is
+          ∙ sym (ap (λ (ps : List Piece). add_pieces sub (length entry) s e cs strict ps (take next now)) (at_lone rep read h b l)) ∙ so_far.left.is
 
-      pub lone_zero : strict ≡ false → append (length now) (0 ∷ []) (take next now) ≡ add_pieces sub (length entry) s e cs strict (pieces rep) (take at entry)
+      pub lone_zero : strict ≡ false → Ends (append (length now) (0 ∷ []) (take next now))
       unfolding add_piece
-      lone_zero t = ap (λ (room : ℕ). append room (0 ∷ []) (take next now)) so_far.upto.same ∙ sym (if_false _ _ _ t) ∙ only
+      lone_zero t = ap (λ (room : ℕ). append room (0 ∷ []) (take next now)) so_far.left.upto.same ∙ sym (if_false _ _ _ t) ∙ only
 
-      pub lone_raises : strict ≡ true → ended 29 9 (take next now) ≡ add_pieces sub (length entry) s e cs strict (pieces rep) (take at entry)
+      pub lone_raises : strict ≡ true → Ends (ended 29 9 (take next now))
       unfolding add_piece
       lone_raises t = sym (if_true _ _ _ t) ∙ only
-
--- ---- What is kept lies in the subject
-
-pub pair_kept : (len n : ℕ) (kept : List ℕ) (i : ℕ) → KeptIn len n kept → i < n
-    → PairIn len (record { start = get_or kept (2 * i) 0; len = get_or kept (2 * i + 1) 0 })
-pair_kept len n kept i all h =
-    let e : i + i ≡ 2 * i = omega arith in
-    subst (λ (x : ℕ). PairIn len (record { start = get_or kept x 0; len = get_or kept (x + 1) 0 })) e (all.each i h)

@@ -1,3 +1,4 @@
 pub mod Replace
+pub mod Stops
 pub mod Inner
 pub mod Computed

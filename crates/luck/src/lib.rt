@@ -9,14 +9,13 @@ ghost use Rattle.luck_format.specs.Date.{check_date};
 ghost use Rattle.luck_format.specs.Format.{check_format};
 ghost use Rattle.luck_pack.specs.Pack.{check_pack};
 ghost use Rattle.luck_pattern.specs.Pattern.{check_pattern};
-ghost use Rattle.luck_replacement.specs.Replacement.{count_of, check_replacement};
+ghost use Rattle.luck_replacement.specs.Replacement.{check_replacement};
 ghost use Rattle.luck_linter.specs.StringLiteral.{literal_answer, check_literal};
 ghost use Rattle.lstr_gsub.specs.Gsub.{report, report_of, output_after, gsub};
 ghost use Rattle.luck_structs.specs.Answers.{decoded_answer, count_if};
 
 use lstr_gsub::gsub;
 use lstr_gsub::gsub::Trial;
-use luck_answer::answer;
 use luck_answer::answer::Answer;
 use luck_format::{date, format};
 use luck_linter::rules::format_string;
@@ -24,8 +23,6 @@ use luck_linter::rules::format_string::Literal;
 use luck_pack::pack;
 use luck_pattern::pattern;
 use luck_replacement::replacement;
-use luck_replacement::replacement::Captures;
-use luck_structs::decoded;
 use luck_structs::decoded::Decoded;
 use luck_token::string;
 
@@ -33,45 +30,42 @@ use luck_token::string;
 pub fn luck_check_format(version: u32, body: &[u8]) -> Answer
     ensures { check_answer result ≡ check_format version body.now }
 {
-    answer::of_checked(format::validate_format(version, body))
+    Answer::from(format::validate_format(version, body))
 }
 
 // Accepted with how many captures the pattern has.
 pub fn luck_check_pattern(version: u32, body: &[u8]) -> Answer
     ensures { check_answer result ≡ check_pattern version body.now }
 {
-    answer::of_checked(pattern::validate_lua_pattern(version, body))
+    Answer::from(pattern::validate_lua_pattern(version, body))
 }
 
 // Accepted with how many values the format packs.
 pub fn luck_check_pack(version: u32, body: &[u8]) -> Answer
     ensures { check_answer result ≡ check_pack version false body.now }
 {
-    answer::of_checked(pack::validate_pack_format(version, false, body))
+    Answer::from(pack::validate_pack_format(version, false, body))
 }
 
 // The same, without the options whose size is not known beforehand.
 pub fn luck_check_packsize(version: u32, body: &[u8]) -> Answer
     ensures { check_answer result ≡ check_pack version true body.now }
 {
-    answer::of_checked(pack::validate_pack_format(version, true, body))
+    Answer::from(pack::validate_pack_format(version, true, body))
 }
 
 // Accepted with 0.
 pub fn luck_check_date(version: u32, body: &[u8]) -> Answer
     ensures { check_answer result ≡ check_date version body.now }
 {
-    answer::of_checked(date::validate_os_date(version, body))
+    Answer::from(date::validate_os_date(version, body))
 }
 
 // The pattern's count of captures, where it is known.
-fn count_if(known: bool, captures: usize) -> Captures
-    ensures { count_of result ≡ count_if known captures }
+fn count_if(known: bool, captures: usize) -> Option<usize>
+    ensures { result ≡ count_if known captures }
 {
-    if known {
-        return Captures::Known(captures);
-    }
-    Captures::Unknown
+    known.then_some(captures)
 }
 
 // Accepted with 0. Without a known count of captures no digit is too large.
@@ -79,7 +73,7 @@ pub fn luck_check_replacement(version: u32, known: bool, captures: usize, body: 
     ensures { check_answer result ≡ check_replacement version (count_if known captures) body.now }
 {
     let count = count_if(known, captures);
-    answer::of_checked(replacement::validate_gsub_replacement(version, count, body))
+    Answer::from(replacement::validate_gsub_replacement(version, count, body))
 }
 
 // A literal with its quotes, checked as a text of the kind F, P, K, S, G or D, with the place where it starts in its source.
@@ -102,8 +96,7 @@ pub fn luck_decode_string(version: u32, text: &[u8], output: &mut [u8]) -> Decod
     ensures answer { decoded_answer result ≡ decoding_of (decode_string version text.now (length output.old)) }
     ensures output { output.new ≡ output_of (decode_string version text.now (length output.old)) output.old }
 {
-    let decoded = string::decode_string(version, text, output);
-    decoded::of_decoded(decoded)
+    Decoded::from(string::decode_string(version, text, output))
 }
 
 // gsub of a pattern and a replacement on a subject, within a budget of steps.

@@ -2,7 +2,7 @@
 -- Assumes nothing.
 use Prim.Native.Nat.{ℕ, zero, suc, ◌-◌, ◌≤◌, ◌<◌}
 use native.Mathlib.Omega.{arith}
-use mathlib.Core.Path.{◌≡◌, refl, sym, ap, subst}
+use mathlib.Core.Path.{◌≡◌, refl, ap, subst}
 use mathlib.Core.Bool.{Bool, true, false, not, ◌&&◌, ◌||◌, true≢false}
 use mathlib.Core.List.{List, [], ◌∷◌}
 use lib.Dec.{eqb}
@@ -21,31 +21,30 @@ abbrev pub Stops : {S A : Type 0} → (A → Type 0) → Turn S A → Type 0
 Stops P (stop a) = P a
 Stops P (goes width s) = Unit {0}
 
--- what holds of the answer of each turn that stops in the text, and at its end, holds of the walk's answer
+-- what holds of the answer of each turn that stops in the text from a place on, and at its end, holds of the walk's answer
+module _ {S A : Type 0} (item : ℕ → S → Turn S A) (ends : ℕ → S → A) (from len : ℕ) (P : A → Type 0)
+    (stops : (p : ℕ) (s : S) → from ≤ p → p < len → Stops P (item p s))
+    (at_end : (p : ℕ) (s : S) → P (ends p s)) where
+  every : (n k p : ℕ) (s : S) → from ≤ p → n ≤ len - p → P (walk item ends n k p s)
+  unfolding walk
+  every zero k p s f h = at_end p s
+  every (suc n) (suc k) p s f h = every n k (suc p) s (omega arith) (omega arith)
+  every (suc n) zero p s f h = go (λ w s'. every n (w - 1) (suc p) s' (omega arith) (omega arith)) (item p s) refl
+    where
+      go : ((w : ℕ) (s' : S) → P (walk item ends n (w - 1) (suc p) s')) → (t : Turn S A) → item p s ≡ t → P (walk item ends (suc n) 0 p s)
+      go rest (stop a) e = rw (e, walk) (subst (Stops P) e (stops p s f (omega arith)))
+      go rest (goes w s') e = rw (e, walk) (rest w s')
+
+  pub walk_every_from : (s : S) → P (walk_from item ends len from s)
+  unfolding walk_from
+  walk_every_from s = every (len - from) 0 from s (omega arith) (omega arith)
+
+-- from any place on
 module _ {S A : Type 0} (item : ℕ → S → Turn S A) (ends : ℕ → S → A) (len : ℕ) (P : A → Type 0)
     (stops : (p : ℕ) (s : S) → p < len → Stops P (item p s))
     (at_end : (p : ℕ) (s : S) → P (ends p s)) where
-  one_stop : (n p : ℕ) (s : S) (a : A) → item p s ≡ stop a → walk item ends (suc n) 0 p s ≡ a
-  unfolding walk
-  one_stop n p s a e = rw (e, walk)
-
-  one_goes : (n p : ℕ) (s : S) (w : ℕ) (s' : S) → item p s ≡ goes w s' → walk item ends (suc n) 0 p s ≡ walk item ends n (w - 1) (suc p) s'
-  unfolding walk
-  one_goes n p s w s' e = rw (e, walk)
-
-  every : (n k p : ℕ) (s : S) → n ≤ len - p → P (walk item ends n k p s)
-  unfolding walk
-  every zero k p s h = at_end p s
-  every (suc n) (suc k) p s h = every n k (suc p) s (omega arith)
-  every (suc n) zero p s h = go (λ w s'. every n (w - 1) (suc p) s' (omega arith)) (item p s) refl
-    where
-      go : ((w : ℕ) (s' : S) → P (walk item ends n (w - 1) (suc p) s')) → (t : Turn S A) → item p s ≡ t → P (walk item ends (suc n) 0 p s)
-      go rest (stop a) e = subst P (sym (one_stop n p s a e)) (subst (Stops P) e (stops p s (omega arith)))
-      go rest (goes w s') e = subst P (sym (one_goes n p s w s' e)) (rest w s')
-
   pub walk_every : (p : ℕ) (s : S) → P (walk_from item ends len p s)
-  unfolding walk_from
-  walk_every p s = every (len - p) 0 p s (omega arith)
+  walk_every p = walk_every_from item ends p len P (λ q s _. stops q s) at_end
 
 -- ---- An answer's fields
 

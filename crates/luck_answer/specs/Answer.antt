@@ -1,21 +1,13 @@
 -- What a check answers, in the numbers of documents 01 and 02.
 -- Assumes nothing.
-use Rattle.std.specs.Prelude.{ℕ, List}
-use Rattle.luck_token.specs.Text.{after_text}
+use Rattle.std.specs.Prelude.{ℕ, List, Result, Ok, Err}
+use Rattle.luck_token.specs.Text.{after_text, text_refusal}
+use Rattle.luck_token.specs.declared.text.TextError.{TextError}
 use Rattle.luck_answer.specs.declared.answer.Answer.{Answer as AnswerStruct}
 use Rattle.luck_answer.specs.declared.format_pattern.PatternError.{PatternError}
 use Rattle.luck_answer.specs.declared.format_pattern.PatternError.TheVariants as error
-use Rattle.luck_answer.specs.declared.format_pattern.Text.{Text}
-use Rattle.luck_answer.specs.declared.format_pattern.Text.TheVariants as text
-use Rattle.luck_answer.specs.declared.format_pattern.Walked.{Walked}
-use Rattle.luck_answer.specs.declared.format_pattern.Walked.TheVariants as walked
-use Rattle.luck_answer.specs.declared.format_pattern.Checked.{Checked}
-use Rattle.luck_answer.specs.declared.format_pattern.Checked.TheVariants.{
-  Accepted,
-  Refused,
-  NotUtf8,
-  UnknownVersion,
-}
+use Rattle.luck_answer.specs.declared.format_pattern.CheckError.{CheckError}
+use Rattle.luck_answer.specs.declared.format_pattern.CheckError.TheVariants.{Text, Pattern}
 
 -- number 0: accepted, with the count; else the refusal's number, its byte offset, and as code points the characters
 -- that it carries, 0 for none
@@ -74,18 +66,14 @@ refusal (error.CaptureIndexOutOfRange o) = refused 21 o
 refusal (error.BadDateSpecifier o) = refused 22 o
 refusal (error.ReversedRange o) = refused 39 o
 
-abbrev pub walked_of : Walked → Answer
-walked_of (walked.Accepted n) = accepted n
-walked_of (walked.Refused fault) = refusal fault
+abbrev pub text_refused : TextError → Answer
+text_refused e = text_refusal refused e
 
-abbrev pub answer_of : Checked → Answer
-answer_of (Accepted n) = accepted n
-answer_of (Refused fault) = refusal fault
-answer_of (NotUtf8 place) = refused 23 place
-answer_of UnknownVersion = refused 25 0
+abbrev pub walked_of : Result ℕ PatternError → Answer
+walked_of (Ok n) = accepted n
+walked_of (Err fault) = refusal fault
 
--- what is known of a text before the walk
-abbrev pub text_answer : Text → Answer → Answer
-text_answer text.Fine walked = walked
-text_answer (text.NotUtf8 place) walked = refused 23 place
-text_answer text.UnknownVersion walked = refused 25 0
+abbrev pub answer_of : Result ℕ CheckError → Answer
+answer_of (Ok n) = accepted n
+answer_of (Err (Pattern fault)) = refusal fault
+answer_of (Err (Text e)) = text_refused e

@@ -1,13 +1,10 @@
-// What a check answers, a count (specifiers, captures or values) or the first fault, and what is tested before every check.
+// Why a check refuses a text. What is accepted has a count, of specifiers, captures or values.
 ghost use Rattle.std.specs.Prelude.{◌≡◌};
-ghost use Rattle.luck_answer.specs.Answer.{Answer, refusal, walked_of, answer_of, check_text, text_answer};
 
-use luck_token::version;
-use luck_utf8::utf8;
-use luck_utf8::utf8::Utf8;
+use luck_token::text::TextError;
 
 // luck's PatternError. Each `offset` is a byte index into the text, each character a code point.
-#[derive(Clone, Copy)]
+#[derive(Clone, Copy, Debug, PartialEq, Eq)]
 pub enum PatternError {
     TruncatedSpecifier {
         offset: usize,
@@ -106,48 +103,29 @@ pub enum PatternError {
     },
 }
 
-// What the walk over a text finds.
-#[derive(Clone, Copy)]
-pub enum Walked {
-    Accepted(usize),
-    Refused(PatternError),
+// Why a text is refused: its version, or that it is not UTF-8, or the walk's first fault.
+#[derive(Clone, Copy, Debug, PartialEq, Eq)]
+pub enum CheckError {
+    Text(TextError),
+    Pattern(PatternError),
 }
 
-#[derive(Clone, Copy)]
-pub enum Checked {
-    Accepted(usize),
-    Refused(PatternError),
-    NotUtf8(usize),
-    UnknownVersion,
-}
+impl From<TextError> for CheckError {
+    ghost use Rattle.luck_answer.specs.declared.format_pattern.CheckError.TheVariants as error;
 
-// Whether a check may walk over a text: a version that is known, and UTF-8.
-#[derive(Clone, Copy)]
-pub enum Text {
-    Fine,
-    NotUtf8(usize),
-    UnknownVersion,
-}
+    ghost from_gives = { λ text e. e ≡ error.Text text };
 
-pub fn read_text(version: u32, text: &[u8]) -> Text
-    ensures { (walked : Answer) → text_answer result walked ≡ check_text version text.now walked }
-{
-    if version::is_version(version) {
-        let valid = utf8::validate(text);
-        match valid {
-            Utf8::Valid => Text::Fine,
-            Utf8::IllFormed(at) => Text::NotUtf8(at),
-        }
-    } else {
-        Text::UnknownVersion
+    fn from(text: TextError) -> Self {
+        CheckError::Text(text)
     }
 }
 
-pub fn as_checked(walked: Walked) -> Checked
-    ensures { answer_of result ≡ walked_of walked }
-{
-    match walked {
-        Walked::Accepted(count) => Checked::Accepted(count),
-        Walked::Refused(fault) => Checked::Refused(fault),
+impl From<PatternError> for CheckError {
+    ghost use Rattle.luck_answer.specs.declared.format_pattern.CheckError.TheVariants as error;
+
+    ghost from_gives = { λ fault e. e ≡ error.Pattern fault };
+
+    fn from(fault: PatternError) -> Self {
+        CheckError::Pattern(fault)
     }
 }

@@ -2,18 +2,21 @@
 -- Assumes nothing.
 use Prim.Native.Nat.{ℕ, ◌+◌, ◌≤◌, ◌<◌}
 use native.Mathlib.Omega.{arith}
-use mathlib.Core.Path.{◌≡◌, refl, sym, ap, ap₂, ◌∙◌}
-use mathlib.Core.Logic.{◌⊎◌, inl, inr}
-use mathlib.Core.Bool.{Bool, true, false, ◌&&◌, ◌||◌}
+use mathlib.Core.Path.{◌≡◌, refl, sym, ◌∙◌}
+use mathlib.Core.Logic.{⊎_elim}
+use mathlib.Core.Bool.{Bool, true, false, ◌&&◌, true≢false}
 use mathlib.Core.List.{List}
 use lib.ListN.{length, get_or-eq_default}
 use borrow.Author.Tests.{ne_eqb, lt-leb, le-leb}
 use Rattle.luck_text.specs.Bytes.{when◌then◌else◌, byte_at, among}
 use Rattle.luck_text.specs.Walk.{walk_from, stop, goes}
 use Rattle.luck_text.proofs.Walk.{walk_end, walk_stop, walk_goes}
-use Rattle.luck_text.proofs.Cases.{if_true, if_false, both_true, first_false, second_false}
+use Rattle.luck_text.proofs.Cases.{by_test, if_true, if_false, order}
 use Rattle.luck_answer.specs.Answer.{Answer, accepted, refused}
-use Rattle.luck_format.specs.Date.{everywhere, with_options, second_bytes, is_pair, conversion_width, single_width, pair_width, date_turn, date_end, is_star_t, is_table, conversions_walk, date_walk}
+use Rattle.std.specs.Bool.{then_some}
+use Rattle.std.specs.Option.{IfSome, unwrap_or}
+use Rattle.luck_format.specs.Date.{second_bytes, is_pair, conversion_width, single_width, pair_width, date_turn, date_end}
+use Rattle.luck_format.specs.Date.{conversions_walk}
 
 module _ (options : Bool) (text : List ℕ) where
   abbrev pub on : ℕ → Answer
@@ -56,64 +59,36 @@ module _ {options : Bool} {text : List ℕ} {p : ℕ} {whole : Answer} (here : H
     unfolding date_turn when◌then◌else◌
     no_conversion l w = stops _ (rw (e, lt-leb (length text) (p + 1) l, w))
 
-    pub passes_conversion : p + 1 < length text → (w : ℕ) → w ≡ conversion_width options text p → (w ≡ 0 → ⊥) → p + w ≤ length text
+    pub passes_conversion : p + 1 < length text → (w : ℕ) → w ≡ conversion_width options text p → 0 < w → p + w ≤ length text
         → on options text (p + w) ≡ whole
     unfolding date_turn when◌then◌else◌
-    passes_conversion l w f n i = passes w (omega arith) i (rw (e, lt-leb (length text) (p + 1) l, ← f, ne_eqb w 0 n))
+    passes_conversion l w f g i = passes w g i (rw (e, lt-leb (length text) (p + 1) l, ← f, ne_eqb w 0 (λ z. absurd (omega arith))))
 
 -- ---- The width of a conversion
 
-module _ (options : Bool) (b : ℕ) where
-  pub single_everywhere : among b everywhere ≡ true → 2 ≡ single_width options b
-  unfolding single_width when◌then◌else◌
-  single_everywhere e = rw e
+-- past the end stands 0, which is none of the second bytes
+none_second : (first b : ℕ) → b ≡ 0 → among b (second_bytes first) ≡ false
+unfolding second_bytes among
+none_second first b e =
+    rw e
+    (by_test (λ l. among 0 l ≡ false) _ _ _ (λ _. refl) (λ _. by_test (λ l. among 0 l ≡ false) _ _ _ (λ _. refl) (λ _. by_test (λ l. among 0 l ≡ false) _ _ _ (λ _. refl) (λ _. refl))))
 
-  pub single_with_options : among b everywhere ≡ false → options ≡ true → among b with_options ≡ true → 2 ≡ single_width options b
-  unfolding single_width when◌then◌else◌
-  single_with_options e o f = rw (e, o, f)
-
-  pub single_none : among b everywhere ≡ false → (options ≡ false) ⊎ (among b with_options ≡ false) → 0 ≡ single_width options b
-  unfolding single_width
-  single_none e (inl o) = sym (if_false _ _ _ (ap₂ (λ x y. x || (y && among b with_options)) e o))
-  single_none e (inr f) = sym (if_false _ _ _ (ap (λ x. x || (options && among b with_options)) e ∙ second_false options (among b with_options) f))
+-- so a second byte is there
+pub second_in : (first : ℕ) (text : List ℕ) (p : ℕ) (t : Bool) → t ≡ among (byte_at text (p + 2)) (second_bytes first) → IfSome (then_some t 3) (λ width. (0 < width) × (p + width ≤ length text))
+second_in first text p false e = tt
+second_in first text p true e = (omega arith, ⊎_elim (λ h. omega arith) (λ g. absurd (true≢false (e ∙ none_second first (byte_at text (p + 2)) (get_or-eq_default text 0 g)))) (order (p + 2) (length text)))
 
 module _ (options : Bool) (text : List ℕ) (p : ℕ) where
-  module _ (o : options ≡ true) (e : is_pair (byte_at text (p + 1)) ≡ true) where
-    by_pair : pair_width text (p + 2) (byte_at text (p + 1)) ≡ conversion_width options text p
-    unfolding conversion_width
-    by_pair = sym (if_true _ _ _ (both_true options (is_pair (byte_at text (p + 1))) o e))
-
-    pub width_pair : among (byte_at text (p + 2)) (second_bytes (byte_at text (p + 1))) ≡ true → 3 ≡ conversion_width options text p
-    unfolding pair_width
-    width_pair s = sym (if_true _ _ _ s) ∙ by_pair
-
-    pub width_no_pair : among (byte_at text (p + 2)) (second_bytes (byte_at text (p + 1))) ≡ false → 0 ≡ conversion_width options text p
-    unfolding pair_width
-    width_no_pair s = sym (if_false _ _ _ s) ∙ by_pair
-
-  pub width_single_options : options ≡ true → is_pair (byte_at text (p + 1)) ≡ false → single_width true (byte_at text (p + 1)) ≡ conversion_width options text p
+  pub by_pair : (options && is_pair (byte_at text (p + 1))) ≡ true → pair_width text (p + 2) (byte_at text (p + 1)) ≡ conversion_width options text p
   unfolding conversion_width
-  width_single_options o e = ap (λ x. single_width x (byte_at text (p + 1))) (sym o) ∙ sym (if_false _ _ _ (second_false options (is_pair (byte_at text (p + 1))) e))
+  by_pair e = sym (if_true _ _ _ e)
 
-  pub width_single : options ≡ false → single_width false (byte_at text (p + 1)) ≡ conversion_width options text p
+  pub by_single : (options && is_pair (byte_at text (p + 1))) ≡ false → single_width options (byte_at text (p + 1)) ≡ conversion_width options text p
   unfolding conversion_width
-  width_single o = ap (λ x. single_width x (byte_at text (p + 1))) (sym o) ∙ sym (if_false _ _ _ (first_false options (is_pair (byte_at text (p + 1))) o))
+  by_single e = sym (if_false _ _ _ e)
 
--- an empty text is no table
-pub empty_no_table : (text : List ℕ) → length text ≤ 0 → false ≡ is_table text
-unfolding is_table is_star_t when◌then◌else◌
-empty_no_table text h = rw (get_or-eq_default text 0 {n = 0} h, ne_eqb (length text) 2 (λ e. absurd (omega arith)))
-
--- the check of a text by the version's rules
-module _ (options : Bool) (text : List ℕ) where
-  pub unchecked : (checked : Bool) → checked ≡ false → accepted 0 ≡ date_walk checked options text
-  unfolding date_walk when◌then◌else◌
-  unchecked checked e = rw e
-
-  pub table : (checked : Bool) → checked ≡ true → is_table text ≡ true → accepted 0 ≡ date_walk checked options text
-  unfolding date_walk when◌then◌else◌
-  table checked e t = rw (e, t)
-
-  pub no_table : (checked : Bool) → checked ≡ true → is_table text ≡ false → conversions_walk options text ≡ date_walk checked options text
-  unfolding date_walk when◌then◌else◌
-  no_table checked e t = rw (e, t)
+-- a width where a test holds, 0 where not
+pub width_by : (width : ℕ) (t : Bool) → unwrap_or (then_some t width) 0 ≡ (when t then width else 0)
+unfolding when◌then◌else◌
+width_by width true = refl
+width_by width false = refl

@@ -1,29 +1,35 @@
 -- What the inner functions of the check of formats promise each other. No public contract rests on these.
 -- Assumes nothing.
-use Rattle.std.specs.Prelude.{ℕ, ◌+◌, ◌<◌, ◌≤◌}
+use Rattle.std.specs.Prelude.{ℕ, ◌+◌, Bool, true, false, ◌&&◌, List, drop, eqb, ltb, Result, Ok, Err}
+use Prim.Native.Char.{code}
+use Rattle.luck_token.specs.declared.version.Rules.{Rules}
+use Rattle.luck_text.specs.Bytes.{when◌then◌else◌, is_digit, run}
 use Rattle.luck_text.specs.Walk.{Turn, stop, goes}
 use Rattle.luck_answer.specs.Answer.{Answer, refusal}
+use Rattle.luck_answer.specs.declared.format_pattern.PatternError.{PatternError}
 use Rattle.luck_format.specs.Format as format
-use Rattle.luck_format.specs.declared.format.Modifiers.{Modifiers}
-use Rattle.luck_format.specs.declared.format.Modifiers.TheVariants as modifiers
 use Rattle.luck_format.specs.declared.format.Specifier.{Specifier}
-use Rattle.luck_format.specs.declared.format.Specifier.TheVariants as specifier
 
-abbrev pub modifiers_of : Modifiers → format.Modifiers
-modifiers_of (modifiers.EndAt q) = format.end_at q
-modifiers_of (modifiers.Fault e) = format.fault (refusal e)
+-- the place after the modifiers, or a fault in them
+abbrev pub modifiers_of : Result ℕ PatternError → format.Modifiers
+modifiers_of (Ok q) = format.end_at q
+modifiers_of (Err e) = format.fault (refusal e)
 
-abbrev pub EndsIn : Modifiers → ℕ → ℕ → Type 0
-EndsIn (modifiers.EndAt q) p len = (p ≤ q) × (q ≤ len)
-EndsIn (modifiers.Fault e) p len = Unit {0}
+-- at most two digits at p, or this fault
+unfoldable pub two_digits : List ℕ → ℕ → PatternError → format.Modifiers
+two_digits text p e =
+    let count = run is_digit (drop p text) in
+    when ltb 2 count then format.fault (refusal e) else format.end_at (p + count)
+
+-- Luau's `*`
+abbrev pub is_star : Rules → ℕ → Bool
+is_star rules b = eqb b (code "*") && rules.star_format
 
 -- the walk's turn, from the specifiers so far
-abbrev pub turn_of : ℕ → Specifier → Turn ℕ Answer
-turn_of count (specifier.Counted width) = goes width (count + 1)
-turn_of count (specifier.Literal width) = goes width count
-turn_of count (specifier.Fault e) = stop (refusal e)
+abbrev pub with_specifier : Bool → ℕ → ℕ
+with_specifier true count = count + 1
+with_specifier false count = count
 
-abbrev pub GoesIn : Specifier → ℕ → ℕ → Type 0
-GoesIn (specifier.Counted width) p len = (0 < width) × (p + width ≤ len)
-GoesIn (specifier.Literal width) p len = (0 < width) × (p + width ≤ len)
-GoesIn (specifier.Fault e) p len = Unit {0}
+abbrev pub turn_of : ℕ → Result Specifier PatternError → Turn ℕ Answer
+turn_of count (Ok s) = goes s.width (with_specifier s.counts count)
+turn_of count (Err e) = stop (refusal e)

@@ -1,11 +1,11 @@
 -- The number, the offset and the count of a line's answer, and that its fields are those of its number.
 -- Assumes nothing.
+use Rattle.std.specs.Prelude.{Option, None, Some}
 use Prim.Native.Nat.{ℕ, ◌-◌, ◌≤◌}
 use native.Mathlib.Omega.{arith}
 use mathlib.Core.Path.{◌≡◌, refl}
 use mathlib.Core.Bool.{true, false}
 use mathlib.Core.List.{List, [], ◌∷◌}
-use mathlib.Core.Option.{Option, none, some}
 use lib.ListN.{length, drop, length-drop}
 use lib.Dec.{ltb}
 use borrow.Author.Tests.{ltb-false}
@@ -35,15 +35,15 @@ all (pack true) = (refl, (refl, (refl, (refl, (refl, (refl, (refl, (refl, tt))))
 
 body_fits : (check : Option Check) (version : ℕ) (body : List ℕ) → Fits (length body) (body_answer check version body)
 unfolding body_answer among
-body_fits none version body = (omega arith, refl, omega arith)
-body_fits (some check) version body =
+body_fits None version body = (omega arith, refl, omega arith)
+body_fits (Some check) version body =
     let r = refusals check version body in
     (r.0, every_among (λ n. among n line_numbers ≡ true) (numbers check) (all check) (answer check version body).number r.1, counts check version body)
 
 body_whole : (check : Option Check) (version : ℕ) (body : List ℕ) → Whole (body_answer check version body)
 unfolding body_answer
-body_whole none version body = whole (refused 30 0) refl
-body_whole (some check) version body = wholes check version body
+body_whole None version body = whole (refused 30 0) refl
+body_whole (Some check) version body = wholes check version body
 
 too_long_fits : (len : ℕ) → Fits len (refused 31 0)
 unfolding among

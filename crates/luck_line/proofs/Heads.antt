@@ -1,12 +1,12 @@
 -- Laws of a line's head, one for each way that the code takes.
 -- Assumes nothing.
+use Rattle.std.specs.Prelude.{Option, None, Some}
 use Prim.Native.Nat.{ℕ, ◌+◌, ◌*◌, ◌-◌, ◌≤◌, ◌<◌}
 use native.Mathlib.Nat.{le_of_eq}
 use native.Mathlib.Omega.{arith}
 use mathlib.Core.Path.{◌≡◌, refl, ap, ap₂, ◌∙◌}
 use mathlib.Core.Bool.{Bool, true, false}
 use mathlib.Core.List.{List}
-use mathlib.Core.Option.{Option, none, some}
 use lib.ListN.{length, take, drop, length-drop, get_or-eq_default}
 use lib.Seq.{take_all}
 use borrow.Author.Tests.{le-leb, lt-leb, eq-eqb, ne_eqb, lt-ltb, le-ltb}
@@ -21,26 +21,26 @@ part_whole l a = take_all (length l - a) (drop a l) (le_of_eq (length-drop a l))
 -- ---- The columns of captures
 
 module _ (tens units : ℕ) where
-  pub tens_no_digit : is_digit tens ≡ false → none ≡ two_digits tens units
+  pub tens_no_digit : is_digit tens ≡ false → None ≡ two_digits tens units
   unfolding two_digits when◌then◌else◌
   tens_no_digit e = rw e
 
   module _ (e : is_digit tens ≡ true) where
-    pub units_no_digit : is_digit units ≡ false → none ≡ two_digits tens units
+    pub units_no_digit : is_digit units ≡ false → None ≡ two_digits tens units
     unfolding two_digits when◌then◌else◌
     units_no_digit f = rw (e, f)
 
     module _ (f : is_digit units ≡ true) where
-      pub below_ten : (tens - 48) * 10 + (units - 48) < 10 → none ≡ two_digits tens units
+      pub below_ten : (tens - 48) * 10 + (units - 48) < 10 → None ≡ two_digits tens units
       unfolding two_digits when◌then◌else◌
       below_ten h = rw (e, f, lt-leb 10 ((tens - 48) * 10 + (units - 48)) h)
 
-      pub above_32 : 10 ≤ (tens - 48) * 10 + (units - 48) → 32 < (tens - 48) * 10 + (units - 48) → none ≡ two_digits tens units
+      pub above_32 : 10 ≤ (tens - 48) * 10 + (units - 48) → 32 < (tens - 48) * 10 + (units - 48) → None ≡ two_digits tens units
       unfolding two_digits when◌then◌else◌
       above_32 l h = rw (e, f, le-leb 10 ((tens - 48) * 10 + (units - 48)) l, lt-leb ((tens - 48) * 10 + (units - 48)) 32 h)
 
       pub counted : 10 ≤ (tens - 48) * 10 + (units - 48) → (tens - 48) * 10 + (units - 48) ≤ 32
-          → some (some ((tens - 48) * 10 + (units - 48))) ≡ two_digits tens units
+          → Some (Some ((tens - 48) * 10 + (units - 48))) ≡ two_digits tens units
       unfolding two_digits when◌then◌else◌
       counted l h = rw (e, f, le-leb 10 ((tens - 48) * 10 + (units - 48)) l, le-leb ((tens - 48) * 10 + (units - 48)) 32 h)
 
@@ -48,16 +48,16 @@ module _ (tens units : ℕ) where
   unfolding is_digit
   blank_no_digit e = rw e
 
-  pub blank : tens ≡ 32 → units ≡ 32 → some none ≡ capture_columns tens units
+  pub blank : tens ≡ 32 → units ≡ 32 → Some None ≡ capture_columns tens units
   unfolding capture_columns when◌then◌else◌
   blank e f = rw (eq-eqb tens 32 e, eq-eqb units 32 f)
 
   module _ (e : tens ≡ 32) (f : units ≡ 32 → ⊥) where
-    pub one_digit : is_digit units ≡ true → some (some (units - 48)) ≡ capture_columns tens units
+    pub one_digit : is_digit units ≡ true → Some (Some (units - 48)) ≡ capture_columns tens units
     unfolding capture_columns when◌then◌else◌
     one_digit d = rw (eq-eqb tens 32 e, ne_eqb units 32 f, d)
 
-    pub no_digit : is_digit units ≡ false → none ≡ capture_columns tens units
+    pub no_digit : is_digit units ≡ false → None ≡ capture_columns tens units
     unfolding capture_columns when◌then◌else◌
     no_digit d = rw (eq-eqb tens 32 e, ne_eqb units 32 f, d) (tens_no_digit (blank_no_digit e))
 
@@ -68,15 +68,17 @@ module _ (tens units : ℕ) where
 -- ---- The kind
 
 module _ (kind count : ℕ) where
-  pub count_of_replacement : kind ≡ 71 → check_of kind (some count) ≡ check_with kind (some (some count))
+  pub count_of_replacement : kind ≡ 71 → check_of kind (Some count) ≡ check_with kind (Some (Some count))
   unfolding check_with when◌then◌else◌
   count_of_replacement e = rw (eq-eqb kind 71 e)
 
-  pub count_of_other : (kind ≡ 71 → ⊥) → none ≡ check_with kind (some (some count))
+  pub count_of_other : (kind ≡ 71 → ⊥) → None ≡ check_with kind (Some (Some count))
   unfolding check_with when◌then◌else◌
   count_of_other e = rw (ne_eqb kind 71 e)
 
-misfit : (wanted : Option Check) (version : ℕ) (body : List ℕ) → none ≡ wanted → refused 30 0 ≡ body_answer wanted version body
+pub ruleset kinds = (count_of_replacement, count_of_other)
+
+misfit : (wanted : Option Check) (version : ℕ) (body : List ℕ) → None ≡ wanted → refused 30 0 ≡ body_answer wanted version body
 unfolding body_answer
 misfit wanted version body e = ap (λ x. body_answer x version body) e
 
@@ -92,14 +94,14 @@ module _ (line : List ℕ) where
     unfolding line_answer when◌then◌else◌
     by_head a e = e ∙ rw (le-ltb 4005 (length line) h)
 
-    no_version : is_digit (byte_at line 1) ≡ false → none ≡ head_check line
+    no_version : is_digit (byte_at line 1) ≡ false → None ≡ head_check line
     unfolding head_check when◌then◌else◌
     no_version e = rw e
 
     pub not_a_digit : is_digit (byte_at line 1) ≡ false → refused 30 0 ≡ line_answer line
     not_a_digit e = by_head _ (misfit _ _ _ (no_version e))
 
-    no_space : is_digit (byte_at line 1) ≡ true → (byte_at line 4 ≡ 32 → ⊥) → none ≡ head_check line
+    no_space : is_digit (byte_at line 1) ≡ true → (byte_at line 4 ≡ 32 → ⊥) → None ≡ head_check line
     unfolding head_check when◌then◌else◌
     no_space e f = rw (e, ne_eqb (byte_at line 4) 32 f)
 

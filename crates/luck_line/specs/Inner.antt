@@ -1,12 +1,10 @@
--- What is promised of the columns of captures. No public contract rests on it.
+-- What a line is answered that is refused before its body is read. No public contract but that of the conversion rests
+-- on it.
 -- Assumes nothing.
-use Rattle.std.specs.Prelude.{ℕ}
-use Rattle.std.proofs.Math.Option.{Option, none, some}
-use Rattle.luck_line.specs.declared.line.Columns.{Columns}
-use Rattle.luck_line.specs.declared.line.Columns.TheVariants.{Unknown, Count, Misfit}
+use Rattle.luck_answer.specs.Answer.{Answer, refused}
+use Rattle.luck_line.specs.declared.line.LineError.{LineError}
+use Rattle.luck_line.specs.declared.line.LineError.TheVariants.{TooLong, NoHead}
 
--- what stands in the columns of captures
-abbrev pub columns_of : Columns → Option (Option ℕ)
-columns_of Unknown = some none
-columns_of (Count n) = some (some n)
-columns_of Misfit = none
+abbrev pub line_refused : LineError → Answer
+line_refused TooLong = refused 31 0
+line_refused NoHead = refused 30 0

@@ -1,10 +1,9 @@
 -- What a line of the program `bodies` asks for, and what is answered (document 01): kind, version digit, two columns of
 -- captures, a space, the body.
 -- Assumes nothing.
-use Rattle.std.specs.Prelude.{ℕ, ◌+◌, ◌*◌, ◌-◌, Bool, true, ◌&&◌, List}
+use Rattle.std.specs.Prelude.{ℕ, ◌+◌, ◌*◌, ◌-◌, Bool, true, ◌&&◌, List, Option, None, Some}
 use Rattle.std.specs.Prelude.{◌∷◌, ◌++◌, length, drop, eqb, leb, ltb}
 use Prim.Native.Char.{code}
-use Rattle.std.proofs.Math.Option.{Option, none, some}
 use Rattle.luck_text.specs.Bytes.{when◌then◌else◌, byte_at, is_digit}
 use Rattle.luck_answer.specs.Answer.{Answer, refused}
 use Rattle.luck_pattern.specs.Captures.{max_captures}
@@ -25,32 +24,32 @@ decimal_digit b = b - code "0"
 unfoldable pub two_digits : ℕ → ℕ → Option (Option ℕ)
 two_digits tens units =
     let count = decimal_digit tens * 10 + decimal_digit units in
-    when is_digit tens && is_digit units && leb 10 count && leb count max_captures then some (some count) else none
+    when is_digit tens && is_digit units && leb 10 count && leb count max_captures then Some (Some count) else None
 
 -- the captures of a replacement in their two columns, right-justified, blank where their count is not known; `none`
 -- where they do not fit
 unfoldable pub capture_columns : ℕ → ℕ → Option (Option ℕ)
 capture_columns tens units =
-    when is_blank tens && is_blank units then some none
-    else when is_blank tens && is_digit units then some (some (decimal_digit units))
+    when is_blank tens && is_blank units then Some None
+    else when is_blank tens && is_digit units then Some (Some (decimal_digit units))
     else two_digits tens units
 
 -- by the kind and the columns, which are blank but for G
 unfoldable pub check_with : ℕ → Option (Option ℕ) → Option Check
-check_with kind none = none
-check_with kind (some none) = check_of kind none
-check_with kind (some (some count)) = when eqb kind (code "G") then check_of kind (some count) else none
+check_with kind None = None
+check_with kind (Some None) = check_of kind None
+check_with kind (Some (Some count)) = when eqb kind (code "G") then check_of kind (Some count) else None
 
 -- by the head; a line of fewer than five bytes has no space at its fifth place, which reads as 0
 unfoldable pub head_check : List ℕ → Option Check
 head_check line =
     let check = check_with (byte_at line 0) (capture_columns (byte_at line 2) (byte_at line 3)) in
-    when is_digit (byte_at line 1) && is_blank (byte_at line 4) then check else none
+    when is_digit (byte_at line 1) && is_blank (byte_at line 4) then check else None
 
 -- 30 where the head does not fit; else the check of the body, which gives 25 for a digit that is no version
 unfoldable pub body_answer : Option Check → ℕ → List ℕ → Answer
-body_answer none version body = refused 30 0
-body_answer (some check) version body = answer check version body
+body_answer None version body = refused 30 0
+body_answer (Some check) version body = answer check version body
 
 -- 31, 30, 25, then the body
 unfoldable pub line_answer : List ℕ → Answer
@@ -63,5 +62,5 @@ line_answer line =
 abbrev pub line_numbers : List ℕ
 line_numbers =
     31 ∷ 30
-    ∷ (numbers format ++ numbers (pattern true) ++ numbers (pack true) ++ numbers (replacement (some 0))
+    ∷ (numbers format ++ numbers (pattern true) ++ numbers (pack true) ++ numbers (replacement (Some 0))
     ++ numbers date)

@@ -3,99 +3,101 @@ ghost use Rattle.std.specs.Prelude.{◌≡◌};
 ghost use Rattle.luck_answer.specs.Answer.{check_answer};
 ghost use Rattle.luck_linter.specs.Checks.{check_named};
 ghost use Rattle.luck_line.specs.Line.{decimal_digit as digit_of, two_digits, capture_columns, check_with, body_answer, line_answer};
-ghost use Rattle.luck_line.specs.Inner.{columns_of};
+ghost use Rattle.luck_line.specs.Inner.{line_refused};
 
-use luck_answer::answer;
 use luck_answer::answer::Answer;
 use luck_linter::checks;
-use luck_linter::checks::Named;
-use luck_replacement::replacement::Captures;
-use luck_text::scan;
-use luck_text::scan::Class;
+use luck_linter::checks::{Check, UnknownKind};
+use luck_text::scan::{Class, Digit};
 
 // The most bytes of a line that is checked, and the bytes before its body.
 pub const LONGEST: usize = 4005;
 
 const HEAD: usize = 5;
 
-// The two columns of captures of a replacement.
-#[derive(Clone, Copy)]
-pub enum Columns {
-    Unknown,
-    Count(usize),
-    Misfit,
+// Why a line is refused before its body is read.
+#[derive(Clone, Copy, Debug, PartialEq, Eq)]
+pub enum LineError {
+    // more bytes than `LONGEST`
+    TooLong,
+    // its head does not fit
+    NoHead,
+}
+
+impl From<LineError> for Answer {
+    ghost from_gives = { λ error answer. check_answer answer ≡ line_refused error };
+
+    fn from(error: LineError) -> Self {
+        match error {
+            LineError::TooLong => Answer::refused(31, 0),
+            LineError::NoHead => Answer::from(UnknownKind),
+        }
+    }
 }
 
 fn digit(byte: u8) -> u32
     ensures { result ≡ digit_of byte }
 {
-    if byte < b'0' {
-        return 0;
-    }
-    (byte - b'0') as u32
+    byte.saturating_sub(b'0') as u32
 }
 
 // A count of 10 to 32.
-fn two_digits(tens: u8, units: u8) -> Columns
-    ensures { columns_of result ≡ two_digits tens units }
+fn two_digits(tens: u8, units: u8) -> Option<Option<usize>>
+    ensures { result ≡ two_digits tens units }
 {
-    if scan::is_in(Class::Digit, tens) {
-        if scan::is_in(Class::Digit, units) {
-            let count = digit(tens) * 10 + digit(units);
-            if count < 10 {
-                return Columns::Misfit;
-            }
-            if 32 < count {
-                return Columns::Misfit;
-            }
-            return Columns::Count(count as usize);
+    if Digit.has(tens) && Digit.has(units) {
+        let count = digit(tens) * 10 + digit(units);
+        if count < 10 {
+            return None;
         }
+        if 32 < count {
+            return None;
+        }
+        return Some(Some(count as usize));
     }
-    Columns::Misfit
+    None
 }
 
-fn read_columns(tens: u8, units: u8) -> Columns
-    ensures { columns_of result ≡ capture_columns tens units }
+// The captures of a replacement in their two columns, where they fit: blanks, or a count.
+fn read_columns(tens: u8, units: u8) -> Option<Option<usize>>
+    ensures { result ≡ capture_columns tens units }
 {
     if tens == b' ' {
         if units == b' ' {
-            return Columns::Unknown;
+            return Some(None);
         }
-        if scan::is_in(Class::Digit, units) {
-            return Columns::Count(digit(units) as usize);
+        if Digit.has(units) {
+            return Some(Some(digit(units) as usize));
         }
-        return Columns::Misfit;
+        return None;
     }
     two_digits(tens, units)
 }
 
 // The check that a head names by its kind and its columns, which are blank but for G.
-fn check_with(kind: u8, tens: u8, units: u8) -> Named
+#[tactic(auto, using(crate::proofs::Heads::kinds), unfolding(crate::specs::Line::check_with))]
+fn check_with(kind: u8, tens: u8, units: u8) -> Option<Check>
     ensures { check_named result ≡ check_with kind (capture_columns tens units) }
 {
-    let found = read_columns(tens, units);
-    match found {
-        Columns::Unknown => {
-            let captures = Captures::Unknown;
-            checks::check_of(kind, captures)
-        }
-        Columns::Count(count) => {
-            let captures = Captures::Known(count);
+    let captures = read_columns(tens, units)?;
+    match captures {
+        Some(_) => {
             if kind == b'G' {
                 return checks::check_of(kind, captures);
             }
-            Named::Nothing
+            None
         }
-        Columns::Misfit => Named::Nothing,
+        None => checks::check_of(kind, captures),
     }
 }
 
-fn check_body(named: Named, version: u32, body: &[u8]) -> Answer
+#[tactic(auto, unfolding(crate::specs::Line::body_answer))]
+fn check_body(named: Option<Check>, version: u32, body: &[u8]) -> Answer
     ensures { check_answer result ≡ body_answer (check_named named) version body.now }
 {
     match named {
-        Named::Check(check) => answer::of_checked(checks::validate(check, version, body)),
-        Named::Nothing => answer::refused(30, 0),
+        Some(check) => Answer::from(checks::validate(check, version, body)),
+        None => Answer::from(LineError::NoHead),
     }
 }
 
@@ -104,16 +106,14 @@ pub fn check_line(line: &[u8]) -> Answer
     ensures { check_answer result ≡ line_answer line.now }
 {
     if LONGEST < line.len() {
-        return answer::refused(31, 0);
+        return Answer::from(LineError::TooLong);
     }
     if line.len() < HEAD {
-        return answer::refused(30, 0);
+        return Answer::from(LineError::NoHead);
     }
-    if scan::is_in(Class::Digit, line[1]) {
-        if line[4] == b' ' {
-            let named = check_with(line[0], line[2], line[3]);
-            return check_body(named, digit(line[1]), &line[HEAD..]);
-        }
+    if Digit.has(line[1]) && line[4] == b' ' {
+        let named = check_with(line[0], line[2], line[3]);
+        return check_body(named, digit(line[1]), &line[HEAD..]);
     }
-    answer::refused(30, 0)
+    Answer::from(LineError::NoHead)
 }

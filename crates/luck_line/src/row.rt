@@ -1,7 +1,7 @@
 // A row of the listing, and its line of totals.
 ghost use Rattle.std.specs.Prelude.{◌≡◌, ◌<◌, min};
 ghost use Rattle.luck_answer.specs.Answer.{check_answer};
-ghost use Rattle.luck_line.specs.Row.{column, last_column, listing_row, answer_row, most_shown, totals_row};
+ghost use Rattle.luck_line.specs.Row.{column, last_column, four_columns, seven_columns, listing_row, answer_row, most_shown, totals_row};
 
 use luck_answer::answer::Answer;
 
@@ -30,31 +30,41 @@ fn last_column(n: u64) -> u8
     b'0' + (n % 10) as u8
 }
 
-// Number, offset and count in 4, 7 and 7 columns.
-fn row_of(number: u64, offset: u64, count: u64) -> [u8; ROW]
-    ensures { result ≡ listing_row number offset count }
+// The columns are written out, here and below: a loop would have to count the powers of ten by hand.
+fn four_columns(number: u64) -> [u8; 4]
+    ensures { result ≡ four_columns number }
 {
     [
         column(1000, number),
         column(100, number),
         column(10, number),
         last_column(number),
-        column(1000000, offset),
-        column(100000, offset),
-        column(10000, offset),
-        column(1000, offset),
-        column(100, offset),
-        column(10, offset),
-        last_column(offset),
-        column(1000000, count),
-        column(100000, count),
-        column(10000, count),
-        column(1000, count),
-        column(100, count),
-        column(10, count),
-        last_column(count),
-        b'\n',
     ]
+}
+
+fn seven_columns(n: u64) -> [u8; 7]
+    ensures { result ≡ seven_columns n }
+{
+    [
+        column(1000000, n),
+        column(100000, n),
+        column(10000, n),
+        column(1000, n),
+        column(100, n),
+        column(10, n),
+        last_column(n),
+    ]
+}
+
+// Number, offset and count in 4, 7 and 7 columns.
+fn row_of(number: u64, offset: u64, count: u64) -> [u8; ROW]
+    ensures { result ≡ listing_row number offset count }
+{
+    let mut row = [b'\n'; ROW];
+    row[0..4].copy_from_slice(&four_columns(number));
+    row[4..11].copy_from_slice(&seven_columns(offset));
+    row[11..18].copy_from_slice(&seven_columns(count));
+    row
 }
 
 pub fn of_answer(answer: Answer) -> [u8; ROW]
@@ -70,10 +80,7 @@ pub fn of_answer(answer: Answer) -> [u8; ROW]
 fn shown(total: u32) -> u64
     ensures { result ≡ min total most_shown }
 {
-    if MOST_SHOWN < total {
-        return MOST_SHOWN as u64;
-    }
-    total as u64
+    total.min(MOST_SHOWN) as u64
 }
 
 // Lines read and lines refused in 7 columns each.
@@ -82,21 +89,8 @@ pub fn of_totals(read: u32, refused: u32) -> [u8; TOTALS]
 {
     let read = shown(read);
     let refused = shown(refused);
-    [
-        column(1000000, read),
-        column(100000, read),
-        column(10000, read),
-        column(1000, read),
-        column(100, read),
-        column(10, read),
-        last_column(read),
-        column(1000000, refused),
-        column(100000, refused),
-        column(10000, refused),
-        column(1000, refused),
-        column(100, refused),
-        column(10, refused),
-        last_column(refused),
-        b'\n',
-    ]
+    let mut row = [b'\n'; TOTALS];
+    row[0..7].copy_from_slice(&seven_columns(read));
+    row[7..14].copy_from_slice(&seven_columns(refused));
+    row
 }

@@ -1,36 +1,33 @@
 -- Laws of a buffer whose bytes from `at` on move to its front: `to` of them are moved.
 -- Assumes nothing.
-use mathlib.Core.Path.{◌≡◌, sym, ap, ap₂, ◌∙◌}
-use Prim.Native.Nat.{ℕ, zero, suc, ◌+◌, ◌-◌, ◌<◌, ◌≤◌}
-use native.Mathlib.Nat.{sub-zero, zero-sub, suc-sub-suc}
-use native.Mathlib.Numerals.{add-one}
+use mathlib.Core.Path.{◌≡◌, refl, sym, ap, ap₂, ◌∙◌}
+use Prim.Native.Nat.{ℕ, zero, suc, ◌+◌, ◌-◌, ◌≤◌, min}
+use native.Mathlib.Nat.{sub-zero, zero-sub, suc-sub-suc, zero-add}
 use native.Mathlib.Omega.{arith}
+use mathlib.Core.Bool.{Bool, true, false}
 use mathlib.Core.List.{List, [], ◌∷◌, ◌++◌}
-use lib.ListN.{length, get_or, set, take, drop, take-append-drop, length-drop}
-use lib.Seq.{take-nil, take-suc, take_all, take-suc-set, drop-set-lt, drop-drop, get_or-drop, length-take-le}
+use lib.Dec.{leb}
+use lib.ListN.{length, take, drop, take-append-drop, length-drop}
+use lib.Seq.{paste, take-nil, take_all, drop-drop, length-take-le}
+use borrow.Author.Tests.{leb-true, leb-false}
+use Rattle.std.proofs.lemmas.List.Edits.{take-paste, drop-paste}
 use Rattle.luck_text.specs.Bytes.{part, in_front}
+
+-- n bytes from `at` on are copied to the front
+module _ (first : List ℕ) (at n : ℕ) (inside : at + n ≤ length first) where
+  pub copied_front : take n (paste first 0 (drop at first) n) ≡ take n (drop at first)
+  copied_front =
+      ap (λ (k : ℕ). take k (paste first 0 (drop at first) n)) (sym (zero-add n))
+      ∙ take-paste first 0 (drop at first) n (omega arith) (omega (arith, length-drop at first))
+
+  pub copied_rest : drop n (paste first 0 (drop at first) n) ≡ drop n first
+  copied_rest =
+      ap (λ (k : ℕ). drop k (paste first 0 (drop at first) n)) (sym (zero-add n))
+      ∙ drop-paste first 0 (drop at first) n (omega arith) (omega (arith, length-drop at first))
+      ∙ ap (λ (k : ℕ). drop k first) (zero-add n)
 
 module _ (first buffer : List ℕ) (at to : ℕ) (same : length buffer ≡ length first)
     (front : take to buffer ≡ take to (drop at first)) (rest : drop to buffer ≡ drop to first) where
-  module _ (from : ℕ) (here : from ≡ at + to) (inside : from < length buffer) where
-    byte : get_or buffer from 0 ≡ get_or (drop at first) to 0
-    byte =
-        let swap : from ≡ to + at = omega arith in
-        ap (λ (k : ℕ). get_or buffer k 0) swap ∙ sym (get_or-drop to buffer at 0) ∙ ap (λ (l : List ℕ). get_or l at 0) rest ∙ get_or-drop to first at 0
-        ∙ ap (λ (k : ℕ). get_or first k 0) (sym swap ∙ here) ∙ sym (get_or-drop at first to 0)
-
-    pub front_more : take (to + 1) (set buffer to (get_or buffer from 0)) ≡ take (to + 1) (drop at first)
-    front_more =
-        ap (λ (k : ℕ). take k (set buffer to (get_or buffer from 0))) (add-one to)
-        ∙ take-suc-set buffer to (get_or buffer from 0) (omega arith)
-        ∙ ap₂ (λ (x : List ℕ) (y : ℕ). x ++ (y ∷ [])) front byte
-        ∙ sym (take-suc (drop at first) to 0 (omega (arith, length-drop at first)))
-        ∙ ap (λ (k : ℕ). take k (drop at first)) (sym (add-one to))
-
-    pub rest_less : drop (to + 1) (set buffer to (get_or buffer from 0)) ≡ drop (to + 1) first
-    rest_less =
-        drop-set-lt (to + 1) buffer to (get_or buffer from 0) (omega arith) ∙ sym (drop-drop 1 to buffer) ∙ ap (drop 1) rest ∙ drop-drop 1 to first
-
   -- what is moved is the part that was asked for
   module _ (end : ℕ) (few : to ≤ length first - at) (whole : take to (drop at first) ≡ part first at end) where
     moved : length (part first at end) ≡ to
@@ -45,13 +42,21 @@ module _ (first buffer : List ℕ) (at to : ℕ) (same : length buffer ≡ lengt
       ),
     )
 
-pub all_moved : (first : List ℕ) (at to end : ℕ) → to ≤ end - at → end ≤ at + to → take to (drop at first) ≡ part first at end
+all_moved : (first : List ℕ) (at to end : ℕ) → to ≤ end - at → end ≤ at + to → take to (drop at first) ≡ part first at end
 all_moved first at to end h g = let e : to ≡ end - at = omega arith in ap (λ (k : ℕ). take k (drop at first)) e
 
 -- the buffer ends before the part does
-pub buffer_ends : (first : List ℕ) (at to end : ℕ) → to ≤ end - at → length first ≤ at + to → take to (drop at first) ≡ part first at end
+buffer_ends : (first : List ℕ) (at to end : ℕ) → to ≤ end - at → length first ≤ at + to → take to (drop at first) ≡ part first at end
 buffer_ends first at to end h g =
     take_all to (drop at first) (omega (arith, length-drop at first)) ∙ sym (take_all (end - at) (drop at first) (omega (arith, length-drop at first)))
+
+-- the part, up to the end of the buffer
+pub part_moved : (first : List ℕ) (at to end : ℕ) → to ≡ min end (length first) - at → take to (drop at first) ≡ part first at end
+part_moved first at to end e = go (leb end (length first)) refl
+  where
+    go : (t : Bool) → leb end (length first) ≡ t → take to (drop at first) ≡ part first at end
+    go true l = let h = leb-true end (length first) l in all_moved first at to end (omega arith) (omega arith)
+    go false l = let h = leb-false end (length first) l in buffer_ends first at to end (omega arith) (omega arith)
 
 -- ---- What is left of a part
 

@@ -9,12 +9,15 @@ use mathlib.Core.List.{List, [], ◌++◌, append-nil}
 use lib.ListN.{length, take, drop, take-append-drop, length-append, length-take, length-drop, drop_of_length-le}
 use lib.Seq.{take_at, drop_at, take_all, length-take-le, take-append-add, take-append-le, drop-append-add, drop-append-le, drop-drop}
 use lib.Dec.{eqb, ltb}
-use borrow.Author.Tests.{lt-ltb, le-ltb, ne_eqb, eq-eqb}
+use borrow.Author.Tests.{lt-ltb, le-ltb, ltb-true, ltb-false, ne_eqb, eq-eqb}
 use borrow.Rule.Slice.PartMut.{put_mid}
-use Rattle.luck_text.specs.Bytes.{when◌then◌else◌, byte_at, part, in_front}
+use Rattle.std.specs.Prelude.{Some, None, cond, position}
+use Rattle.std.specs.List.{position_or_len}
+use Rattle.std.proofs.lemmas.List.Recursion.{is_position_or_len}
+use Rattle.luck_text.specs.Bytes.{when◌then◌else◌, byte_at, part, in_front, run}
 use Rattle.luck_text.specs.Walk.{stop, goes, walk_from}
 use Rattle.luck_text.proofs.Walk.{walk_end, walk_stop, walk_goes}
-use Rattle.luck_text.proofs.Bytes.{run_more, run_stop, run_end, run_inside}
+use Rattle.luck_text.proofs.Bytes.{run_more, run_end, run_inside}
 use Rattle.luck_text.proofs.Cases.{by_test}
 use Rattle.luck_answer.specs.Answer.{Answer, refused}
 use Rattle.luck_line.specs.Line.{longest, line_answer}
@@ -30,15 +33,11 @@ pub line_inside : (input : List ℕ) (p : ℕ) → p ≤ length input → p + li
 unfolding line_length
 line_inside input p h = run_inside (λ b. not (eqb b 10)) input p h
 
--- a byte that is no newline, a newline, and the end
+-- a byte that is no newline, and the end
 module _ (input : List ℕ) (p : ℕ) where
-  pub line_more : p < length input → (byte_at input p ≡ 10 → ⊥) → line_length (drop p input) ≡ suc (line_length (drop (p + 1) input))
+  line_more : p < length input → (byte_at input p ≡ 10 → ⊥) → line_length (drop p input) ≡ suc (line_length (drop (p + 1) input))
   unfolding line_length
   line_more h e = run_more (λ b. not (eqb b 10)) input p h (ap not (ne_eqb (byte_at input p) 10 e))
-
-  pub line_ends : p < length input → byte_at input p ≡ 10 → line_length (drop p input) ≡ 0
-  unfolding line_length
-  line_ends h e = run_stop (λ b. not (eqb b 10)) input p h (ap not (eq-eqb (byte_at input p) 10 e))
 
   pub input_ends : length input ≤ p → line_length (drop p input) ≡ 0
   unfolding line_length
@@ -62,6 +61,36 @@ blocks_passed input p end l h f =
     let e : p + (end - p) ≡ end = omega arith in
     let passed = line_block input (end - p) p (omega arith) (λ k m. f (p + k) (omega arith) (omega arith)) in
     omega (arith, passed ∙ ap (λ (q : ℕ). end - p + line_length (drop q input)) e)
+
+-- the place of the first newline, or none
+newline_step : (t : Bool) (n : ℕ) → (when not t then suc n else 0) ≡ cond t 0 (1 + n)
+unfolding when◌then◌else◌
+newline_step true n = refl
+newline_step false n = omega arith
+
+before_newline : (text : List ℕ) → line_length text ≡ position_or_len (λ b. eqb b 10) text
+unfolding line_length run
+before_newline text = is_position_or_len line_length (λ b. eqb b 10) refl (λ b more. newline_step (eqb b 10) (line_length more)) text
+
+some_place : (t : Bool) (n p : ℕ) → Some n ≡ cond t (Some p) None → (t ≡ true) × (n ≡ p)
+some_place true n p e = (refl, cc)
+some_place false n p e = absurd (cc)
+
+no_place : (t : Bool) (p : ℕ) → None ≡ cond t (Some p) None → t ≡ false
+no_place true p e = absurd (cc)
+no_place false p e = refl
+
+pub newline_at : (text : List ℕ) (n : ℕ) → Some n ≡ position (λ b. eqb b 10) text → (line_length text ≡ n) × (n < length text)
+newline_at text n e =
+    let s = some_place _ _ _ e in
+    let inside = ltb-true (position_or_len (λ b. eqb b 10) text) (length text) s.0 in
+    (before_newline text ∙ sym s.1, omega (arith, s.1, inside))
+
+pub newline_nowhere : (text : List ℕ) → None ≡ position (λ b. eqb b 10) text → line_length text ≡ length text
+newline_nowhere text e =
+    let past = ltb-false (position_or_len (λ b. eqb b 10) text) (length text) (no_place _ _ e) in
+    let inside = line_inside text 0 (omega arith) in
+    omega (arith, before_newline text, past, inside)
 
 pub answer_length : (a : Answer) → length (answer_row a) ≡ 19
 answer_length a = row_length a.number a.offset a.count
@@ -221,10 +250,6 @@ module _ (input first out : List ℕ) (p w : ℕ) (begun s : State)
         ∙ whole
 
 -- bytes at the front of an output
-pub bytes_put : (n : ℕ) (b r out o : List ℕ) → b ≡ r → length r ≡ n → o ≡ take (length b) b ++ drop (length b) out → o ≡ r ++ drop n out
-bytes_put n b r out o e l p =
-    p ∙ ap (λ (x : List ℕ). take (length x) x ++ drop (length x) out) e ∙ ap₂ ◌++◌ (take_all (length r) r (le_of_eq refl)) (ap (λ (m : ℕ). drop m out) l)
-
 pub bytes_front : (n : ℕ) (f r out o : List ℕ) → f ≡ r → length r ≡ n → o ≡ r ++ drop n out → (n ≡ length f) × (o ≡ in_front f out)
 bytes_front n f r out o e l p = (sym (ap length e ∙ l), p ∙ ap₂ (λ (x : List ℕ) (m : ℕ). x ++ drop m out) (sym e) (sym (ap length e ∙ l)))
 

@@ -8,15 +8,10 @@ pub fn keep(buffer: &mut [u8], at: usize, end: usize) -> usize
     ensures buffer { buffer.new ≡ in_front (part buffer.old at end) buffer.old }
     ensures within { result ≤ length buffer.new }
 {
-    let mut from = at;
-    let mut to = 0;
-    while from < end {
-        if buffer.len() <= from {
-            return to;
-        }
-        buffer[to] = buffer[from];
-        from += 1;
-        to += 1;
+    let stop = end.min(buffer.len());
+    if stop <= at {
+        return 0;
     }
-    to
+    buffer.copy_within(at..stop, 0);
+    stop - at
 }

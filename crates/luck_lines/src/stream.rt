@@ -1,22 +1,21 @@
 // The listing of a stream of lines, made piece by piece: `feed` takes whole lines of what is there, and `finish` the last line, if it lacks
 // its newline, and writes the totals. What a call leaves, the next one gets again, with more bytes after it.
-ghost use Rattle.std.specs.Prelude.{◌≡◌, ◌++◌, ◌+◌, ◌≤◌, min, length, drop};
+ghost use Rattle.std.specs.Prelude.{◌≡◌, ◌++◌, ◌+◌, ◌≤◌, eqb, position, min, length, drop};
 ghost use Rattle.luck_text.specs.Bytes.{in_front};
 ghost use Rattle.luck_answer.specs.Answer.{check_answer};
-ghost use Rattle.luck_line.specs.Row.{answer_row, most_shown};
+ghost use Rattle.luck_line.specs.Row.{newline, answer_row, most_shown};
 ghost use Rattle.luck_lines.specs.Stream.{row_length, totals_length, line_length, start, answer_after, counted, totals_of, last_row_and_totals, too_long, feed, finish, fed_of};
 ghost use Rattle.luck_lines.specs.Inner.{unended_at};
 
-use luck_answer::answer;
 use luck_answer::answer::Answer;
-use luck_line::line::LONGEST;
+use luck_line::line::{LONGEST, LineError};
 use luck_line::row::{MOST_SHOWN, ROW, TOTALS};
 use luck_line::{line, row};
 use luck_text::blocks;
 
 // What a call hands on to the next one. `long`: the line that goes on is too long already. How many lines were read and refused so far,
 // up to the most that the totals show.
-#[derive(Clone, Copy)]
+#[derive(Clone, Copy, Debug, Default, PartialEq, Eq)]
 pub struct State {
     pub long: bool,
     pub read: u32,
@@ -24,7 +23,7 @@ pub struct State {
 }
 
 // `used` bytes of the input were taken and `wrote` bytes of the output written.
-#[derive(Clone, Copy)]
+#[derive(Clone, Copy, Debug, PartialEq, Eq)]
 pub struct Fed {
     pub used: usize,
     pub wrote: usize,
@@ -35,11 +34,13 @@ pub struct Fed {
 pub fn start() -> State
     ensures { result ≡ start }
 {
-    State {
-        long: false,
-        read: 0,
-        refused: 0,
-    }
+    State::default()
+}
+
+fn first_newline(text: &[u8]) -> Option<usize>
+    ensures { result ≡ position (λ b. eqb b newline) text.now }
+{
+    text.iter().position(|&byte| byte == b'\n')
 }
 
 // The place of the next newline, or the input's end.
@@ -47,21 +48,18 @@ fn line_end(input: &[u8], at: usize) -> usize
     requires { at ≤ length input.now }
     ensures { result ≡ at + line_length (drop at input.now) }
 {
-    let mut end = blocks::blocks_end(input, at, b'\n');
-    while end < input.len() {
-        if input[end] == b'\n' {
-            return end;
-        }
-        end += 1;
+    let from = blocks::blocks_end(input, at, b'\n');
+    match first_newline(&input[from..]) {
+        Some(place) => from + place,
+        None => input.len(),
     }
-    end
 }
 
 fn answer_after(line: &[u8], long: bool) -> Answer
     ensures { check_answer result ≡ answer_after long line.now }
 {
     if long {
-        return answer::refused(31, 0);
+        return Answer::from(LineError::TooLong);
     }
     line::check_line(line)
 }
@@ -69,28 +67,24 @@ fn answer_after(line: &[u8], long: bool) -> Answer
 fn one_more(total: u32) -> u32
     ensures { result ≡ min (total + 1) most_shown }
 {
-    if total < MOST_SHOWN {
-        return total + 1;
-    }
-    MOST_SHOWN
+    total.saturating_add(1).min(MOST_SHOWN)
 }
 
 // After a line whose answer has this number.
 fn counted(state: State, number: u32) -> State
     ensures { result ≡ counted state number }
 {
-    let read = one_more(state.read);
+    let counted = State {
+        long: false,
+        read: one_more(state.read),
+        ..state
+    };
     if number == 0 {
-        return State {
-            long: false,
-            read,
-            refused: state.refused,
-        };
+        return counted;
     }
     State {
-        long: false,
-        read,
         refused: one_more(state.refused),
+        ..counted
     }
 }
 
@@ -115,6 +109,7 @@ pub fn feed(input: &[u8], output: &mut [u8], state: State) -> Fed
     let mut used = 0;
     let mut wrote = 0;
     let mut so_far = state;
+    // a turn takes a line, of any length: there is nothing to count
     while used < input.len() {
         let end = line_end(input, used);
         if end == input.len() {
@@ -144,8 +139,7 @@ fn passed_over(length: usize, wrote: usize, state: State) -> Fed
         wrote,
         state: State {
             long: true,
-            read: state.read,
-            refused: state.refused,
+            ..state
         },
     }
 }
@@ -155,10 +149,7 @@ fn unended(length: usize, used: usize, wrote: usize, state: State) -> Fed
     requires { used ≤ length }
     ensures { result ≡ unended_at length used wrote state }
 {
-    if state.long {
-        return passed_over(length, wrote, state);
-    }
-    if LONGEST < length - used {
+    if state.long || LONGEST < length - used {
         return passed_over(length, wrote, state);
     }
     Fed { used, wrote, state }

@@ -1,11 +1,11 @@
 -- The answers of the check of a literal. The offset of a refusal of the body, which has a span, is at most the body's length.
 -- Assumes nothing.
+use Rattle.std.specs.Prelude.{Option, None, Some}
 use Prim.Native.Nat.{ℕ, ◌-◌, ◌≤◌}
 use native.Mathlib.Omega.{arith}
 use mathlib.Core.Path.{◌≡◌, refl, sym}
 use mathlib.Core.Bool.{true, true≢false}
 use mathlib.Core.List.{List}
-use mathlib.Core.Option.{Option, none, some}
 use lib.ListN.{length, drop, length-take}
 use Rattle.luck_text.specs.Bytes.{among}
 use Rattle.luck_token.specs.Version.{rules_of}
@@ -55,8 +55,8 @@ module _ (start : ℕ) (text : List ℕ) where
 
   named_bounded : (named : Option Check) (version : ℕ) → LiteralIn (named_numbers named) (check_named_literal named version start text)
   unfolding check_named_literal among
-  named_bounded none version = ((omega arith, refl, omega arith), λ _. omega arith)
-  named_bounded (some check) version =
+  named_bounded None version = ((omega arith, refl, omega arith), λ _. omega arith)
+  named_bounded (Some check) version =
       by_test (CheckedIn check) _ _ _ (λ _. short_bounded check (rules_of version)) (λ _. (tested_bounded check version, λ e. absurd (true≢false (sym e))))
 
   pub literal_bounded : (kind : ℕ) (captures : Option ℕ) (version : ℕ) → LiteralIn (named_numbers (check_of kind captures)) (check_literal kind version captures start text)

@@ -1,11 +1,11 @@
 -- The answers of the check of a pack format.
 -- Assumes nothing.
+use Rattle.std.specs.Prelude.{Option, None, Some}
 use Prim.Native.Nat.{ℕ, ◌+◌, ◌≤◌, ◌<◌}
 use native.Mathlib.Omega.{arith}
 use mathlib.Core.Path.{◌≡◌, refl}
 use mathlib.Core.Bool.{Bool, true, false}
 use mathlib.Core.List.{List}
-use mathlib.Core.Option.{Option, none, some}
 use lib.ListN.{length}
 use borrow.Author.Tests.{leb-false}
 use Rattle.luck_text.specs.Bytes.{byte_at, among}
@@ -106,8 +106,8 @@ module _ (packsize : Bool) (text : List ℕ) where
 
     align_placed : (width : ℕ) (to : Option ℕ) → Steps (align_by text p s width to)
     unfolding align_by among
-    align_placed width (some size) = aligned_placed (1 + width) size s (omega arith)
-    align_placed width none = (omega arith, also packsize 14 refl, omega arith)
+    align_placed width (Some size) = aligned_placed (1 + width) size s (omega arith)
+    align_placed width None = (omega arith, also packsize 14 refl, omega arith)
 
     next_placed : (next : OptionRead) → Reads next → Steps (align_to_next luck_size text p s next)
     unfolding align_to_next

@@ -1,12 +1,12 @@
 -- The answers of the check of a pattern.
 -- Assumes nothing.
+use Rattle.std.specs.Prelude.{Option, None, Some}
 use Prim.Native.Nat.{ℕ, ◌+◌, ◌≤◌, ◌<◌}
 use native.Mathlib.Omega.{arith}
 use mathlib.Core.Path.{◌≡◌, refl, sym, subst}
 use mathlib.Core.Logic.{⊎_elim}
 use mathlib.Core.Bool.{Bool, true, false, ◌&&◌}
 use mathlib.Core.List.{List, [], ◌∷◌}
-use mathlib.Core.Option.{Option, none, some}
 use lib.Dec.{eqb, ltb}
 use lib.ListN.{length, length-append, length-set}
 use borrow.Author.Tests.{eqb-true}
@@ -37,16 +37,16 @@ EndIn len unclosed = Unit {0}
 
 -- closing a capture counts none
 abbrev SameLength : List Bool → Option (List Bool) → Type 0
-SameLength captures none = Unit {0}
-SameLength captures (some after) = length after ≡ length captures
+SameLength captures None = Unit {0}
+SameLength captures (Some after) = length after ≡ length captures
 
 close_length : (captures : List Bool) → SameLength captures (close_latest captures)
 unfolding close_latest
 close_length captures = go (latest_open captures)
   where
     go : (o : Option ℕ) → SameLength captures (close_at captures o)
-    go none = tt
-    go (some i) = length-set captures i true
+    go None = tt
+    go (Some i) = length-set captures i true
 
 module _ (text : List ℕ) where
   member_in : (p : ℕ) (m : Member) → p < length text → Stops (EndIn (length text)) (member_by m p)
@@ -107,8 +107,8 @@ module _ (text : List ℕ) where
 
     close_in : (after : Option (List Bool)) → SameLength captures after → TurnIn (after_close p after)
     unfolding after_close among
-    close_in none h = (omega arith, refl, omega arith)
-    close_in (some after) h = omega arith
+    close_in None h = (omega arith, refl, omega arith)
+    close_in (Some after) h = omega arith
 
     head_in : (h : Head) → TurnIn (head_turn false text p captures h)
     unfolding head_turn among

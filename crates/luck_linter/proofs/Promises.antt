@@ -2,13 +2,13 @@
 -- six and the text is UTF-8; in every other case the answer is 30, 25 or 23, by the definition. F-6 and F-10 of document
 -- 02 are among it. At the end every check of a body that is not UTF-8, as the value of a literal can be (F-4).
 -- Assumes nothing.
+use Rattle.std.specs.Prelude.{Option, None, Some}
 use Prim.Native.Nat.{ℕ, ◌+◌, ◌-◌, ◌<◌, ◌≤◌}
 use Prim.Native.Char.{code}
 use native.Mathlib.Omega.{arith}
 use mathlib.Core.Path.{◌≡◌, refl, sym, ap, ◌∙◌}
 use mathlib.Core.Bool.{Bool, true, false, not, ◌&&◌, ◌||◌, true≢false}
 use mathlib.Core.List.{List, ◌++◌}
-use mathlib.Core.Option.{Option, none, some}
 use lib.ListN.{length}
 use lib.Dec.{eqb, leb}
 use borrow.Author.Tests.{leb-true, eqb-true}
@@ -90,7 +90,7 @@ passed true false a h = (refl, refl)
 passed false numeric a h = absurd (true≢false h)
 
 module _ (kind version : ℕ) (captures : Option ℕ) (start : ℕ) (text : List ℕ) (check : Check)
-    (named : check_of kind captures ≡ some check) (known : is_version version ≡ true) (utf8 : ill_formed text ≡ none) where
+    (named : check_of kind captures ≡ Some check) (known : is_version version ≡ true) (utf8 : ill_formed text ≡ None) where
   abbrev literal : LiteralAnswer
   literal = check_literal kind version captures start text
 
@@ -144,7 +144,7 @@ module _ (kind version : ℕ) (captures : Option ℕ) (start : ℕ) (text : List
       let r = reversed_body check (rules_of version) start body (ap (λ a. a.number) (sym answers) ∙ e) in
       (r.0, ap (λ l. l.span) is ∙ r.1 ∙ ap (λ a. span_of (start + 1 + a.offset) (start + 1 + a.offset + 1)) (sym answers))
 
-pub literal_accepted : (captures : Option ℕ) (start : ℕ) (text : List ℕ) → UnknownOrFromNine captures → ill_formed text ≡ none
+pub literal_accepted : (captures : Option ℕ) (start : ℕ) (text : List ℕ) → UnknownOrFromNine captures → ill_formed text ≡ None
     → SkippedOrAccepted (check_literal (code "G") 1 captures start text)
 unfolding computed
 literal_accepted captures start text h utf8 e =
@@ -154,7 +154,7 @@ literal_accepted captures start text h utf8 e =
 
 -- ---- A text that is not UTF-8, as the value of `"\255"` is, or of `"\u{D800}"` in 5.4
 
-module _ (version : ℕ) (known : is_version version ≡ true) (text : List ℕ) (place : ℕ) (e : ill_formed text ≡ some place) where
+module _ (version : ℕ) (known : is_version version ≡ true) (text : List ℕ) (place : ℕ) (e : ill_formed text ≡ Some place) where
   tested : (walked : Answer) → check_text version text walked ≡ refused 23 place
   tested walked = sym (text_ill_formed version text walked known place (sym e))
 
@@ -163,15 +163,15 @@ module _ (version : ℕ) (known : is_version version ≡ true) (text : List ℕ)
   ill_formed_checked check = whole_check check version text ∙ tested (walk_of check (rules_of version) text)
 
   -- and so does the check of a literal, without a span
-  pub ill_formed_literal : (kind : ℕ) (captures : Option ℕ) (start : ℕ) (check : Check) → check_of kind captures ≡ some check
+  pub ill_formed_literal : (kind : ℕ) (captures : Option ℕ) (start : ℕ) (check : Check) → check_of kind captures ≡ Some check
       → check_literal kind version captures start text ≡ unspanned (refused 23 place)
   ill_formed_literal kind captures start check named =
       sym (literals.text_refused check start text version _ (sym (tested (accepted 0))) (λ z. absurd (omega arith))
-      ∙ literals.by_kind kind version captures start text (some check) (sym named))
+      ∙ literals.by_kind kind version captures start text (Some check) (sym named))
 
 -- so that a check answers 23 at the first byte of a code point that has no character, where what stands before is UTF-8
 pub no_character_checked : (check : Check) (version : ℕ) → is_version version ≡ true
-    → (before after : List ℕ) → ill_formed before ≡ none → (c : ℕ) → c ≤ 0x7FFF_FFFF → is_char c ≡ false
+    → (before after : List ℕ) → ill_formed before ≡ None → (c : ℕ) → c ≤ 0x7FFF_FFFF → is_char c ≡ false
     → answer check version (before ++ utf8_bytes c ++ after) ≡ refused 23 (length before)
 no_character_checked check version known before after utf8 c last e =
     ill_formed_checked version known (before ++ utf8_bytes c ++ after) (length before) (first_ill_formed c last e before after utf8) check

@@ -1,11 +1,11 @@
 -- For every check, version and text: the answer's number is 0 or one of the check's refusals, its offset and its count are at most the text's length, and its fields
 -- are those of its number. The same for the check of a literal, by the check that its kind letter names, or 30.
 -- Assumes nothing.
+use Rattle.std.specs.Prelude.{Option}
 use Prim.Native.Nat.{ℕ, ◌-◌, ◌≤◌}
 use mathlib.Core.Path.{◌≡◌}
 use mathlib.Core.Bool.{true}
 use mathlib.Core.List.{List}
-use mathlib.Core.Option.{Option}
 use lib.ListN.{length}
 use Rattle.luck_text.specs.Bytes.{among}
 use Rattle.luck_answer.proofs.Answers.{Whole, fits_whole, fits_numbered}

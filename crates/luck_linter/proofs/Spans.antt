@@ -1,11 +1,11 @@
 -- Which answers of a literal have a span: the refusals of its body. A literal that is skipped has nothing else.
 -- Assumes nothing.
+use Rattle.std.specs.Prelude.{Option, None, Some}
 use Prim.Native.Nat.{ℕ}
 use mathlib.Core.Logic.{◌↔◌}
 use mathlib.Core.Path.{◌≡◌, refl, sym, ◌∙◌}
 use mathlib.Core.Bool.{true, false, true≢false}
 use mathlib.Core.List.{List, [], ◌∷◌}
-use mathlib.Core.Option.{Option, none, some}
 use lib.ListN.{length}
 use lib.Dec.{eqb}
 use borrow.Author.Tests.{eqb-false}
@@ -77,8 +77,8 @@ tested_spanless version text =
 
 named_marked : (named : Option Check) (start version : ℕ) (text : List ℕ) → Marked (check_named_literal named version start text)
 unfolding check_named_literal among
-named_marked none start version text = unspanned_marked (refused 30 0) refl
-named_marked (some check) start version text =
+named_marked None start version text = unspanned_marked (refused 30 0) refl
+named_marked (Some check) start version text =
     by_test Marked _ _ _ (λ _. short_marked check start (rules_of version) text)
     (λ _. unspanned_marked (check_text version text (accepted 0)) (tested_spanless version text))
 

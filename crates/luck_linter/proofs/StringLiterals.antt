@@ -1,12 +1,12 @@
 -- Laws of the literal check: numeric escapes, backslashes, spans, and the outcomes.
 -- Assumes nothing.
+use Rattle.std.specs.Prelude.{Option, None, Some, Ok, Err}
 use Prim.Native.Nat.{ℕ, suc, ◌+◌, ◌-◌, ◌≤◌, ◌<◌, min}
 use native.Mathlib.Numerals.{add-one}
 use native.Mathlib.Omega.{arith}
 use mathlib.Core.Path.{◌≡◌, refl, sym, ap, ap₂, ◌∙◌}
 use mathlib.Core.Bool.{Bool, true, false, ◌||◌}
 use mathlib.Core.List.{List, [], ◌∷◌}
-use mathlib.Core.Option.{Option, none, some}
 use lib.ListN.{length, drop, drop_of_length-le}
 use lib.Seq.{drop-cons}
 use lib.Dec.{eqb}
@@ -20,7 +20,13 @@ use Rattle.luck_token.specs.declared.span.Span.{Span}
 use Rattle.luck_text.proofs.Cases.{by_test, if_true, if_false}
 use Rattle.luck_text.proofs.Others.{passes_others}
 use Rattle.luck_token.proofs.Literals.{both_quotes}
-use Rattle.luck_answer.specs.Answer.{Answer, accepted, check_text}
+use Rattle.luck_token.specs.declared.text.TextError.{TextError}
+use Rattle.luck_token.specs.declared.text.TextError.TheVariants.{UnknownVersion, NotUtf8}
+use Rattle.luck_token.specs.Text.{read_text}
+use Rattle.luck_answer.proofs.Texts.{by_error, by_rules, by_walk}
+use Rattle.luck_answer.specs.declared.format_pattern.PatternError.{PatternError}
+use Rattle.luck_answer.specs.declared.format_pattern.PatternError.TheVariants as error
+use Rattle.luck_answer.specs.Answer.{Answer, accepted, refusal, text_refused as of_text, check_text}
 use Rattle.luck_linter.specs.Checks.{Check, check_of, without_ranges, walk_of}
 use Rattle.luck_linter.specs.StringLiteral.{
   is_numeric_escape,
@@ -121,11 +127,9 @@ module _ (body : List ℕ) where
   met_here true p h e m = m
   met_here false p h e m = sym (one_here p h e) ∙ m
 
-  pub one_met : (met : Bool) (p : ℕ) → met ≡ true → MetOrLeft met p → true ≡ among 92 body
-  one_met met p e m = sym (ap (λ t. t || left p) e) ∙ m
-
-  pub none_met : (met : Bool) (p : ℕ) → met ≡ false → length body ≤ p → MetOrLeft met p → false ≡ among 92 body
-  none_met met p e h m = sym (ap (λ t. t || left p) e ∙ none_left p h) ∙ m
+  pub all_met : (met : Bool) (p : ℕ) → length body ≤ p → MetOrLeft met p → met ≡ among 92 body
+  all_met true p h m = m
+  all_met false p h m = sym (none_left p h) ∙ m
 
 -- ---- Spans
 
@@ -147,6 +151,37 @@ moved_span start from width =
     let e : start + 1 + (from + width) ≡ start + 1 + from + width = omega arith in
     ap₂ (λ (x y : ℕ). record { start = x; end = y }) (moved from (start + 1))
     (moved (from + width) (start + 1) ∙ ap (λ (n : ℕ). min n 0xFFFF_FFFF) e)
+
+-- ---- Refusals have numbers
+
+pub refusal_number : (fault : PatternError) → (refusal fault).number ≡ 0 → ⊥
+refusal_number (error.TruncatedSpecifier o) e = omega arith
+refusal_number (error.UnknownSpecifier o c) e = omega arith
+refusal_number (error.BadFlag o c) e = omega arith
+refusal_number (error.BadWidth o) e = omega arith
+refusal_number (error.BadPrecision o) e = omega arith
+refusal_number (error.BadModifier o m c) e = omega arith
+refusal_number (error.LongSpecifier o) e = omega arith
+refusal_number (error.UnterminatedSet o) e = omega arith
+refusal_number (error.EmptySet o) e = omega arith
+refusal_number (error.BadEscape o c) e = omega arith
+refusal_number (error.UnmatchedCapture o) e = omega arith
+refusal_number (error.TooManyCaptures o) e = omega arith
+refusal_number (error.BadBackReference o) e = omega arith
+refusal_number (error.InvalidPackOption o c) e = omega arith
+refusal_number (error.TruncatedPackSize o) e = omega arith
+refusal_number (error.PackSizeOutOfLimits o) e = omega arith
+refusal_number (error.BadPackAlignment o) e = omega arith
+refusal_number (error.VariableLengthPackOption o c) e = omega arith
+refusal_number (error.LonePercent o) e = omega arith
+refusal_number (error.BadReplacementEscape o) e = omega arith
+refusal_number (error.CaptureIndexOutOfRange o) e = omega arith
+refusal_number (error.BadDateSpecifier o) e = omega arith
+refusal_number (error.ReversedRange o) e = omega arith
+
+pub text_number : (e : TextError) → (of_text e).number ≡ 0 → ⊥
+text_number UnknownVersion e = omega arith
+text_number (NotUtf8 place) e = omega arith
 
 -- ---- The body
 
@@ -187,56 +222,70 @@ module _ (check : Check) (rules : Rules) (start : ℕ) (body : List ℕ) where
 -- ---- The literal
 
 -- where the body of a short string stands
-short_places : (raw : List ℕ) (a b : ℕ) → some (a, b) ≡ short_string_body raw → (is_short raw ≡ true) × (a ≡ 1) × (b ≡ length raw - 1)
+short_places : (raw : List ℕ) (a b : ℕ) → Some (a, b) ≡ short_string_body raw → (is_short raw ≡ true) × (a ≡ 1) × (b ≡ length raw - 1)
 short_places raw a b e = go (is_short raw) refl
   where
     go : (t : Bool) → is_short raw ≡ t → (is_short raw ≡ true) × (a ≡ 1) × (b ≡ length raw - 1)
     go true s =
-        let f : ◌≡◌ {A = Option (ℕ × ℕ)} (some (a, b)) (some (1, length raw - 1)) = e ∙ (unfold short_string_body in if_true _ _ _ s) in
+        let f : ◌≡◌ {A = Option (ℕ × ℕ)} (Some (a, b)) (Some (1, length raw - 1)) = e ∙ (unfold short_string_body in if_true _ _ _ s) in
         let q : ◌≡◌ {A = ℕ × ℕ} (a, b) (1, length raw - 1) = cc in
         (s, ap (λ x. x.0) q, ap (λ x. x.1) q)
     go false s =
-        let f : ◌≡◌ {A = Option (ℕ × ℕ)} (some (a, b)) none = e ∙ (unfold short_string_body in if_false _ _ _ s) in
+        let f : ◌≡◌ {A = Option (ℕ × ℕ)} (Some (a, b)) None = e ∙ (unfold short_string_body in if_false _ _ _ s) in
         let z : ◌≡◌ {A = ℕ} 0 1 = cc in
         absurd (omega arith)
 
-pub places_in : (raw : List ℕ) (a b : ℕ) → some (a, b) ≡ short_string_body raw → (a ≤ b) × (b ≤ length raw)
+pub places_in : (raw : List ℕ) (a b : ℕ) → Some (a, b) ≡ short_string_body raw → (a ≤ b) × (b ≤ length raw)
 places_in raw a b e =
     let s = short_places raw a b e in
     let two = both_quotes raw s.0 in
     (omega (arith, s.1, s.2, two), omega (arith, s.2))
 
-no_places : (raw : List ℕ) → none ≡ short_string_body raw → is_short raw ≡ false
+no_places : (raw : List ℕ) → None ≡ short_string_body raw → is_short raw ≡ false
 no_places raw e = go (is_short raw) refl
   where
     go : (t : Bool) → is_short raw ≡ t → is_short raw ≡ false
     go true s =
-        let f : ◌≡◌ {A = Option (ℕ × ℕ)} none (some (1, length raw - 1)) = e ∙ (unfold short_string_body in if_true _ _ _ s) in
+        let f : ◌≡◌ {A = Option (ℕ × ℕ)} None (Some (1, length raw - 1)) = e ∙ (unfold short_string_body in if_true _ _ _ s) in
         let z : ◌≡◌ {A = ℕ} 0 1 = cc in
         absurd (omega arith)
     go false s = s
 
 module _ (check : Check) (start : ℕ) (text : List ℕ) where
   module _ (rules : Rules) where
-    pub short : (a b : ℕ) → some (a, b) ≡ short_string_body text → check_body check rules start (part text a b) ≡ check_short check rules start text
+    pub short : (a b : ℕ) → Some (a, b) ≡ short_string_body text → check_body check rules start (part text a b) ≡ check_short check rules start text
     unfolding check_short
     short a b e =
         let s = short_places text a b e in
         ap₂ (λ (x y : ℕ). check_body check rules start (part text x y)) s.1 s.2 ∙ sym (if_true _ _ _ s.0)
 
-    pub no_short : none ≡ short_string_body text → skipped_answer ≡ check_short check rules start text
+    pub no_short : None ≡ short_string_body text → skipped_answer ≡ check_short check rules start text
     unfolding check_short
     no_short e = sym (if_false _ _ _ (no_places text e))
 
   -- by what comes before every check
   module _ (version : ℕ) (a : Answer) (t : a ≡ check_text version text (accepted 0)) where
-    pub text_passes : a.number ≡ 0 → check_short check (rules_of version) start text ≡ check_named_literal (some check) version start text
+    pub text_passes : a.number ≡ 0 → check_short check (rules_of version) start text ≡ check_named_literal (Some check) version start text
     unfolding check_named_literal
     text_passes z = sym (if_true _ _ _ (eq-eqb _ 0 (ap (λ x. x.number) (sym t) ∙ z)))
 
-    pub text_refused : (a.number ≡ 0 → ⊥) → unspanned a ≡ check_named_literal (some check) version start text
+    pub text_refused : (a.number ≡ 0 → ⊥) → unspanned a ≡ check_named_literal (Some check) version start text
     unfolding check_named_literal
     text_refused n = ap unspanned t ∙ sym (if_false _ _ _ (ne_eqb _ 0 (λ z. n (ap (λ x. x.number) t ∙ z))))
+
+-- by what is read of the text before its check
+module _ (check : Check) (version start : ℕ) (text : List ℕ) where
+  pub named_rules : (rules : Rules) → read_text version text ≡ Ok rules
+      → check_named_literal (Some check) version start text ≡ check_short check rules start text
+  named_rules rules read =
+      sym (text_passes check start text version (accepted 0) (sym (by_walk version text (accepted 0) rules read)) refl)
+      ∙ ap (λ (r : Rules). check_short check r start text) (by_rules version text rules read)
+
+  pub named_error : (e : TextError) → read_text version text ≡ Err e
+      → check_named_literal (Some check) version start text ≡ unspanned (of_text e)
+  named_error e read = sym (text_refused check start text version (of_text e) (by_error version text e read (accepted 0)) (text_number e))
+
+pub ruleset named = (named_rules, named_error)
 
 -- by the check that is named, or none
 pub by_kind : (kind version : ℕ) (captures : Option ℕ) (start : ℕ) (text : List ℕ) (named : Option Check) → named ≡ check_of kind captures

@@ -1,21 +1,18 @@
 -- The checks of a body, as one data type, after documents 01 and 02: the kind letter that names each, its walk, its
 -- answer, and the numbers of the table of refusals that it can answer.
 -- Assumes nothing.
-use Rattle.std.specs.Prelude.{ℕ, Bool, true, false, List, [], ◌∷◌, eqb}
+use Rattle.std.specs.Prelude.{ℕ, Bool, true, false, List, [], ◌∷◌, eqb, Option, None, Some}
 use Prim.Native.Char.{code}
-use Rattle.std.proofs.Math.Option.{Option, none, some}
 use Rattle.luck_text.specs.Bytes.{when◌then◌else◌}
 use Rattle.luck_token.specs.declared.version.Rules.{Rules}
 use Rattle.luck_answer.specs.Answer.{Answer}
 use Rattle.luck_pattern.specs.Pattern.{pattern_walk, check_pattern_as}
-use Rattle.luck_replacement.specs.Replacement.{count_of, is_strict, pieces, allows_digit, pieces_walk, check_replacement}
+use Rattle.luck_replacement.specs.Replacement.{is_strict, pieces, allows_digit, pieces_walk, check_replacement}
 use Rattle.luck_format.specs.Format.{format_walk, check_format}
 use Rattle.luck_format.specs.Date.{checks_dates, has_date_options, date_walk, check_date}
 use Rattle.luck_pack.specs.Pack.{pack_walk, check_pack}
 use Rattle.luck_linter.specs.declared.checks.Check.{Check as CheckEnum}
 use Rattle.luck_linter.specs.declared.checks.Check.TheVariants as variant
-use Rattle.luck_linter.specs.declared.checks.Named.{Named}
-use Rattle.luck_linter.specs.declared.checks.Named.TheVariants as named
 
 -- a check, with what it takes besides the version and the text
 pub data Check : Type 0 where
@@ -27,12 +24,12 @@ pub data Check : Type 0 where
 -- the check that a kind letter names, a replacement's with this count of captures; none for another byte
 unfoldable pub check_of : ℕ → Option ℕ → Option Check
 check_of kind captures =
-    when eqb kind (code "F") then some format
-    else when eqb kind (code "P") then some (pattern true)
-    else when eqb kind (code "K") then some (pack false)
-    else when eqb kind (code "S") then some (pack true)
-    else when eqb kind (code "G") then some (replacement captures)
-    else when eqb kind (code "D") then some date else none
+    when eqb kind (code "F") then Some format
+    else when eqb kind (code "P") then Some (pattern true)
+    else when eqb kind (code "K") then Some (pack false)
+    else when eqb kind (code "S") then Some (pack true)
+    else when eqb kind (code "G") then Some (replacement captures)
+    else when eqb kind (code "D") then Some date else None
 
 -- a pattern's check without its test of ranges; every other check as it is
 unfoldable pub without_ranges : Check → Check
@@ -72,18 +69,18 @@ numbers (pack true) = 0 ∷ 14 ∷ 15 ∷ 16 ∷ 17 ∷ 18 ∷ 23 ∷ 25 ∷ []
 
 -- those of what a byte names: 30 where it names no check
 abbrev pub named_numbers : Option Check → List ℕ
-named_numbers none = 30 ∷ []
-named_numbers (some check) = numbers check
+named_numbers None = 30 ∷ []
+named_numbers (Some check) = numbers check
 
 -- the code's checks
 abbrev pub check_meant : CheckEnum → Check
 check_meant variant.Format = format
 check_meant (variant.Pattern ranges) = pattern ranges
 check_meant variant.Date = date
-check_meant (variant.Replacement captures) = replacement (count_of captures)
+check_meant (variant.Replacement captures) = replacement captures
 check_meant variant.Pack = pack false
 check_meant variant.Packsize = pack true
 
-abbrev pub check_named : Named → Option Check
-check_named (named.Check check) = some (check_meant check)
-check_named named.Nothing = none
+abbrev pub check_named : Option CheckEnum → Option Check
+check_named (Some check) = Some (check_meant check)
+check_named None = None

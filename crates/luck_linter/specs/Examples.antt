@@ -1,9 +1,8 @@
 -- A text for every number in the list of each check, with the counts below, most of them from document 01's table of
 -- refusals: the lists name no number that their check never answers.
 -- Assumes nothing.
-use Rattle.std.specs.Prelude.{ℕ, ◌≡◌, refl, true, false, List, [], ◌∷◌, ◌++◌}
+use Rattle.std.specs.Prelude.{ℕ, ◌≡◌, refl, true, false, List, [], ◌∷◌, ◌++◌, Option, None, Some}
 use Prim.Native.Char.{code}
-use Rattle.std.proofs.Math.Option.{Option, none, some}
 use Rattle.luck_text.specs.Bytes.{ascii}
 use Rattle.luck_answer.specs.Answer.{Answer}
 use Rattle.luck_linter.specs.Checks.{
@@ -88,9 +87,9 @@ examples =
     ∷ (pattern false, untested)
     ∷ (format, formats)
     ∷ (date, dates)
-    ∷ (replacement none, replacements)
-    ∷ (replacement (some 9), replacements)
-    ∷ (replacement (some 1), one_capture)
+    ∷ (replacement None, replacements)
+    ∷ (replacement (Some 9), replacements)
+    ∷ (replacement (Some 1), one_capture)
     ∷ (pack false, packs unread)
     ∷ (pack true, packsizes)
     ∷ []
@@ -98,14 +97,14 @@ examples =
 -- the same texts as literals, by their kind letters and counts of captures; and a byte that is no kind letter
 abbrev pub literals : List ((ℕ × Option ℕ) × List Example)
 literals =
-    ((code "P", none), quoted patterns)
-    ∷ ((code "F", none), quoted formats)
-    ∷ ((code "D", none), quoted dates)
-    ∷ ((code "G", none), quoted replacements)
-    ∷ ((code "G", some 1), quoted one_capture)
-    ∷ ((code "K", none), quoted (packs unread))
-    ∷ ((code "S", none), quoted packsizes)
-    ∷ ((code "Q", none), gives 1 [] 30 ∷ [])
+    ((code "P", None), quoted patterns)
+    ∷ ((code "F", None), quoted formats)
+    ∷ ((code "D", None), quoted dates)
+    ∷ ((code "G", None), quoted replacements)
+    ∷ ((code "G", Some 1), quoted one_capture)
+    ∷ ((code "K", None), quoted (packs unread))
+    ∷ ((code "S", None), quoted packsizes)
+    ∷ ((code "Q", None), gives 1 [] 30 ∷ [])
     ∷ []
 
 -- ---- What is said of them

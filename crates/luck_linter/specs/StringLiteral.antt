@@ -2,9 +2,8 @@
 -- kind letters of document 01, in the order of point 9 of document 03. F-10 of document 02 says where a pattern's
 -- ranges are tested.
 -- Assumes nothing.
-use Rattle.std.specs.Prelude.{ℕ, ◌+◌, ◌-◌, Bool, true, false, ◌||◌, List, [], ◌∷◌, length, eqb}
+use Rattle.std.specs.Prelude.{ℕ, ◌+◌, ◌-◌, Bool, true, false, ◌||◌, List, [], ◌∷◌, length, eqb, Option, None, Some}
 use Prim.Native.Char.{code}
-use Rattle.std.proofs.Math.Option.{Option, none, some}
 use Rattle.luck_text.specs.Bytes.{when◌then◌else◌, part, among, is_digit}
 use Rattle.luck_token.specs.Version.{rules_of}
 use Rattle.luck_utf8.specs.Utf8.{char_at}
@@ -86,8 +85,8 @@ check_short check rules start text =
 
 -- what comes before every check comes before this one too, without a span; then whether to skip
 unfoldable pub check_named_literal : Option Check → ℕ → ℕ → List ℕ → LiteralAnswer
-check_named_literal none version start text = unspanned (refused 30 0)
-check_named_literal (some check) version start text =
+check_named_literal None version start text = unspanned (refused 30 0)
+check_named_literal (Some check) version start text =
     let tested = check_text version text (accepted 0) in
     let short = check_short check (rules_of version) start text in
     when eqb tested.number 0 then short else unspanned tested

@@ -1,49 +1,52 @@
 // The checks of a body, and the kind letters that name them.
 ghost use Rattle.std.specs.Prelude.{◌≡◌};
-ghost use Rattle.luck_answer.specs.Answer.{walked_of, answer_of};
-ghost use Rattle.luck_replacement.specs.Replacement.{count_of};
+ghost use Rattle.luck_answer.specs.Answer.{check_answer, refused, walked_of, answer_of};
 ghost use Rattle.luck_linter.specs.Checks.{check_of, without_ranges, walk_of, answer, check_meant, check_named};
 
-use luck_answer::format_pattern;
-use luck_answer::format_pattern::{Checked, Text, Walked};
+use luck_answer::answer::Answer;
+use luck_answer::format_pattern::{CheckError, PatternError};
 use luck_format::{date, format};
 use luck_pack::pack;
 use luck_pattern::pattern;
 use luck_replacement::replacement;
-use luck_replacement::replacement::Captures;
-use luck_token::version;
+use luck_token::text;
 use luck_token::version::Rules;
 
-#[derive(Clone, Copy)]
+#[derive(Clone, Copy, Debug, PartialEq, Eq)]
 pub enum Check {
     Format,
     // whether its ranges are tested
     Pattern(bool),
     Date,
-    Replacement(Captures),
+    Replacement(Option<usize>),
     Pack,
     Packsize,
 }
 
-// What a byte names.
-#[derive(Clone, Copy)]
-pub enum Named {
-    Check(Check),
-    Nothing,
+// A byte that is no kind letter, or a line whose head does not fit.
+#[derive(Clone, Copy, Debug, PartialEq, Eq)]
+pub struct UnknownKind;
+
+impl From<UnknownKind> for Answer {
+    ghost from_gives = { λ _ answer. check_answer answer ≡ refused 30 0 };
+
+    fn from(_unknown: UnknownKind) -> Self {
+        Answer::refused(30, 0)
+    }
 }
 
 // The check that a kind letter names.
-pub fn check_of(kind: u8, captures: Captures) -> Named
-    ensures { check_named result ≡ check_of kind (count_of captures) }
+pub fn check_of(kind: u8, captures: Option<usize>) -> Option<Check>
+    ensures { check_named result ≡ check_of kind captures }
 {
     match kind {
-        b'F' => Named::Check(Check::Format),
-        b'P' => Named::Check(Check::Pattern(true)),
-        b'K' => Named::Check(Check::Pack),
-        b'S' => Named::Check(Check::Packsize),
-        b'G' => Named::Check(Check::Replacement(captures)),
-        b'D' => Named::Check(Check::Date),
-        _ => Named::Nothing,
+        b'F' => Some(Check::Format),
+        b'P' => Some(Check::Pattern(true)),
+        b'K' => Some(Check::Pack),
+        b'S' => Some(Check::Packsize),
+        b'G' => Some(Check::Replacement(captures)),
+        b'D' => Some(Check::Date),
+        _ => None,
     }
 }
 
@@ -52,17 +55,14 @@ pub fn without_ranges(check: Check) -> Check
     ensures { check_meant result ≡ without_ranges (check_meant check) }
 {
     match check {
-        Check::Format => Check::Format,
         Check::Pattern(_) => Check::Pattern(false),
-        Check::Date => Check::Date,
-        Check::Replacement(captures) => Check::Replacement(captures),
-        Check::Pack => Check::Pack,
-        Check::Packsize => Check::Packsize,
+        _ => check,
     }
 }
 
 // The check of a body that is UTF-8.
-pub fn walk(check: Check, rules: Rules, body: &[u8]) -> Walked
+#[tactic(auto, unfolding(crate::specs::Checks::walk_of))]
+pub fn walk(check: Check, rules: Rules, body: &[u8]) -> Result<usize, PatternError>
     ensures { walked_of result ≡ walk_of (check_meant check) rules body.now }
 {
     match check {
@@ -82,13 +82,10 @@ pub fn walk(check: Check, rules: Rules, body: &[u8]) -> Walked
 }
 
 // The check of any body under any version.
-pub fn validate(check: Check, version: u32, body: &[u8]) -> Checked
+#[tactic(auto, using(luck_answer::proofs::Texts::checks, crate::proofs::Checked::whole_check))]
+pub fn validate(check: Check, version: u32, body: &[u8]) -> Result<usize, CheckError>
     ensures { answer_of result ≡ answer (check_meant check) version body.now }
 {
-    let text = format_pattern::read_text(version, body);
-    match text {
-        Text::Fine => format_pattern::as_checked(walk(check, version::rules_of(version), body)),
-        Text::NotUtf8(at) => Checked::NotUtf8(at),
-        Text::UnknownVersion => Checked::UnknownVersion,
-    }
+    let rules = text::read_text(version, body)?;
+    Ok(walk(check, rules, body)?)
 }

@@ -1,14 +1,14 @@
 -- Laws of bytes that are written to an output: where they fit, and one by one.
 -- Assumes nothing.
-use Prim.Native.Nat.{ℕ, suc, ◌+◌, ◌-◌, ◌≤◌, ◌<◌}
+use Prim.Native.Nat.{ℕ, zero, suc, ◌+◌, ◌-◌, ◌≤◌, ◌<◌}
 use native.Mathlib.Nat.{add-zero}
 use native.Mathlib.Omega.{arith}
 use mathlib.Core.Path.{◌≡◌, sym, ap, ◌∙◌}
 use mathlib.Core.List.{List, [], ◌∷◌, ◌++◌}
-use lib.ListN.{length, take, drop, set, length-drop}
-use lib.Seq.{take-suc, get_or-drop, length-take-le, sets}
+use lib.ListN.{length, take, drop, set, get_or, length-drop}
+use lib.Seq.{length-take-le, sets}
 use borrow.Author.Tests.{le-leb, lt-leb}
-use Rattle.luck_text.specs.Bytes.{byte_at, part}
+use Rattle.luck_text.specs.Bytes.{part}
 use Rattle.luck_output.specs.Output.{stores}
 use Rattle.luck_text.proofs.Cases.{if_true, if_false}
 
@@ -28,22 +28,13 @@ sets_last (x ∷ bytes) output p b =
     let e : p + suc (length bytes) ≡ suc p + length bytes = omega arith in
     ap (λ (q : ℕ). set (sets output p (x ∷ bytes)) q b) e ∙ sets_last bytes (set output p x) (suc p) b
 
-pub part_none : (text output : List ℕ) (from p : ℕ) → output ≡ sets output p (part text from from)
-part_none text output from p = let e : from - from ≡ 0 = omega arith in rw e
+pub copied : (bytes output : List ℕ) (p i : ℕ) → i < length bytes → set (sets output p (take i bytes)) (p + i) (get_or bytes i 0) ≡ sets output p (take (suc i) bytes)
+copied [] output p i h = absurd (omega arith)
+copied (x ∷ bytes) output p zero h = rw (add-zero p)
+copied (x ∷ bytes) output p (suc i) h =
+    let e : p + suc i ≡ suc p + i = omega arith in
+    ap (λ (q : ℕ). set (sets output p (x ∷ take i bytes)) q (get_or bytes i 0)) e ∙ copied bytes (set output p x) (suc p) i (omega arith)
 
 module _ (text : List ℕ) (from i : ℕ) (l : from ≤ i) where
   pub part_length : i ≤ length text → length (part text from i) ≡ i - from
   part_length h = length-take-le (i - from) (drop from text) (omega (arith, length-drop from text))
-
-  part_more : i < length text → part text from (i + 1) ≡ part text from i ++ (byte_at text i ∷ [])
-  part_more h =
-      let n : i + 1 - from ≡ suc (i - from) = omega arith in
-      let q : from + (i - from) ≡ i = omega arith in
-      ap (λ (k : ℕ). take k (drop from text)) n ∙ take-suc (drop from text) (i - from) 0 (omega (arith, length-drop from text))
-      ∙ ap (λ (b : ℕ). part text from i ++ (b ∷ [])) (get_or-drop from text (i - from) 0 ∙ ap (byte_at text) q)
-
-  pub copied : (output output₀ : List ℕ) (p : ℕ) → i < length text → output ≡ sets output₀ p (part text from i)
-      → set output (p + (i - from)) (byte_at text i) ≡ sets output₀ p (part text from (i + 1))
-  copied output output₀ p h e =
-      let n = part_length (omega arith) in
-      rw (e, part_more h, ← sets_last (part text from i) output₀ p (byte_at text i), n)

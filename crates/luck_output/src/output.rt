@@ -1,33 +1,42 @@
 // Bytes, code points and parts of a text, written to a lent output.
-ghost use Rattle.std.specs.Prelude.{◌≡◌, [], ◌∷◌, ◌+◌, ◌-◌, ◌<◌, ◌≤◌, length};
+ghost use Rattle.std.specs.Prelude.{◌≡◌, [], ◌∷◌, ◌+◌, ◌≤◌, length, leb};
 ghost use Rattle.std.proofs.lemmas.List.Edits.{sets};
-ghost use Rattle.luck_text.specs.Bytes.{part};
 ghost use Rattle.luck_utf8.specs.Utf8.{last_code, utf8_bytes};
 ghost use Rattle.luck_output.specs.Output.{stores};
 
 use crate::character;
 
-// Copies the bytes from `from` to `to`.
-pub fn copy(text: &[u8], from: usize, to: usize, output: &mut [u8], at: usize)
-    requires { (from ≤ to) × (to ≤ length text.now) × (at + (to - from) ≤ length output.old) }
-    ensures { output.new ≡ sets output.old at (part text.now from to) }
+// Writes the bytes at `at`. The compiler makes memcpy of the loop: the library's `copy_from_slice` calls memmove, which a
+// host need not have.
+pub fn copy(bytes: &[u8], output: &mut [u8], at: usize)
+    requires { at + length bytes.now ≤ length output.old }
+    ensures { output.new ≡ sets output.old at bytes.now }
 {
-    let mut i = from;
-    let mut end = at;
-    while i < to {
-        output[end] = text[i];
-        i += 1;
-        end += 1;
+    for (i, &byte) in bytes.iter().enumerate() {
+        output[at + i] = byte;
     }
 }
 
+// Whether so many bytes fit at `at`.
+fn fits(output: &[u8], at: usize, count: usize) -> bool
+    ensures { result ≡ leb (at + count) (length output.now) }
+{
+    at <= output.len() && count <= output.len() - at
+}
+
 // This and the two below write their bytes at `at`, where they fit.
+pub fn put(bytes: &[u8], output: &mut [u8], at: usize)
+    ensures { output.new ≡ stores output.old at bytes.now }
+{
+    if fits(output, at, bytes.len()) {
+        copy(bytes, output, at);
+    }
+}
+
 pub fn put_byte(output: &mut [u8], at: usize, value: u8)
     ensures { output.new ≡ stores output.old at (value ∷ []) }
 {
-    if at < output.len() {
-        output[at] = value;
-    }
+    put(&[value], output, at);
 }
 
 pub fn put_char(output: &mut [u8], at: usize, code: u32) -> usize
@@ -35,24 +44,8 @@ pub fn put_char(output: &mut [u8], at: usize, code: u32) -> usize
     ensures { (result ≡ length (utf8_bytes code)) × (output.new ≡ stores output.old at (utf8_bytes code)) }
 {
     let width = character::char_width(code);
-    if output.len() < at {
-        return width;
+    if fits(output, at, width) {
+        return character::write_char(output, at, code);
     }
-    if output.len() - at < width {
-        return width;
-    }
-    character::write_char(output, at, code)
-}
-
-pub fn put_part(text: &[u8], from: usize, to: usize, output: &mut [u8], at: usize)
-    requires { (from ≤ to) × (to ≤ length text.now) }
-    ensures { output.new ≡ stores output.old at (part text.now from to) }
-{
-    if output.len() < at {
-        return;
-    }
-    if output.len() - at < to - from {
-        return;
-    }
-    copy(text, from, to, output, at);
+    width
 }

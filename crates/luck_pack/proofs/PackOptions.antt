@@ -1,6 +1,7 @@
 -- The list of a pack format's options: an option stands before those behind it, and the count of a format that is accepted
 -- is that of the options in its list that have a value and are not read by an `X`.
 -- Assumes nothing.
+use Rattle.std.specs.Prelude.{Option, None, Some}
 use Prim.Native.Nat.{ℕ, zero, suc, ◌+◌, ◌-◌, ◌≤◌, ◌<◌}
 use Prim.Native.Char.{code}
 use native.Mathlib.Nat.{zero-add}
@@ -9,7 +10,6 @@ use mathlib.Core.Path.{◌≡◌, refl, sym, ap, subst, ◌∙◌}
 use mathlib.Core.Logic.{⊎_elim}
 use mathlib.Core.Bool.{Bool, true, false, true≢false}
 use mathlib.Core.List.{List, [], ◌∷◌}
-use mathlib.Core.Option.{Option, none, some}
 use lib.ListN.{length}
 use borrow.Author.Tests.{le-leb, leb-false}
 use Rattle.luck_text.specs.Bytes.{when◌then◌else◌, byte_at, among, is_digit}
@@ -225,8 +225,8 @@ module _ (text : List ℕ) where
 
       align_keeps : (width : ℕ) (to : Option ℕ) → Keeps (goes (1 + width) s) → Keeps (align_by text p s width to)
       unfolding align_by
-      align_keeps width (some size) k = aligned_keeps (1 + width) size s k
-      align_keeps width none k = λ z. omega (arith, z)
+      align_keeps width (Some size) k = aligned_keeps (1 + width) size s k
+      align_keeps width None k = λ z. omega (arith, z)
 
       module _ (o : PackOption) (width : ℕ) (e : getoption text p ≡ option o width) where
         -- `X` at p, before what stands at p + 1

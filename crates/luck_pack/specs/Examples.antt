@@ -1,9 +1,8 @@
 -- What no answer of the check shows of an option, computed: the kind of each letter, the number that a `c` keeps, and
 -- which letters have no size.
 -- Assumes nothing.
-use Rattle.std.specs.Prelude.{ℕ, ◌≡◌, refl, List, [], ◌∷◌}
+use Rattle.std.specs.Prelude.{ℕ, ◌≡◌, refl, List, [], ◌∷◌, Some}
 use Prim.Native.Char.{code}
-use Rattle.std.proofs.Math.Option.{some}
 use Rattle.luck_text.specs.Bytes.{ascii}
 use Rattle.luck_pack.specs.Pack.{
   KOption,
@@ -47,6 +46,6 @@ pub unsized : sizes (ascii "czxX !<>=") ≡ 0 ∷ 0 ∷ 0 ∷ 0 ∷ 0 ∷ 0 ∷ 
 unfolding computed
 unsized = refl
 
-pub fixed_string_lem : getoption (ascii "c10") 0 ≡ option (pack_option (code "c") (some 10)) 3
+pub fixed_string_lem : getoption (ascii "c10") 0 ≡ option (pack_option (code "c") (Some 10)) 3
 unfolding computed
 fixed_string_lem = refl

@@ -4,10 +4,9 @@
 -- the others 4, so that `!5j` is accepted and `!5n` refused. `c` takes any number, where getnum of lstrlib.c stops at
 -- the largest int.
 -- Assumes nothing.
-use Rattle.std.specs.Prelude.{ℕ, zero, suc, ◌+◌, ◌-◌, min, Bool, not, ◌&&◌}
+use Rattle.std.specs.Prelude.{ℕ, zero, suc, ◌+◌, ◌-◌, min, Bool, not, ◌&&◌, Option, None, Some}
 use Rattle.std.specs.Prelude.{List, [], ◌∷◌, length, drop, eqb, leb, ltb}
 use Prim.Native.Char.{code}
-use Rattle.std.proofs.Math.Option.{Option, none, some}
 use Rattle.luck_text.specs.Bytes.{when◌then◌else◌, byte_at, part, ascii, between, among, is_digit, run, numeral}
 use Rattle.luck_utf8.specs.Utf8.{char_at}
 use Rattle.luck_text.specs.Walk.{Turn, stop, goes, walk_from}
@@ -33,15 +32,15 @@ unfoldable pub getnumlimit : ℕ → List ℕ → ℕ → OptionRead
 getnumlimit letter text p =
     let digits = run is_digit (drop p text) in
     let number = numeral 10 (part text p (p + digits)) in
-    when eqb digits 0 then option (pack_option letter none) 1
-    else when between 1 16 number then option (pack_option letter (some number)) (1 + digits) else fault (refused 16 p)
+    when eqb digits 0 then option (pack_option letter None) 1
+    else when between 1 16 number then option (pack_option letter (Some number)) (1 + digits) else fault (refused 16 p)
 
 -- `c` needs a number, whose digits stand at p
 unfoldable pub fixed_string : List ℕ → ℕ → OptionRead
 fixed_string text p =
     let digits = run is_digit (drop p text) in
     let number = numeral 10 (part text p (p + digits)) in
-    when eqb digits 0 then fault (refused 15 p) else option (pack_option (code "c") (some number)) (1 + digits)
+    when eqb digits 0 then fault (refused 15 p) else option (pack_option (code "c") (Some number)) (1 + digits)
 
 -- the letters of getoption behind which it reads no number, and those with getnumlimit
 abbrev pub bare_letters : List ℕ
@@ -62,7 +61,7 @@ unfoldable pub getoption : List ℕ → ℕ → OptionRead
 getoption text p =
     let b = byte_at text p in
     when leb (length text) p then fault (refused 15 p)
-    else when among b bare_letters then option (pack_option b none) 1 else numbered_option text p
+    else when among b bare_letters then option (pack_option b None) 1 else numbered_option text p
 
 -- ---- Kind and size
 
@@ -88,8 +87,8 @@ kind_of letter =
 
 -- an option's number, or the default where it has none
 unfoldable pub number_or : ℕ → Option ℕ → ℕ
-number_or default none = default
-number_or default (some number) = number
+number_or default None = default
+number_or default (Some number) = number
 
 -- the size of a letter without a number, as luck takes it; 0 where no size is asked for
 unfoldable pub luck_sizeof : ℕ → ℕ
@@ -137,24 +136,24 @@ variable packsize text p step = when packsize then stop (refused_with 18 p (char
 
 -- `X` at p, before an option of this width, which is passed over; none where `X` can't stand before it
 unfoldable pub align_by : List ℕ → ℕ → PackState → ℕ → Option ℕ → Turn PackState Answer
-align_by text p s width (some size) = aligned p (1 + width) size s s
-align_by text p s width none = stop (refused_with 14 (p + 1) (char_at text (p + 1)).code)
+align_by text p s width (Some size) = aligned p (1 + width) size s s
+align_by text p s width None = stop (refused_with 14 (p + 1) (char_at text (p + 1)).code)
 
 -- the walk with the sizes given
 module _ (size_of : PackOption → ℕ) where
   -- what `X` may stand before, with its size
   unfoldable pub alignment_of : KOption → PackOption → Option ℕ
-  alignment_of Kint o = some (size_of o)
-  alignment_of Kuint o = some (size_of o)
-  alignment_of Kfloat o = some (size_of o)
-  alignment_of Knumber o = some (size_of o)
-  alignment_of Kdouble o = some (size_of o)
-  alignment_of Kchar o = none
-  alignment_of Kstring o = some (size_of o)
-  alignment_of Kzstr o = none
-  alignment_of Kpadding o = some 1
-  alignment_of Kpaddalign o = none
-  alignment_of Knop o = none
+  alignment_of Kint o = Some (size_of o)
+  alignment_of Kuint o = Some (size_of o)
+  alignment_of Kfloat o = Some (size_of o)
+  alignment_of Knumber o = Some (size_of o)
+  alignment_of Kdouble o = Some (size_of o)
+  alignment_of Kchar o = None
+  alignment_of Kstring o = Some (size_of o)
+  alignment_of Kzstr o = None
+  alignment_of Kpadding o = Some 1
+  alignment_of Kpaddalign o = None
+  alignment_of Knop o = None
 
   unfoldable pub align_to_next : List ℕ → ℕ → PackState → OptionRead → Turn PackState Answer
   align_to_next text p s (option next width) = align_by text p s width (alignment_of (kind_of next.letter) next)

@@ -2,13 +2,13 @@
 -- range, at the first such range of that set; and which patterns are accepted with the test of ranges: those that are
 -- accepted without it and of which no set has a reversed range.
 -- Assumes nothing.
+use Rattle.std.specs.Prelude.{Option, None, Some}
 use Prim.Native.Nat.{ℕ, zero, suc, ◌+◌, ◌≤◌, ◌<◌}
 use native.Mathlib.Omega.{arith}
 use mathlib.Core.Path.{◌≡◌, refl, sym, ap, subst, ◌∙◌}
 use mathlib.Core.Logic.{◌⊎◌, inl, inr, ⊎_elim, ◌↔◌}
 use mathlib.Core.Bool.{Bool, true, false}
 use mathlib.Core.List.{List, []}
-use mathlib.Core.Option.{Option, none, some}
 use lib.ListN.{length}
 use lib.Dec.{eqb, ltb}
 use borrow.Author.Tests.{ltb-true}
@@ -83,8 +83,8 @@ module _ (pat : List ℕ) where
 
   sane_close : (p : ℕ) → p < length pat → (o : Option (List Bool)) → Sane p (after_close p o)
   unfolding after_close
-  sane_close p h none = omega arith
-  sane_close p h (some captures) = (omega arith, omega arith)
+  sane_close p h None = omega arith
+  sane_close p h (Some captures) = (omega arith, omega arith)
 
   sane_head : (p : ℕ) (captures : List Bool) → p < length pat → (h : Head) → Sane p (head_turn false pat p captures h)
   unfolding head_turn escape_read set_read
@@ -103,7 +103,7 @@ module _ (pat : List ℕ) where
 
   -- it goes on exactly where the turn without the test does, and the item has no reversed range
   pub goes_on : (p : ℕ) (captures : List Bool) (width : ℕ) (after : List Bool)
-      → (pattern_turn true pat p captures ≡ goes width after) ↔ ((item_reversed pat p ≡ none) × (pattern_turn false pat p captures ≡ goes width after))
+      → (pattern_turn true pat p captures ≡ goes width after) ↔ ((item_reversed pat p ≡ None) × (pattern_turn false pat p captures ≡ goes width after))
   unfolding tested
   goes_on p captures width after = (
     λ e. there (item_reversed pat p) refl (sym (turn_tested pat p captures) ∙ e),
@@ -112,15 +112,15 @@ module _ (pat : List ℕ) where
     where
       there : (o : Option ℕ) → item_reversed pat p ≡ o
           → tested (item_reversed pat p) (pattern_turn false pat p captures) ≡ goes width after
-          → (item_reversed pat p ≡ none) × (pattern_turn false pat p captures ≡ goes width after)
-      there none e f = (e, sym (ap (λ o. tested o (pattern_turn false pat p captures)) e) ∙ f)
-      there (some k) e f =
+          → (item_reversed pat p ≡ None) × (pattern_turn false pat p captures ≡ goes width after)
+      there None e f = (e, sym (ap (λ o. tested o (pattern_turn false pat p captures)) e) ∙ f)
+      there (Some k) e f =
           let g : ◌≡◌ {A = Turn (List Bool) Answer} (stop (refused 39 k)) (goes width after) = sym (ap (λ o. tested o (pattern_turn false pat p captures)) e) ∙ f in
           let z : ◌≡◌ {A = ℕ} 0 1 = cc in absurd (omega arith)
 
   -- it is 39 exactly at the item's first reversed range
   pub is_39 : (p : ℕ) (captures : List Bool) (k : ℕ) → p < length pat
-      → (pattern_turn true pat p captures ≡ stop (refused 39 k)) ↔ (item_reversed pat p ≡ some k)
+      → (pattern_turn true pat p captures ≡ stop (refused 39 k)) ↔ (item_reversed pat p ≡ Some k)
   unfolding tested
   is_39 p captures k h = (
     λ e. there (item_reversed pat p) refl (sym (turn_tested pat p captures) ∙ e),
@@ -129,14 +129,14 @@ module _ (pat : List ℕ) where
     where
       there : (o : Option ℕ) → item_reversed pat p ≡ o
           → tested (item_reversed pat p) (pattern_turn false pat p captures) ≡ stop (refused 39 k)
-          → item_reversed pat p ≡ some k
-      there none e f =
+          → item_reversed pat p ≡ Some k
+      there None e f =
           let g : pattern_turn false pat p captures ≡ stop (refused 39 k) = sym (ap (λ o. tested o (pattern_turn false pat p captures)) e) ∙ f in
           let s : Sane p (stop (refused 39 k)) = subst (Sane p) g (sane p captures h) in absurd (omega arith)
-      there (some j) e f =
+      there (Some j) e f =
           let g : ◌≡◌ {A = Turn (List Bool) Answer} (stop (refused 39 j)) (stop (refused 39 k)) = sym (ap (λ o. tested o (pattern_turn false pat p captures)) e) ∙ f in
           let a : refused 39 j ≡ refused 39 k = cc in
-          e ∙ ap some (ap (λ (x : Answer). x.offset) a)
+          e ∙ ap Some (ap (λ (x : Answer). x.offset) a)
 
 -- ---- What is passed before a place
 
@@ -230,15 +230,15 @@ module _ (pat : List ℕ) where
   not_39 n (one_more {p} {width} {before} {after} q h e) = step (not_39 n q) (item_reversed pat p) refl
     where
       step : Passed true pat p before → (o : Option ℕ) → item_reversed pat p ≡ o → Passed true pat (p + width) after
-      step q none f = one_more q h ((goes_on pat p before width after).1 (f, e))
-      step q (some k) f = absurd (n k (record { place = p; captures = before; passed = q; in_text = h; found = f }))
+      step q None f = one_more q h ((goes_on pat p before width after).1 (f, e))
+      step q (Some k) f = absurd (n k (record { place = p; captures = before; passed = q; in_text = h; found = f }))
 
   pub none_first : ((k : ℕ) → FirstReversedSet pat k → ⊥) → NoneReversed pat
   none_first n p captures q h = go (item_reversed pat p) refl
     where
-      go : (o : Option ℕ) → item_reversed pat p ≡ o → item_reversed pat p ≡ none
-      go none f = f
-      go (some k) f = absurd (n k (record { place = p; captures = captures; passed = not_39 n q; in_text = h; found = f }))
+      go : (o : Option ℕ) → item_reversed pat p ≡ o → item_reversed pat p ≡ None
+      go None f = f
+      go (Some k) f = absurd (n k (record { place = p; captures = captures; passed = not_39 n q; in_text = h; found = f }))
 
   pub walk_accepted : (n : ℕ)
       → (pattern_walk true pat ≡ accepted n) ↔ ((pattern_walk false pat ≡ accepted n) × NoneReversed pat)
@@ -249,7 +249,7 @@ module _ (pat : List ℕ) where
         ⊎_elim (λ same. same ∙ y.0)
         (λ r.
         let f = (walk_39 r.0).0 r.2 in
-        let g : none ≡ some r.0 = sym (y.1 f.place f.captures (passed_without f.passed) f.in_text) ∙ f.found in
+        let g : None ≡ Some r.0 = sym (y.1 f.place f.captures (passed_without f.passed) f.in_text) ∙ f.found in
         let z : ◌≡◌ {A = ℕ} 0 1 = cc in absurd (omega arith))
         (walk_or_39 pat),
   )
@@ -262,7 +262,7 @@ module _ (pat : List ℕ) where
 module _ (version : ℕ) (pat : List ℕ) where
   -- what the check of a text says of its walk, where the answer is neither 25 nor 23
   text_gives : (walked a : Answer) → (a.number ≡ 25 → ⊥) → (a.number ≡ 23 → ⊥)
-      → (check_text version pat walked ≡ a) ↔ ((is_version version ≡ true) × (ill_formed pat ≡ none) × (walked ≡ a))
+      → (check_text version pat walked ≡ a) ↔ ((is_version version ≡ true) × (ill_formed pat ≡ None) × (walked ≡ a))
   unfolding check_text after_text after_version after_utf8 when◌then◌else◌
   text_gives walked a n25 n23 = (
     λ e. there (is_version version) (ill_formed pat) refl refl e,
@@ -271,15 +271,15 @@ module _ (version : ℕ) (pat : List ℕ) where
     where
       there : (v : Bool) (o : Option ℕ) → is_version version ≡ v → ill_formed pat ≡ o
           → (when v then after_utf8 refused o walked else refused 25 0) ≡ a
-          → (is_version version ≡ true) × (ill_formed pat ≡ none) × (walked ≡ a)
-      there true none e f g = (e, f, g)
-      there true (some place) e f g = absurd (n23 (sym (ap (λ (x : Answer). x.number) g)))
+          → (is_version version ≡ true) × (ill_formed pat ≡ None) × (walked ≡ a)
+      there true None e f g = (e, f, g)
+      there true (Some place) e f g = absurd (n23 (sym (ap (λ (x : Answer). x.number) g)))
       there false o e f g = absurd (n25 (sym (ap (λ (x : Answer). x.number) g)))
 
   -- 39 at k exactly where the version and the text are fine and the first set that has a reversed range, before which
   -- nothing is at fault, has its first at k
   pub check_39 : (k : ℕ)
-      → (check_pattern_as true version pat ≡ refused 39 k) ↔ ((is_version version ≡ true) × (ill_formed pat ≡ none) × FirstReversedSet pat k)
+      → (check_pattern_as true version pat ≡ refused 39 k) ↔ ((is_version version ≡ true) × (ill_formed pat ≡ None) × FirstReversedSet pat k)
   unfolding check_pattern_as
   check_39 k =
       let gives = text_gives (pattern_walk true pat) (refused 39 k) (λ e. omega arith) (λ e. omega arith) in
@@ -303,7 +303,7 @@ module _ (version : ℕ) (pat : List ℕ) where
       in_any_case version pat (pattern_walk false pat) (λ (a : Answer). a.number < 39) (omega arith) (λ place h. omega arith) (walk_number pat)
 
   -- it is not 39 exactly where the version or the text is refused, or no item has a reversed range
-  pub check_not_39 : ((check_pattern_as true version pat).number ≡ 39 → ⊥) ↔ (is_version version ≡ true → ill_formed pat ≡ none → NoneReversed pat)
+  pub check_not_39 : ((check_pattern_as true version pat).number ≡ 39 → ⊥) ↔ (is_version version ≡ true → ill_formed pat ≡ None → NoneReversed pat)
   check_not_39 = (
     λ n v u. none_first pat (λ k f. n (ap (λ (a : Answer). a.number) ((check_39 k).1 (v, u, f)))),
     λ fine e.
@@ -311,7 +311,7 @@ module _ (version : ℕ) (pat : List ℕ) where
         (λ r.
         let y = (check_39 r.0).0 r.2 in
         let f = y.2 in
-        let g : none ≡ some r.0 = sym (fine y.0 y.1 f.place f.captures (passed_without pat f.passed) f.in_text) ∙ f.found in
+        let g : None ≡ Some r.0 = sym (fine y.0 y.1 f.place f.captures (passed_without pat f.passed) f.in_text) ∙ f.found in
         let z : ◌≡◌ {A = ℕ} 0 1 = cc in absurd (omega arith))
         (same_or_39 version pat),
   )

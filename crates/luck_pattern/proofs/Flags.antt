@@ -1,20 +1,20 @@
 -- The word of open captures and the list of captures that it stands for: opening one, closing the latest, reading one, and none open.
 -- Assumes nothing.
+use Rattle.std.specs.Prelude.{None, Some}
 use mathlib.Core.Path.{◌≡◌, refl, sym, ap, ◌∙◌}
-use mathlib.Core.Bool.{true, false, ◌&&◌}
-use mathlib.Core.List.{[], ◌∷◌, ◌++◌}
-use mathlib.Core.Logic.{◌⊎◌, inl, inr}
-use mathlib.Core.Option.{none, some}
+use mathlib.Core.Bool.{Bool, true, false, ◌&&◌}
+use mathlib.Core.List.{List, [], ◌∷◌, ◌++◌}
 use Prim.Native.Nat.{ℕ, zero, suc, ◌+◌, ◌-◌, ◌*◌, ◌/◌, ◌%◌, ◌^◌, ◌<◌, ◌≤◌}
-use native.Mathlib.Nat.{pow-suc, not-suc-le-zero, le_of_suc-le-suc, div-div-eq-div-mul, div-one, mul_comm, one-mul, eq-zero-or-pos}
+use native.Mathlib.Nat.{pow-suc, not-suc-le-zero, le_of_suc-le-suc, div-div-eq-div-mul, div-one, mul_comm, one-mul}
+use native.Mathlib.Numerals.{add-one}
 use native.Mathlib.Omega.{arith}
-use lib.Count.{ones, ones_step, count_leading_zeros, leading_top, leading_of_zero}
-use lib.Dec.{eqb, eqb-suc-zero, lit<}
-use lib.ListN.{length, get_or, set}
+use lib.Dec.{eqb, ltb, eqb-suc-zero, lit<}
+use lib.ListN.{length, get_or, get_or-eq_default, set}
 use lib.Pow.{pow_pos, shl_exact}
-use borrow.Author.Tests.{ne_eqb}
-use Rattle.luck_pattern.specs.Captures.{open_by, latest_open, close_at, close_latest, all_closed}
-use Rattle.luck_pattern.specs.Inner.{flags_of_word}
+use borrow.Author.Tests.{lt-ltb, le-ltb, ne_eqb}
+use Rattle.luck_text.proofs.Cases.{if_true, if_false, second_false}
+use Rattle.luck_pattern.specs.Captures.{open_by, latest_open, close_at, close_latest, is_closed, all_closed}
+use Rattle.luck_pattern.specs.Inner.{flags_of_word, open_one}
 
 pub flags_length : (n w : ℕ) → length (flags_of_word n w) ≡ n
 unfolding flags_of_word
@@ -31,17 +31,17 @@ flags_open (suc n) w h =
     let b : w / 2 < 2 ^ n = omega arith in
     rw (lo, hi, flags_open n (w / 2) b)
 
-none_open : (n : ℕ) → latest_open (flags_of_word n 0) ≡ none
+none_open : (n : ℕ) → latest_open (flags_of_word n 0) ≡ None
 unfolding flags_of_word latest_open
 none_open zero = refl
 none_open (suc n) = rw (none_open n)
 
-pub flags_none : (n w : ℕ) → w ≡ 0 → close_latest (flags_of_word n w) ≡ none
+pub flags_none : (n w : ℕ) → w ≡ 0 → close_latest (flags_of_word n w) ≡ None
 unfolding close_latest
 flags_none n w e = rw e (ap (close_at (flags_of_word n 0)) (none_open n))
 
 -- the highest bit of the word is the latest open capture, and without it that one is closed
-latest_at : (n w j : ℕ) → w < 2 ^ n → 2 ^ j ≤ w → w < 2 ^ suc j → latest_open (flags_of_word n w) ≡ some j
+latest_at : (n w j : ℕ) → w < 2 ^ n → 2 ^ j ≤ w → w < 2 ^ suc j → latest_open (flags_of_word n w) ≡ Some j
 unfolding flags_of_word latest_open
 latest_at zero w j h l u = let p : 0 < 2 ^ j = pow_pos j in absurd (omega arith)
 latest_at (suc n) w zero h l u = let e : w ≡ 1 = omega arith in rw e (ap (open_by false) (none_open n))
@@ -63,9 +63,9 @@ closed_at (suc n) w (suc j) h l u =
     let hi : (w - 2 ^ suc j) / 2 ≡ w / 2 - 2 ^ j = omega arith in
     rw (lo, hi, closed_at n (w / 2) j (omega arith) (omega arith) (omega arith))
 
-pub flags_close : (n w j : ℕ) → w < 2 ^ n → 2 ^ j ≤ w → w < 2 ^ suc j → close_latest (flags_of_word n w) ≡ some (flags_of_word n (w - 2 ^ j))
+pub flags_close : (n w j : ℕ) → w < 2 ^ n → 2 ^ j ≤ w → w < 2 ^ suc j → close_latest (flags_of_word n w) ≡ Some (flags_of_word n (w - 2 ^ j))
 unfolding close_latest
-flags_close n w j h l u = ap (close_at (flags_of_word n w)) (latest_at n w j h l u) ∙ ap some (closed_at n w j h l u)
+flags_close n w j h l u = ap (close_at (flags_of_word n w)) (latest_at n w j h l u) ∙ ap Some (closed_at n w j h l u)
 
 pub flags_at : (n w d : ℕ) → d < n → get_or (flags_of_word n w) d false ≡ eqb (w / 2 ^ d % 2) 0
 unfolding flags_of_word
@@ -87,50 +87,40 @@ flags_all (suc n) w h =
     let p : 2 ^ suc n ≡ 2 ^ n * 2 = pow-suc 2 n in
     rw (flags_all n (w / 2) (omega arith)) (all_closed_lem (w % 2) (w / 2) w refl refl)
 
--- the count of ones is 0 exactly for the word 0
-pub ones_none : (k w : ℕ) → w < 2 ^ k → ones w ≡ 0 → w ≡ 0
-ones_none zero w h e = omega arith
-ones_none (suc k) w h e =
-    let p : 2 ^ suc k ≡ 2 ^ k * 2 = pow-suc 2 k in
-    let s : ones w ≡ w % 2 + ones (w / 2) = ones_step w in
-    let half : w / 2 ≡ 0 = ones_none k (w / 2) (omega arith) (omega arith) in
-    omega arith
-
-pub none_ones : ones 0 ≡ 0
-unfolding ones
-none_ones = refl
-
 -- one bit of a word of 32, as the code's shift has it
 pub bit : (k : ℕ) → k < 32 → (1 * 2 ^ k) % 2 ^ 32 ≡ 2 ^ k
 bit k h = shl_exact {a = 1} 1 k 32 (lit< tt) (omega arith) ∙ one-mul (2 ^ k)
 
--- the highest set bit of a word of 32, by its leading zeros
-pub record Top (w : ℕ) : Type 0 where
-  pub zeros : count_leading_zeros 32 w ≤ 31
-  pub low : 2 ^ (31 - count_leading_zeros 32 w) ≤ w
-  pub high : w < 2 ^ suc (31 - count_leading_zeros 32 w)
+-- ---- As the code has them
 
-pub top : (w : ℕ) → w < 2 ^ 32 → (count_leading_zeros 32 w ≡ 32 → ⊥) → Top w
-top w h n = go (eq-zero-or-pos w)
-  where
-    go : (w ≡ 0) ⊎ (0 < w) → Top w
-    go (inl e) = absurd (n (ap (count_leading_zeros 32) e ∙ leading_of_zero 32))
-    go (inr p) =
-        let t = leading_top 32 w p h in
-        let e : t.0 ≡ 31 - count_leading_zeros 32 w = omega (arith, t.1) in
-        record { zeros = omega (arith, t.1); low = rw (← e) t.2; high = rw (← e) t.3 }
+pub opened : (n w : ℕ) → n < 32 → w < 2 ^ n → open_one (flags_of_word n w) ≡ Some (flags_of_word (n + 1) (w + 1 * 2 ^ n % 2 ^ 32))
+unfolding open_one
+opened n w h b =
+    let e : length (flags_of_word n w) ≡ n = flags_length n w in
+    if_true _ _ _ (lt-ltb (length (flags_of_word n w)) 32 (omega arith)) ∙ rw (bit n h, add-one) (ap Some (sym (flags_open n w b)))
 
-pub no_top : (w : ℕ) → w < 2 ^ 32 → count_leading_zeros 32 w ≡ 32 → w ≡ 0
-no_top w h e = go (eq-zero-or-pos w)
-  where
-    go : (w ≡ 0) ⊎ (0 < w) → w ≡ 0
-    go (inl z) = z
-    go (inr p) = let t = leading_top 32 w p h in absurd (omega (arith, t.1))
+pub full : (n w : ℕ) → 32 ≤ n → open_one (flags_of_word n w) ≡ None
+unfolding open_one
+full n w h = let e : length (flags_of_word n w) ≡ n = flags_length n w in if_false _ _ _ (le-ltb (length (flags_of_word n w)) 32 (omega arith))
 
--- the test of the count of ones is the test for the word 0
-pub ones_test : (w : ℕ) → w < 2 ^ 32 → eqb (ones w) 0 ≡ eqb w 0
-ones_test w h = go (eq-zero-or-pos w)
-  where
-    go : (w ≡ 0) ⊎ (0 < w) → eqb (ones w) 0 ≡ eqb w 0
-    go (inl e) = rw (e, none_ones)
-    go (inr p) = ne_eqb (ones w) 0 (λ e. let z : w ≡ 0 = ones_none 32 w h e in omega arith) ∙ sym (ne_eqb w 0 (λ e. omega arith))
+pub latest_closed : (n w k : ℕ) → w < 2 ^ n → 2 ^ k ≤ w → w < 2 * 2 ^ k → k < 32 → close_latest (flags_of_word n w) ≡ Some (flags_of_word n (w - 1 * 2 ^ k % 2 ^ 32))
+latest_closed n w k h l u b =
+    let p : 2 ^ suc k ≡ 2 ^ k * 2 = pow-suc 2 k in
+    rw (bit k b) (flags_close n w k h l (omega arith))
+
+pub zero_closed : (captures : List Bool) (d : ℕ) → d ≡ 0 → is_closed captures d ≡ false
+unfolding is_closed
+zero_closed captures d e = rw e
+
+pub unseen_closed : (n w d : ℕ) → n < d → is_closed (flags_of_word n w) d ≡ false
+unfolding is_closed
+unseen_closed n w d h =
+    let len : length (flags_of_word n w) ≡ n = flags_length n w in
+    rw (get_or-eq_default {A = Bool} (flags_of_word n w) false {n = d - 1} (omega arith)) (second_false (ltb 0 d) false refl)
+
+pub seen_closed : (n w d : ℕ) → (d ≡ 0 → ⊥) → d ≤ n → is_closed (flags_of_word n w) d ≡ eqb (w / 2 ^ (d - 1) % 2) 0
+unfolding is_closed
+seen_closed n w d z h = let pos : 0 < d = omega arith in rw (lt-ltb 0 d pos, flags_at n w (d - 1) (omega arith))
+
+-- whether a capture is closed
+pub ruleset closings = (zero_closed, unseen_closed, seen_closed)

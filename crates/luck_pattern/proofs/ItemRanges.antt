@@ -1,11 +1,11 @@
 -- The reversed ranges that the check looks for in an item are those of the set that the matching reads there.
 -- Assumes nothing.
+use Rattle.std.specs.Prelude.{Option, None, Some}
 use Prim.Native.Nat.{ℕ, ◌+◌}
 use mathlib.Core.Path.{◌≡◌, refl}
 use mathlib.Core.Logic.{◌↔◌}
 use mathlib.Core.Bool.{Bool, true, false}
 use mathlib.Core.List.{List}
-use mathlib.Core.Option.{Option, none, some}
 use lib.ListN.{length}
 use lib.Dec.{eqb, ltb}
 use Rattle.luck_text.specs.Bytes.{when◌then◌else◌, byte_at}
@@ -17,10 +17,10 @@ use Rattle.luck_pattern.proofs.Elements.{none_reversed}
 
 -- no reversed range is found, exactly where each range of what is read runs upwards
 abbrev Alike : Option ℕ → Read → Type 0
-Alike found read = (found ≡ none) ↔ UpwardsItem (item_of read)
+Alike found read = (found ≡ None) ↔ UpwardsItem (item_of read)
 
 -- nothing is found in what has no set
-no_set : (◌≡◌ {A = Option ℕ} none none) ↔ Unit {0}
+no_set : (◌≡◌ {A = Option ℕ} None None) ↔ Unit {0}
 no_set = (λ e. tt, λ u. refl)
 
 module _ (pat : List ℕ) where
@@ -38,7 +38,7 @@ module _ (pat : List ℕ) where
 
   -- `%f`, with a set at place q or without
   after_frontier : (q : ℕ) (b : Bool)
-      → Alike (reversed_set pat (when b then some q else none)) (when b then read_frontier pat q (set_end pat q) else last (raises 3))
+      → Alike (reversed_set pat (when b then Some q else None)) (when b then read_frontier pat q (set_end pat q) else last (raises 3))
   unfolding reversed_set when◌then◌else◌
   after_frontier q true = frontier_alike q (set_end pat q)
   after_frontier q false = no_set
@@ -47,18 +47,18 @@ module _ (pat : List ℕ) where
   unfolding escape_set reversed_set read_escape read_single repeated
   escape_alike p esc_end = no_set
   escape_alike p (esc_digit d) = no_set
-  escape_alike p esc_balance = by_test (Alike none) (ltb (p + 3) (length pat)) _ _ (λ _. no_set) (λ _. no_set)
+  escape_alike p esc_balance = by_test (Alike None) (ltb (p + 3) (length pat)) _ _ (λ _. no_set) (λ _. no_set)
   escape_alike p esc_frontier = after_frontier (p + 2) (eqb (byte_at pat (p + 2)) 91)
   escape_alike p esc_other = no_set
 
-  byte_alike : (p : ℕ) → Alike none (read_byte pat p)
+  byte_alike : (p : ℕ) → Alike None (read_byte pat p)
   unfolding read_byte read_single repeated
   byte_alike p =
-      by_test (Alike none) _ _ _ (λ _. no_set) (λ _. by_test (Alike none) _ _ _ (λ _. no_set) (λ _. no_set))
+      by_test (Alike None) _ _ _ (λ _. no_set) (λ _. by_test (Alike None) _ _ _ (λ _. no_set) (λ _. no_set))
 
   head_alike : (p : ℕ) (h : Head) → Alike (reversed_set pat (head_set pat p h)) (read_head pat p h)
   unfolding head_set reversed_set read_head
-  head_alike p at_open = by_test (Alike none) _ _ _ (λ _. no_set) (λ _. no_set)
+  head_alike p at_open = by_test (Alike None) _ _ _ (λ _. no_set) (λ _. no_set)
   head_alike p at_close = no_set
   head_alike p at_percent = escape_alike p (escape_at pat (p + 1))
   head_alike p at_set = set_alike p (set_end pat p)

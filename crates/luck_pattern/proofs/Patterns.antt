@@ -1,28 +1,69 @@
 -- Laws of patterns: a law for each case of a set, of an escape and of an item, as the code meets it.
 -- Assumes nothing.
+use Rattle.std.specs.Prelude.{Option, None, Some}
 use Prim.Native.Nat.{ℕ, ◌+◌, ◌-◌, ◌≤◌, ◌<◌}
 use native.Mathlib.Omega.{arith}
-use mathlib.Core.Path.{◌≡◌, refl, sym, ap, ap₂, subst, ◌∙◌}
+use mathlib.Core.Path.{◌≡◌, refl, sym, ap, ap₂, ◌∙◌}
 use mathlib.Core.Bool.{Bool, true, false}
-use mathlib.Core.List.{List, [], ◌∷◌, ◌++◌}
-use mathlib.Core.Option.{Option, none, some}
+use mathlib.Core.List.{List}
 use lib.ListN.{length, get_or-eq_default}
-use lib.Dec.{eqb}
+use lib.Dec.{eqb, ltb}
 use borrow.Author.Tests.{lt-ltb, le-ltb, eq-eqb, ne_eqb}
 use Rattle.luck_text.specs.Bytes.{when◌then◌else◌, byte_at, is_digit}
-use Rattle.luck_text.specs.Walk.{stop, goes, walk_from}
-use Rattle.luck_text.proofs.Cases.{if_true, if_false, first_false, second_false}
+use Rattle.luck_text.specs.Walk.{Turn, stop, goes, walk_from}
+use Rattle.luck_text.proofs.Cases.{by_test, if_true, if_false, first_false, second_false}
 use Rattle.luck_text.proofs.Bytes.{within, below, above}
 use Rattle.luck_text.proofs.Walk.{walk_end, walk_stop, walk_goes}
-use Rattle.luck_answer.specs.Answer.{Answer, accepted, refused, refused_with, refusal}
+use Rattle.luck_answer.specs.Answer.{Answer, accepted, refused, refused_with}
 use Rattle.luck_pattern.specs.Elements.{first_reversed}
-use Rattle.luck_pattern.specs.Captures.{close_latest, is_closed, all_closed}
-use Rattle.luck_pattern.specs.Reading.{Head, at_open, at_close, at_percent, at_set, at_other, head_of, Escape, esc_digit, esc_balance, esc_frontier, esc_other, esc_end, escape_of, escape_at, member_at, SetEnd, closes_at, cut_at, unclosed, member_by, member_turn, members_end, first_member, set_end}
-use Rattle.luck_pattern.specs.Pattern.{is_empty_set, Scanned, past, fault, closed_as, reversed_of, set_as, set_read, escape_as, escape_read, onward, after_close, head_turn, pattern_turn, pattern_end, pattern_walk}
-use Rattle.luck_pattern.specs.Inner.{read_of, ScanWithin}
-use Rattle.luck_answer.specs.declared.format_pattern.PatternError.{PatternError}
-use Rattle.luck_pattern.specs.declared.pattern.Scan.{Scan}
-use Rattle.luck_pattern.specs.declared.pattern.Scan.TheVariants.{Past, Fault}
+use Rattle.luck_pattern.specs.Captures.{max_captures, close_latest, is_closed, all_closed}
+use Rattle.luck_pattern.specs.Reading.{
+  Head,
+  at_open,
+  at_close,
+  at_percent,
+  at_set,
+  at_other,
+  head_of,
+  Escape,
+  esc_digit,
+  esc_balance,
+  esc_frontier,
+  esc_other,
+  esc_end,
+  escape_of,
+  escape_at,
+  member_at,
+  SetEnd,
+  closes_at,
+  cut_at,
+  unclosed,
+  member_by,
+  member_turn,
+  members_end,
+  first_member,
+  set_end,
+}
+use Rattle.luck_pattern.specs.Pattern.{
+  is_empty_set,
+  Scanned,
+  past,
+  fault,
+  closed_as,
+  reversed_of,
+  set_as,
+  set_read,
+  escape_as,
+  escape_read,
+  onward,
+  after_close,
+  head_turn,
+  pattern_turn,
+  pattern_end,
+  pattern_walk,
+}
+use Rattle.luck_pattern.specs.Inner.{open_one}
+use Rattle.luck_pattern.proofs.Elements.{element_plain, element_escaped, elements_end}
 
 -- ---- A member
 
@@ -48,6 +89,21 @@ module _ (text : List ℕ) (at : ℕ) (first : Bool) where
   plain p q = rw (ne_eqb (byte_at text at) 93 p, ne_eqb (byte_at text at) 37 q)
 
 -- ---- A set
+
+-- the first member, after `[` or `[^`
+module _ (text : List ℕ) (p : ℕ) where
+  pub first_behind_caret : byte_at text (p + 1) ≡ 94 → first_member text p ≡ p + 1 + 1
+  unfolding first_member when◌then◌else◌
+  first_behind_caret e = rw (eq-eqb (byte_at text (p + 1)) 94 e) (omega arith)
+
+  pub first_behind_bracket : (byte_at text (p + 1) ≡ 94 → ⊥) → first_member text p ≡ p + 1
+  unfolding first_member when◌then◌else◌
+  first_behind_bracket h = rw (ne_eqb (byte_at text (p + 1)) 94 h)
+
+  pub first_past : length text ≤ p + 1 → first_member text p ≡ p + 1
+  first_past h = first_behind_bracket (λ e. let z : byte_at text (p + 1) ≡ 0 = get_or-eq_default text 0 h in omega arith)
+
+pub ruleset firsts = (first_behind_caret, first_behind_bracket, first_past)
 
 -- the members from a place on
 abbrev pub members : List ℕ → ℕ → Bool → SetEnd
@@ -85,7 +141,7 @@ module _ (text : List ℕ) (start m : ℕ) (is : m ≡ first_member text start) 
       set_open ranges text start true empty (sym none_left ∙ sym one ∙ set_begins)
 
 -- without the test none is looked for; with it, from the first member on
-pub untested : (ranges : Bool) → ranges ≡ false → (text : List ℕ) (start at : ℕ) → reversed_of ranges text start at ≡ none
+pub untested : (ranges : Bool) → ranges ≡ false → (text : List ℕ) (start at : ℕ) → reversed_of ranges text start at ≡ None
 unfolding reversed_of
 untested ranges r text start at = if_false _ _ _ r
 
@@ -94,7 +150,7 @@ unfolding reversed_of
 tested ranges r text start at m is = if_true _ _ _ r ∙ ap (first_reversed text at) (sym is)
 
 -- where there is none, it does not matter whether it is looked for
-pub none_there : (ranges : Bool) (text : List ℕ) (start at m : ℕ) → m ≡ first_member text start → first_reversed text at m ≡ none → reversed_of ranges text start at ≡ none
+pub none_there : (ranges : Bool) (text : List ℕ) (start at m : ℕ) → m ≡ first_member text start → first_reversed text at m ≡ None → reversed_of ranges text start at ≡ None
 none_there true text start at m is e = tested true refl text start at m is ∙ e
 none_there false text start at m is e = untested false refl text start at
 
@@ -119,9 +175,9 @@ module _ (text : List ℕ) (start m at : ℕ) (whole : members text at (eqb at m
     unfolding set_as
     closes ranges b h o e = ap (closed_as at) (sym e) ∙ ends ranges (closes_at at) inside (closing text at (eqb at m) b (ne_eqb at m (λ q. omega arith)))
 
-    pub set_closes : (ranges : Bool) → byte_at text at ≡ 93 → m < at → reversed_of ranges text start at ≡ none → past (at + 1) ≡ set_read ranges text start
+    pub set_closes : (ranges : Bool) → byte_at text at ≡ 93 → m < at → reversed_of ranges text start at ≡ None → past (at + 1) ≡ set_read ranges text start
     unfolding closed_as
-    set_closes ranges b h e = closes ranges b h none e
+    set_closes ranges b h e = closes ranges b h None e
 
     pub set_cut : (ranges : Bool) → byte_at text at ≡ 37 → length text - at ≡ 1 → fault (refused 1 at) ≡ set_read ranges text start
     unfolding set_as
@@ -136,6 +192,9 @@ module _ (text : List ℕ) (start m at : ℕ) (whole : members text at (eqb at m
 
       pub set_plain : (byte_at text at ≡ 93 → ⊥) → (byte_at text at ≡ 37 → ⊥) → members text (at + 1) (eqb (at + 1) m) ≡ set_end text start
       set_plain p q = passes 1 (omega arith) (omega arith) behind (plain text at (eqb at m) p q)
+
+-- for a function that reads a set
+pub ruleset members_read = (set_begins, no_bracket, no_end, set_empty, set_unclosed, closes, set_closes, set_cut, set_first, set_escaped, set_plain, untested, tested, none_there, element_plain, element_escaped, elements_end)
 
 -- ---- An escape
 
@@ -210,10 +269,8 @@ module _ (ranges : Bool) (text : List ℕ) (p : ℕ) (captures : List Bool) wher
     unfolding escape_as is_digit
     escape_above d f g = by_byte esc_other (of_other (byte_at text (p + 1)) (above 48 57 (byte_at text (p + 1)) d) f g)
 
--- a place after a later start is after an earlier one
-pub within_from : (r : Scan) (p q len : ℕ) → p ≤ q → ScanWithin r q len → ScanWithin r p len
-within_from (Past k) p q len h w = (omega arith, w.1)
-within_from (Fault e) p q len h w = tt
+-- for a function that reads an escape
+pub ruleset escapes = (escape_end, escape_closed, escape_open, escape_balance, escape_balance_cut, escape_frontier, escape_no_set, escape_no_byte, escape_below, escape_above)
 
 -- ---- An item
 
@@ -237,6 +294,15 @@ module _ (b : ℕ) where
   of_plain : (b ≡ 37 → ⊥) → (b ≡ 91 → ⊥) → (b ≡ 40 → ⊥) → (b ≡ 41 → ⊥) → head_of b ≡ at_other
   unfolding head_of
   of_plain p q r s = if_false _ _ _ (ne_eqb b 40 r) ∙ if_false _ _ _ (ne_eqb b 41 s) ∙ if_false _ _ _ (ne_eqb b 37 p) ∙ if_false _ _ _ (ne_eqb b 91 q)
+
+-- a capture is opened unless there are as many as there may be
+after_open : ℕ → Option (List Bool) → Turn (List Bool) Answer
+after_open p None = stop (refused 12 p)
+after_open p (Some captures) = goes 1 captures
+
+by_count : (ranges : Bool) (text : List ℕ) (p : ℕ) (captures : List Bool) → head_turn ranges text p captures at_open ≡ after_open p (open_one captures)
+unfolding head_turn open_one after_open
+by_count ranges text p captures = by_test (λ o. head_turn ranges text p captures at_open ≡ after_open p o) (ltb (length captures) max_captures) _ _ (λ t. if_true _ _ _ t) (λ t. if_false _ _ _ t)
 
 -- the walk from a place on, after these captures
 abbrev pub items : Bool → List ℕ → ℕ → List Bool → Answer
@@ -268,41 +334,64 @@ module _ (ranges : Bool) (text : List ℕ) (p : ℕ) (captures : List Bool) wher
     unfolding head_turn
     turn_plain e f g h = next captures (item_as at_other (of_plain (byte_at text p) e f g h))
 
-    pub turn_open : byte_at text p ≡ 40 → length captures < 32 → items ranges text (p + 1) (captures ++ (false ∷ [])) ≡ pattern_walk ranges text
-    unfolding head_turn
-    turn_open e h = next (captures ++ (false ∷ [])) (item_as at_open (of_open (byte_at text p) e) ∙ if_true _ _ _ (lt-ltb (length captures) 32 h))
+    opens : byte_at text p ≡ 40 → (o : Option (List Bool)) → o ≡ open_one captures → pattern_turn ranges text p captures ≡ after_open p o
+    opens e o h = item_as at_open (of_open (byte_at text p) e) ∙ by_count ranges text p captures ∙ ap (after_open p) (sym h)
 
-    pub turn_full : byte_at text p ≡ 40 → 32 ≤ length captures → refused 12 p ≡ pattern_walk ranges text
-    unfolding head_turn
-    turn_full e h = stops (refused 12 p) (item_as at_open (of_open (byte_at text p) e) ∙ if_false _ _ _ (le-ltb (length captures) 32 h))
+    pub turn_open : byte_at text p ≡ 40 → (after : List Bool) → Some after ≡ open_one captures → items ranges text (p + 1) after ≡ pattern_walk ranges text
+    unfolding after_open
+    turn_open e after h = next after (opens e (Some after) h)
 
-    pub turn_close : byte_at text p ≡ 41 → (after : List Bool) → some after ≡ close_latest captures → items ranges text (p + 1) after ≡ pattern_walk ranges text
+    pub turn_full : byte_at text p ≡ 40 → None ≡ open_one captures → refused 12 p ≡ pattern_walk ranges text
+    unfolding after_open
+    turn_full e h = stops (refused 12 p) (opens e None h)
+
+    pub turn_close : byte_at text p ≡ 41 → (after : List Bool) → Some after ≡ close_latest captures → items ranges text (p + 1) after ≡ pattern_walk ranges text
     unfolding head_turn after_close
     turn_close e after h = next after (item_as at_close (of_close (byte_at text p) e) ∙ ap (after_close p) (sym h))
 
-    pub turn_unmatched : byte_at text p ≡ 41 → none ≡ close_latest captures → refused 11 p ≡ pattern_walk ranges text
+    pub turn_unmatched : byte_at text p ≡ 41 → None ≡ close_latest captures → refused 11 p ≡ pattern_walk ranges text
     unfolding head_turn after_close
     turn_unmatched e h = stops (refused 11 p) (item_as at_close (of_close (byte_at text p) e) ∙ ap (after_close p) (sym h))
 
-    -- what a scan found takes the walk on to the place after it, or ends it
-    module _ (r : Scan) (read : Scanned) (told : read_of r ≡ read) (here : pattern_turn ranges text p captures ≡ onward p captures read) where
-      pub turn_past : (q : ℕ) → r ≡ Past q → ScanWithin r p (length text) → items ranges text q captures ≡ pattern_walk ranges text
-      unfolding onward
-      turn_past q e w =
-          let b : (p < q) × (q ≤ length text) = subst (λ (x : Scan). ScanWithin x p (length text)) e w in
-          let k : p + (q - p) ≡ q = omega arith in
-          let g : pattern_turn ranges text p captures ≡ goes (q - p) captures = here ∙ ap (onward p captures) (sym told ∙ ap read_of e) in
-          ap (λ (x : ℕ). items ranges text x captures) (sym k)
-          ∙ sym (walk_goes (pattern_turn ranges text) (pattern_end text) (length text) p captures (q - p) captures (omega arith) (omega arith) g) ∙ whole
+    -- what was read takes the walk on to the place after it, or ends it
+    onwards : (read : Scanned) → pattern_turn ranges text p captures ≡ onward p captures read → (q : ℕ) → past q ≡ read → p < q → q ≤ length text
+        → items ranges text q captures ≡ pattern_walk ranges text
+    unfolding onward
+    onwards read here q e b i =
+        let k : p + (q - p) ≡ q = omega arith in
+        ap (λ (x : ℕ). items ranges text x captures) (sym k)
+        ∙ sym (walk_goes (pattern_turn ranges text) (pattern_end text) (length text) p captures (q - p) captures (omega arith) (omega arith) (here ∙ ap (onward p captures) (sym e))) ∙ whole
 
-      pub turn_fault : (e : PatternError) → r ≡ Fault e → refusal e ≡ pattern_walk ranges text
-      unfolding onward
-      turn_fault e h = stops (refusal e) (here ∙ ap (onward p captures) (sym told ∙ ap read_of h))
+    faults : (read : Scanned) → pattern_turn ranges text p captures ≡ onward p captures read → (answer : Answer) → fault answer ≡ read → answer ≡ pattern_walk ranges text
+    unfolding onward
+    faults read here answer e = stops answer (here ∙ ap (onward p captures) (sym e))
 
--- at the end: b says whether all captures are closed, and n is their number
-pub turn_end : (ranges : Bool) (text : List ℕ) (p : ℕ) (captures : List Bool) (b : Bool) (n : ℕ) → b ≡ all_closed captures → length captures ≡ n → length text ≤ p
-    → items ranges text p captures ≡ pattern_walk ranges text → (when b then accepted n else refused 11 (length text)) ≡ pattern_walk ranges text
-unfolding pattern_end
-turn_end ranges text p captures b n e f h whole =
-    ap₂ (λ (x : Bool) (y : ℕ). when x then accepted y else refused 11 (length text)) e (sym f)
-    ∙ sym (walk_end (pattern_turn ranges text) (pattern_end text) (length text) p captures h) ∙ whole
+    pub past_escape : byte_at text p ≡ 37 → (q : ℕ) → past q ≡ escape_read ranges text p captures → p < q → q ≤ length text
+        → items ranges text q captures ≡ pattern_walk ranges text
+    past_escape e = onwards (escape_read ranges text p captures) (item_escape e)
+
+    pub fault_escape : byte_at text p ≡ 37 → (answer : Answer) → fault answer ≡ escape_read ranges text p captures → answer ≡ pattern_walk ranges text
+    fault_escape e = faults (escape_read ranges text p captures) (item_escape e)
+
+    pub past_set : byte_at text p ≡ 91 → (q : ℕ) → past q ≡ set_read ranges text p → p < q → q ≤ length text
+        → items ranges text q captures ≡ pattern_walk ranges text
+    past_set e = onwards (set_read ranges text p) (item_set e)
+
+    pub fault_set : byte_at text p ≡ 91 → (answer : Answer) → fault answer ≡ set_read ranges text p → answer ≡ pattern_walk ranges text
+    fault_set e = faults (set_read ranges text p) (item_set e)
+
+-- at the end, where all captures are closed, and where one is open
+module _ (ranges : Bool) (text : List ℕ) (p : ℕ) (captures : List Bool) (past_all : length text ≤ p) (whole : items ranges text p captures ≡ pattern_walk ranges text) where
+  ends_with : (answer : Answer) → pattern_end text p captures ≡ answer → answer ≡ pattern_walk ranges text
+  ends_with answer e = sym e ∙ sym (walk_end (pattern_turn ranges text) (pattern_end text) (length text) p captures past_all) ∙ whole
+
+  pub all_read : all_closed captures ≡ true → accepted (length captures) ≡ pattern_walk ranges text
+  unfolding pattern_end
+  all_read e = ends_with _ (if_true _ _ _ e)
+
+  pub one_open : all_closed captures ≡ false → refused 11 (length text) ≡ pattern_walk ranges text
+  unfolding pattern_end
+  one_open e = ends_with _ (if_false _ _ _ e)
+
+-- for a function that walks over the items
+pub ruleset turns = (turn_plain, turn_open, turn_full, turn_close, turn_unmatched, past_escape, fault_escape, past_set, fault_set, all_read, one_open)

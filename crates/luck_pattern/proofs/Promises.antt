@@ -1,12 +1,12 @@
 -- What is promised of the check of patterns with its test of ranges (F-10 of document 02). `check_pattern` has the test; `check_pattern_as false` is the
 -- check without it, which is document 01's. The words are those of specs/Ranges.antt.
 -- Assumes nothing.
+use Rattle.std.specs.Prelude.{None}
 use Prim.Native.Nat.{ℕ}
 use mathlib.Core.Path.{◌≡◌}
 use mathlib.Core.Logic.{◌⊎◌, ◌↔◌}
 use mathlib.Core.Bool.{true, false}
 use mathlib.Core.List.{List}
-use mathlib.Core.Option.{none}
 use Rattle.luck_token.specs.Version.{is_version}
 use Rattle.luck_utf8.specs.Utf8.{ill_formed}
 use Rattle.luck_answer.specs.Answer.{accepted, refused}
@@ -43,16 +43,16 @@ module _ (version : ℕ) (pat : List ℕ) where
   -- it is 39 at k exactly where the version and the text are fine, and the first set that has a reversed range, before which nothing is at fault, has
   -- its first one at k
   pub reversed_exactly : (k : ℕ)
-      → (check_pattern version pat ≡ refused 39 k) ↔ ((is_version version ≡ true) × (ill_formed pat ≡ none) × FirstReversedSet pat k)
+      → (check_pattern version pat ≡ refused 39 k) ↔ ((is_version version ≡ true) × (ill_formed pat ≡ None) × FirstReversedSet pat k)
   unfolding check_pattern
   reversed_exactly = exactly.check_39 version pat
 
   -- it is not 39 exactly where the version or the text is refused, or no set that the check without the test comes to has a reversed range
-  pub not_39_exactly : ((check_pattern version pat).number ≡ 39 → ⊥) ↔ (is_version version ≡ true → ill_formed pat ≡ none → NoneReversed pat)
+  pub not_39_exactly : ((check_pattern version pat).number ≡ 39 → ⊥) ↔ (is_version version ≡ true → ill_formed pat ≡ None → NoneReversed pat)
   unfolding check_pattern
   not_39_exactly = exactly.check_not_39 version pat
 
 -- the ranges are those of the matching, at each place: the check finds no reversed range in the item there exactly where the set that the matching reads
 -- there has none
-pub as_matching_reads : (pat : List ℕ) (p : ℕ) → (item_reversed pat p ≡ none) ↔ UpwardsItem (item_of (read_item pat p))
+pub as_matching_reads : (pat : List ℕ) (p : ℕ) → (item_reversed pat p ≡ None) ↔ UpwardsItem (item_of (read_item pat p))
 as_matching_reads pat p = items.item_alike pat p

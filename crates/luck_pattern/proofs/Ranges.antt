@@ -2,13 +2,13 @@
 -- item's first reversed range; so the answers are the same, or 39 at a place inside the text, and what is accepted with
 -- the test is accepted without it, with the same count.
 -- Assumes nothing.
+use Rattle.std.specs.Prelude.{Option, None, Some}
 use Prim.Native.Nat.{ℕ, zero, suc, ◌+◌, ◌-◌}
 use native.Mathlib.Omega.{arith}
 use mathlib.Core.Path.{◌≡◌, refl, sym, ap, ◌∙◌}
 use mathlib.Core.Logic.{◌⊎◌, inl, inr, ⊎_elim}
 use mathlib.Core.Bool.{Bool, true, false}
 use mathlib.Core.List.{List, []}
-use mathlib.Core.Option.{Option, none, some}
 use lib.ListN.{length}
 use lib.Dec.{eqb}
 use Rattle.luck_text.specs.Bytes.{when◌then◌else◌, byte_at}
@@ -28,8 +28,8 @@ use Rattle.luck_pattern.proofs.Elements.{some_reversed}
 
 -- a turn of the check without the test, after the test
 unfoldable pub tested : Option ℕ → Turn (List Bool) Answer → Turn (List Bool) Answer
-tested none turn = turn
-tested (some left) turn = stop (refused 39 left)
+tested None turn = turn
+tested (Some left) turn = stop (refused 39 left)
 
 module _ (pat : List ℕ) where
   -- the set's `[` stands at p, and the item that has it at start
@@ -38,9 +38,9 @@ module _ (pat : List ℕ) where
   unfolding set_as reversed_of reversed_before tested when◌then◌else◌
   set_tested start p captures (closes_at e) = go (first_reversed pat e (first_member pat p))
     where
-      go : (o : Option ℕ) → onward start captures (closed_as e o) ≡ tested o (onward start captures (closed_as e none))
-      go none = refl
-      go (some left) = unfold closed_as onward in refl
+      go : (o : Option ℕ) → onward start captures (closed_as e o) ≡ tested o (onward start captures (closed_as e None))
+      go None = refl
+      go (Some left) = unfold closed_as onward in refl
   set_tested start p captures (cut_at e) = refl
   set_tested start p captures unclosed = refl
 
@@ -55,7 +55,7 @@ module _ (pat : List ℕ) where
       go : (b : Bool)
           → onward p captures (set_as true pat (p + 2) (set_end pat (p + 2))) ≡ tested (reversed_before pat (p + 2) (set_end pat (p + 2))) (onward p captures (set_as false pat (p + 2) (set_end pat (p + 2))))
           → onward p captures (when b then set_as true pat (p + 2) (set_end pat (p + 2)) else fault (record { number = 10; offset = p; first = 102; second = 0; count = 0 }))
-          ≡ tested (reversed_set pat (when b then some (p + 2) else none)) (onward p captures (when b then set_as false pat (p + 2) (set_end pat (p + 2)) else fault (record { number = 10; offset = p; first = 102; second = 0; count = 0 })))
+          ≡ tested (reversed_set pat (when b then Some (p + 2) else None)) (onward p captures (when b then set_as false pat (p + 2) (set_end pat (p + 2)) else fault (record { number = 10; offset = p; first = 102; second = 0; count = 0 })))
       go true same = same
       go false same = refl
   escape_tested p captures esc_other = refl
@@ -77,7 +77,7 @@ module _ (pat : List ℕ) where
 
   -- ---- Where a reversed range stands
 
-  reversed_in_set : (p k : ℕ) (e : SetEnd) → ClosesFrom pat (first_member pat p) e → reversed_before pat p e ≡ some k
+  reversed_in_set : (p k : ℕ) (e : SetEnd) → ClosesFrom pat (first_member pat p) e → reversed_before pat p e ≡ Some k
       → RangeAt pat k
   unfolding reversed_before
   reversed_in_set p k (closes_at e) c f =
@@ -86,12 +86,12 @@ module _ (pat : List ℕ) where
   reversed_in_set p k (cut_at e) c f = let z : ◌≡◌ {A = ℕ} 0 1 = cc in absurd (omega arith)
   reversed_in_set p k unclosed c f = let z : ◌≡◌ {A = ℕ} 0 1 = cc in absurd (omega arith)
 
-  set_reversed : (o : Option ℕ) (k : ℕ) → reversed_set pat o ≡ some k → RangeAt pat k
+  set_reversed : (o : Option ℕ) (k : ℕ) → reversed_set pat o ≡ Some k → RangeAt pat k
   unfolding reversed_set
-  set_reversed none k f = let z : ◌≡◌ {A = ℕ} 0 1 = cc in absurd (omega arith)
-  set_reversed (some p) k f = reversed_in_set p k (set_end pat p) (set_closes pat p) f
+  set_reversed None k f = let z : ◌≡◌ {A = ℕ} 0 1 = cc in absurd (omega arith)
+  set_reversed (Some p) k f = reversed_in_set p k (set_end pat p) (set_closes pat p) f
 
-  pub item_reversed_lem : (p k : ℕ) → item_reversed pat p ≡ some k → RangeAt pat k
+  pub item_reversed_lem : (p k : ℕ) → item_reversed pat p ≡ Some k → RangeAt pat k
   unfolding item_reversed
   item_reversed_lem p k f = set_reversed (item_set pat p) k f
 
@@ -135,8 +135,8 @@ module _ (pat : List ℕ) where
       go : (o : Option ℕ) → item_reversed pat p ≡ o
           → pattern_turn true pat p captures ≡ tested (item_reversed pat p) (pattern_turn false pat p captures)
           → (pattern_turn true pat p captures ≡ pattern_turn false pat p captures) ⊎ ((a : Answer) × (pattern_turn true pat p captures ≡ stop a) × Reversed pat a)
-      go none e f = inl (f ∙ ap (λ o. tested o (pattern_turn false pat p captures)) e)
-      go (some k) e f = inr (refused 39 k, f ∙ ap (λ o. tested o (pattern_turn false pat p captures)) e, (k, item_reversed_lem pat p k e, refl))
+      go None e f = inl (f ∙ ap (λ o. tested o (pattern_turn false pat p captures)) e)
+      go (Some k) e f = inr (refused 39 k, f ∙ ap (λ o. tested o (pattern_turn false pat p captures)) e, (k, item_reversed_lem pat p k e, refl))
 
   pub walk_or_39 : (pattern_walk true pat ≡ pattern_walk false pat) ⊎ Reversed pat (pattern_walk true pat)
   unfolding pattern_walk
@@ -154,8 +154,8 @@ module _ (version : ℕ) (pat : List ℕ) where
       go : (v : Bool) (o : Option ℕ)
           → ((when v then after_utf8 refused o a else refused 25 0) ≡ (when v then after_utf8 refused o b else refused 25 0)) ⊎ Reversed pat (when v then after_utf8 refused o a else refused 25 0)
       go false o = inl refl
-      go true none = inr y
-      go true (some place) = inl refl
+      go true None = inr y
+      go true (Some place) = inl refl
 
   -- with the test the check answers what it answers without, or 39 at a place inside the text
   pub same_or_39 : (check_pattern_as true version pat ≡ check_pattern_as false version pat) ⊎ Reversed pat (check_pattern_as true version pat)

@@ -2,9 +2,8 @@
 -- matching (`elements_of`) and the test of ranges (`first_reversed`, F-10 of document 02) both go by. A range is reversed
 -- where its left byte is greater than its right.
 -- Assumes nothing.
-use Rattle.std.specs.Prelude.{ℕ, zero, suc, ◌+◌, ◌-◌, Bool, false, ◌&&◌, List, [], ◌∷◌, eqb, leb, ltb}
+use Rattle.std.specs.Prelude.{ℕ, zero, suc, ◌+◌, ◌-◌, Bool, false, ◌&&◌, List, [], ◌∷◌, eqb, leb, ltb, Option, None, Some}
 use Prim.Native.Char.{code}
-use Rattle.std.proofs.Math.Option.{Option, none, some}
 use Rattle.luck_text.specs.Bytes.{when◌then◌else◌, byte_at}
 
 -- what matchbracketclass tests a byte for
@@ -63,8 +62,8 @@ is_reversed (plain b) = false
 
 -- the place of the first reversed range, which is that of its left byte
 unfoldable pub reversed_in : List PlacedElement → Option ℕ
-reversed_in [] = none
-reversed_in (x ∷ more) = let later = reversed_in more in when is_reversed x.element then some x.place else later
+reversed_in [] = None
+reversed_in (x ∷ more) = let later = reversed_in more in when is_reversed x.element then Some x.place else later
 
 -- of the elements from place q up to the closing `]` at place e
 unfoldable pub first_reversed : List ℕ → ℕ → ℕ → Option ℕ

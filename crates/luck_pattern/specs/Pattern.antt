@@ -4,9 +4,8 @@
 -- begins an item or ends a set, and the two read the same items. Only the test of ranges, which luck lacks, compares
 -- them.
 -- Assumes nothing.
-use Rattle.std.specs.Prelude.{ℕ, ◌+◌, ◌-◌, Bool, true, false, ◌&&◌, List, [], ◌∷◌, ◌++◌, length, eqb, ltb}
+use Rattle.std.specs.Prelude.{ℕ, ◌+◌, ◌-◌, Bool, true, false, ◌&&◌, List, [], ◌∷◌, ◌++◌, length, eqb, ltb, Option, None, Some}
 use Prim.Native.Char.{code}
-use Rattle.std.proofs.Math.Option.{Option, none, some}
 use Rattle.luck_text.specs.Bytes.{when◌then◌else◌, byte_at}
 use Rattle.luck_text.specs.Walk.{Turn, stop, goes, walk_from}
 use Rattle.luck_answer.specs.Answer.{Answer, accepted, refused, refused_with, check_text}
@@ -49,22 +48,22 @@ onward p captures (past q) = goes (q - p) captures
 onward p captures (fault answer) = stop answer
 
 unfoldable pub after_close : ℕ → Option (List Bool) → Turn (List Bool) Answer
-after_close p none = stop (refused 11 p)
-after_close p (some captures) = goes 1 captures
+after_close p None = stop (refused 11 p)
+after_close p (Some captures) = goes 1 captures
 
 unfoldable pub pattern_end : List ℕ → ℕ → List Bool → Answer
 pattern_end pat p captures = when all_closed captures then accepted (length captures) else refused 11 (length pat)
 
 -- a set that closes at place e is passed over, unless it has a reversed range
 unfoldable pub closed_as : ℕ → Option ℕ → Scanned
-closed_as e none = past (e + 1)
-closed_as e (some left) = fault (refused 39 left)
+closed_as e None = past (e + 1)
+closed_as e (Some left) = fault (refused 39 left)
 
 module _ (ranges : Bool) (pat : List ℕ) where
   -- the first reversed range of the set from its `[` at place p to its closing `]` at place e; none where ranges are
   -- not tested
   unfoldable pub reversed_of : ℕ → ℕ → Option ℕ
-  reversed_of p e = when ranges then first_reversed pat e (first_member pat p) else none
+  reversed_of p e = when ranges then first_reversed pat e (first_member pat p) else None
 
   unfoldable pub set_as : ℕ → SetEnd → Scanned
   set_as p (closes_at e) = closed_as e (reversed_of p e)

@@ -2,10 +2,9 @@
 -- the check finds it; whether an item has one, as the matching reads it; the items that the check passes; and the first
 -- reversed range of a pattern.
 -- Assumes nothing.
-use Rattle.std.specs.Prelude.{ℕ, ◌+◌, ◌≤◌, ◌<◌, ◌≡◌, Bool, true, false, length, eqb}
+use Rattle.std.specs.Prelude.{ℕ, ◌+◌, ◌≤◌, ◌<◌, ◌≡◌, Bool, true, false, length, eqb, Option, None, Some}
 use Prim.Native.Char.{code}
 use mathlib.Core.List.{List, [], ◌∷◌, Memᴰ}
-use Rattle.std.proofs.Math.Option.{Option, none, some}
 use Rattle.luck_text.specs.Bytes.{when◌then◌else◌, byte_at}
 use Rattle.luck_text.specs.Walk.{goes}
 use Rattle.luck_pattern.specs.Reading.{
@@ -56,18 +55,18 @@ use Rattle.luck_pattern.specs.Items.{
 -- ---- The reversed range of an item
 
 unfoldable pub escape_set : List ℕ → ℕ → Escape → Option ℕ
-escape_set pat p esc_end = none
-escape_set pat p (esc_digit d) = none
-escape_set pat p esc_balance = none
-escape_set pat p esc_frontier = when eqb (byte_at pat (p + 2)) (code "[") then some (p + 2) else none
-escape_set pat p esc_other = none
+escape_set pat p esc_end = None
+escape_set pat p (esc_digit d) = None
+escape_set pat p esc_balance = None
+escape_set pat p esc_frontier = when eqb (byte_at pat (p + 2)) (code "[") then Some (p + 2) else None
+escape_set pat p esc_other = None
 
 unfoldable pub head_set : List ℕ → ℕ → Head → Option ℕ
-head_set pat p at_open = none
-head_set pat p at_close = none
+head_set pat p at_open = None
+head_set pat p at_close = None
 head_set pat p at_percent = escape_set pat p (escape_at pat (p + 1))
-head_set pat p at_set = some p
-head_set pat p at_other = none
+head_set pat p at_set = Some p
+head_set pat p at_other = None
 
 -- where the `[` of the item at place p stands, if it is a set or a frontier
 unfoldable pub item_set : List ℕ → ℕ → Option ℕ
@@ -75,12 +74,12 @@ item_set pat p = head_set pat p (head_of (byte_at pat p))
 
 unfoldable pub reversed_before : List ℕ → ℕ → SetEnd → Option ℕ
 reversed_before pat p (closes_at e) = first_reversed pat e (first_member pat p)
-reversed_before pat p (cut_at e) = none
-reversed_before pat p unclosed = none
+reversed_before pat p (cut_at e) = None
+reversed_before pat p unclosed = None
 
 unfoldable pub reversed_set : List ℕ → Option ℕ → Option ℕ
-reversed_set pat none = none
-reversed_set pat (some p) = reversed_before pat p (set_end pat p)
+reversed_set pat None = None
+reversed_set pat (Some p) = reversed_before pat p (set_end pat p)
 
 -- the first reversed range of the item at place p, if it is a set or a frontier whose set closes
 unfoldable pub item_reversed : List ℕ → ℕ → Option ℕ
@@ -145,9 +144,9 @@ pub record FirstReversedSet (pat : List ℕ) (k : ℕ) : Type 0 where
   pub captures : List Bool
   pub passed : Passed true pat place captures
   pub in_text : place < length pat
-  pub found : item_reversed pat place ≡ some k
+  pub found : item_reversed pat place ≡ Some k
 
 -- no item that the check comes to without the test has a reversed range
 abbrev pub NoneReversed : List ℕ → Type 0
 NoneReversed pat =
-    (p : ℕ) (captures : List Bool) → Passed false pat p captures → p < length pat → item_reversed pat p ≡ none
+    (p : ℕ) (captures : List Bool) → Passed false pat p captures → p < length pat → item_reversed pat p ≡ None

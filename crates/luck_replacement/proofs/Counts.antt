@@ -1,13 +1,13 @@
 -- The answer for a range of counts: what each of the three says of the single counts, and how it is found by the
 -- lowest, the highest and the largest digit.
 -- Assumes nothing.
+use Rattle.std.specs.Prelude.{Option, None, Some}
 use Prim.Native.Nat.{ℕ, zero, suc, ◌+◌, ◌-◌, ◌≤◌, ◌<◌, max}
 use native.Mathlib.Omega.{arith}
 use mathlib.Core.Path.{◌≡◌, refl, sym, ap, subst, ◌∙◌}
 use mathlib.Core.Logic.{◌⊎◌, inl, inr, ⊎_elim, ◌↔◌}
 use mathlib.Core.Bool.{Bool, true, false, not, true≢false}
 use mathlib.Core.List.{List, [], ◌∷◌}
-use mathlib.Core.Option.{Option, none, some}
 use lib.Dec.{leb, ltb}
 use borrow.Author.Tests.{not-true, leb-true, le-leb, lt-ltb, le-ltb}
 use Rattle.luck_text.specs.Bytes.{when◌then◌else◌}
@@ -83,13 +83,13 @@ module _ (check : ℕ → Answer) where
     pub first : (c : ℕ) → low ≤ c → c < m → Refused (check c)
 
   abbrev Found : ℕ → ℕ → Option ℕ → Type 0
-  Found n low none = (c : ℕ) → low ≤ c → c < low + n → Refused (check c)
-  Found n low (some m) = Smallest n low m
+  Found n low None = (c : ℕ) → low ≤ c → c < low + n → Refused (check c)
+  Found n low (Some m) = Smallest n low m
 
   one_more : (n low : ℕ) → Refused (check low) → (o : Option ℕ) → Found n (low + 1) o → Found (suc n) low o
-  one_more n low r none f = λ c h k.
+  one_more n low r None f = λ c h k.
       ⊎_elim (λ above. f c (omega arith) (omega arith)) (λ same. let q : low ≡ c = omega arith in subst (λ (x : ℕ). Refused (check x)) q r) (order low c)
-  one_more n low r (some m) f =
+  one_more n low r (Some m) f =
       record {
         from = omega (arith, f.from);
         below = omega (arith, f.below);
@@ -118,8 +118,8 @@ module _ (check : ℕ → Answer) where
     )
       where
         never : (o : Option ℕ) → refused_or_depends check low o ≡ for_every → ⊥
-        never none e = unfold refused_or_depends in (let z : ◌≡◌ {A = ℕ} 0 1 = cc in omega arith)
-        never (some m) e = unfold refused_or_depends in (let z : ◌≡◌ {A = ℕ} 0 1 = cc in omega arith)
+        never None e = unfold refused_or_depends in (let z : ◌≡◌ {A = ℕ} 0 1 = cc in omega arith)
+        never (Some m) e = unfold refused_or_depends in (let z : ◌≡◌ {A = ℕ} 0 1 = cc in omega arith)
 
     module _ (upwards : low ≤ high) where
       not_all : Refused (check low) → accepted_for_all check (high + 1 - low) low ≡ false
@@ -144,16 +144,16 @@ module _ (check : ℕ → Answer) where
         where
           there : (o : Option ℕ) → Found (high + 1 - low) low o → refused_or_depends check low o ≡ for_none a
               → ((c : ℕ) → low ≤ c → c ≤ high → Refused (check c)) × (a ≡ check low)
-          there none f e = (λ c h k. f c h (omega arith), none_same e)
+          there None f e = (λ c h k. f c h (omega arith), none_same e)
             where
-              none_same : refused_or_depends check low none ≡ for_none a → a ≡ check low
+              none_same : refused_or_depends check low None ≡ for_none a → a ≡ check low
               none_same e = unfold refused_or_depends in cc
-          there (some m) f e = unfold refused_or_depends in (let z : ◌≡◌ {A = ℕ} 0 1 = cc in absurd (omega arith))
+          there (Some m) f e = unfold refused_or_depends in (let z : ◌≡◌ {A = ℕ} 0 1 = cc in absurd (omega arith))
 
           back : ((c : ℕ) → low ≤ c → c ≤ high → Refused (check c)) → a ≡ check low → (o : Option ℕ)
               → Found (high + 1 - low) low o → refused_or_depends check low o ≡ for_none a
-          back r same none f = unfold refused_or_depends in ap for_none (sym same)
-          back r same (some m) f = never_both (check m) f.is (r m f.from (omega (arith, f.below)))
+          back r same None f = unfold refused_or_depends in ap for_none (sym same)
+          back r same (Some m) f = never_both (check m) f.is (r m f.from (omega (arith, f.below)))
 
       -- where acceptance grows with the count: dependent on it, with the smallest count for which it is accepted
       module _ (grows : (c d : ℕ) → c ≤ d → Accepted (check c) → Accepted (check d)) where
@@ -184,10 +184,10 @@ module _ (check : ℕ → Answer) where
 
             there : accepted_for_all check (high + 1 - low) low ≡ false → (o : Option ℕ) → Found (high + 1 - low) low o
                 → refused_or_depends check low o ≡ depends m → AcceptedFrom check low high m
-            there t none f e = unfold refused_or_depends in (let z : ◌≡◌ {A = ℕ} 0 1 = cc in absurd (omega arith))
-            there t (some x) f e = split t (subst (Smallest (high + 1 - low) low) (same_count e) f)
+            there t None f e = unfold refused_or_depends in (let z : ◌≡◌ {A = ℕ} 0 1 = cc in absurd (omega arith))
+            there t (Some x) f e = split t (subst (Smallest (high + 1 - low) low) (same_count e) f)
               where
-                same_count : refused_or_depends check low (some x) ≡ depends m → x ≡ m
+                same_count : refused_or_depends check low (Some x) ≡ depends m → x ≡ m
                 same_count e = unfold refused_or_depends in cc
 
                 split : accepted_for_all check (high + 1 - low) low ≡ false → Smallest (high + 1 - low) low m
@@ -200,8 +200,8 @@ module _ (check : ℕ → Answer) where
 
             back : AcceptedFrom check low high m → (o : Option ℕ) → Found (high + 1 - low) low o
                 → refused_or_depends check low o ≡ depends m
-            back y none f = never_both (check m) ((y.2 m (omega (arith, y.0)) y.1).1 (omega arith)) (f m (omega (arith, y.0)) (omega (arith, y.1)))
-            back y (some x) f = unfold refused_or_depends in ap depends same
+            back y None f = never_both (check m) ((y.2 m (omega (arith, y.0)) y.1).1 (omega arith)) (f m (omega (arith, y.0)) (omega (arith, y.1)))
+            back y (Some x) f = unfold refused_or_depends in ap depends same
               where
                 same : x ≡ m
                 same =
@@ -269,19 +269,19 @@ constant check same low high m =
   where
     go : accepted_for_all check (high + 1 - low) low ≡ false → (o : Option ℕ) → Found check (high + 1 - low) low o
         → refused_or_depends check low o ≡ depends m → ⊥
-    go t none f e = unfold refused_or_depends in (let z : ◌≡◌ {A = ℕ} 0 1 = cc in omega arith)
-    go t (some x) f e = true≢false (sym (accepted_all check (high + 1 - low) low (λ c h k. ap is_accepted (same c x) ∙ f.is)) ∙ t)
+    go t None f e = unfold refused_or_depends in (let z : ◌≡◌ {A = ℕ} 0 1 = cc in omega arith)
+    go t (Some x) f e = true≢false (sym (accepted_all check (high + 1 - low) low (λ c h k. ap is_accepted (same c x) ∙ f.is)) ∙ t)
 
 -- ---- The walk over the pieces
 
 -- accepted for a known count: accepted where it is not known, and no digit is above the count, or 1
-down : (strict : Bool) (c : ℕ) (ps : List Piece) (p : ℕ) → Accepted (pieces_walk strict (some c) ps p)
-    → Accepted (pieces_walk strict none ps p) × (largest_digit ps ≤ max c 1)
+down : (strict : Bool) (c : ℕ) (ps : List Piece) (p : ℕ) → Accepted (pieces_walk strict (Some c) ps p)
+    → Accepted (pieces_walk strict None ps p) × (largest_digit ps ≤ max c 1)
 unfolding pieces_walk allows_digit largest_digit is_accepted when◌then◌else◌
 down strict c [] p a = (refl, omega arith)
 down strict c (literal b ∷ ps) p a = down strict c ps (p + 1) a
 down strict c (digit d ∷ ps) p a =
-    by_test (λ (x : Answer). Accepted x → Accepted (pieces_walk strict none ps (p + 2)) × (max d (largest_digit ps) ≤ max c 1)) (leb d (max c 1)) _ _
+    by_test (λ (x : Answer). Accepted x → Accepted (pieces_walk strict None ps (p + 2)) × (max d (largest_digit ps) ≤ max c 1)) (leb d (max c 1)) _ _
     (λ t b. let y = down strict c ps (p + 2) b in (y.0, omega (arith, leb-true d (max c 1) t, y.1))) (λ t b. absurd (true≢false (sym b))) a
 down strict c (percent ∷ ps) p a = down strict c ps (p + 2) a
 down true c (other b ∷ ps) p a = absurd (true≢false (sym a))
@@ -289,8 +289,8 @@ down false c (other b ∷ ps) p a = down false c ps (p + 2) a
 down true c (lone ∷ ps) p a = absurd (true≢false (sym a))
 down false c (lone ∷ ps) p a = down false c ps (p + 1) a
 
-up : (strict : Bool) (c : ℕ) (ps : List Piece) (p : ℕ) → Accepted (pieces_walk strict none ps p)
-    → largest_digit ps ≤ max c 1 → Accepted (pieces_walk strict (some c) ps p)
+up : (strict : Bool) (c : ℕ) (ps : List Piece) (p : ℕ) → Accepted (pieces_walk strict None ps p)
+    → largest_digit ps ≤ max c 1 → Accepted (pieces_walk strict (Some c) ps p)
 unfolding pieces_walk allows_digit largest_digit is_accepted when◌then◌else◌
 up strict c [] p a h = refl
 up strict c (literal b ∷ ps) p a h = up strict c ps (p + 1) a h
@@ -303,7 +303,7 @@ up false c (lone ∷ ps) p a h = up false c ps (p + 1) a h
 
 -- a walk goes by the largest digit
 pub walk_by_largest : (strict : Bool) (ps : List Piece) (p : ℕ)
-    → ByLargest (λ c. pieces_walk strict (some c) ps p) (largest_digit ps)
+    → ByLargest (λ c. pieces_walk strict (Some c) ps p) (largest_digit ps)
 walk_by_largest strict ps p one c t = (λ a. (down strict c ps p a).1, λ h. up strict c ps p (down strict one ps p t).0 h)
 
 -- what a walk answers: accepted with count 0, or one of its refusals
@@ -330,8 +330,8 @@ module _ (version : ℕ) (text : List ℕ) where
     where
       go : (v : Bool) (o : Option ℕ) → Accepted (when v then after_utf8 refused o a else refused 25 0)
           → Accepted (when v then after_utf8 refused o b else refused 25 0)
-      go true none t = f t
-      go true (some place) t = t
+      go true None t = f t
+      go true (Some place) t = t
       go false o t = t
 
   text_walk : (a : Answer) → Accepted (check_text version text a) → Accepted a × (check_text version text a ≡ a)
@@ -340,12 +340,12 @@ module _ (version : ℕ) (text : List ℕ) where
     where
       go : (v : Bool) (o : Option ℕ) → Accepted (when v then after_utf8 refused o a else refused 25 0)
           → Accepted a × ((when v then after_utf8 refused o a else refused 25 0) ≡ a)
-      go true none t = (t, refl)
-      go true (some place) t = absurd (true≢false (sym t))
+      go true None t = (t, refl)
+      go true (Some place) t = absurd (true≢false (sym t))
       go false o t = absurd (true≢false (sym t))
 
   abbrev pub check : ℕ → Answer
-  check c = check_replacement version (some c) text
+  check c = check_replacement version (Some c) text
 
   abbrev largest : ℕ
   largest = largest_digit (pieces text)
@@ -357,7 +357,7 @@ module _ (version : ℕ) (text : List ℕ) where
   pub accepted_is : (c : ℕ) → Accepted (check c) ↔ (check c ≡ accepted 0)
   unfolding check_replacement is_accepted
   accepted_is c = (
-    λ t. let y = text_walk (pieces_walk strict (some c) (pieces text) 0) t in y.1 ∙ (walked strict (some c) (pieces text) 0).0 y.0,
+    λ t. let y = text_walk (pieces_walk strict (Some c) (pieces text) 0) t in y.1 ∙ (walked strict (Some c) (pieces text) 0).0 y.0,
     λ e. ap is_accepted e,
   )
 
@@ -366,7 +366,7 @@ module _ (version : ℕ) (text : List ℕ) where
   unfolding check_replacement
   by_largest one c t = (
     λ a. (down strict c (pieces text) 0 (text_walk _ a).0).1,
-    λ h. text_up (pieces_walk strict (some one) (pieces text) 0) _ (λ a. up strict c (pieces text) 0 (down strict one (pieces text) 0 a).0 h) t,
+    λ h. text_up (pieces_walk strict (Some one) (pieces text) 0) _ (λ a. up strict c (pieces text) 0 (down strict one (pieces text) 0 a).0 h) t,
   )
 
   -- acceptance grows with the count
@@ -377,7 +377,7 @@ module _ (version : ℕ) (text : List ℕ) where
   unfolding check_replacement
   unversioned count e = sym (text_unknown_version version text _ e)
 
-  ill_formed_lem : (count : Option ℕ) (place : ℕ) → is_version version ≡ true → ill_formed text ≡ some place
+  ill_formed_lem : (count : Option ℕ) (place : ℕ) → is_version version ≡ true → ill_formed text ≡ Some place
       → check_replacement version count text ≡ refused 23 place
   unfolding check_replacement
   ill_formed_lem count place v e = sym (text_ill_formed version text _ v place (sym e))
@@ -395,7 +395,7 @@ module _ (version : ℕ) (text : List ℕ) where
         by_test (λ (r : Ranged). r ≡ for_range check low high) (not (is_version version)) _ _
         (λ t.
         let e = not-true (is_version version) t in
-        sym ((none_of check low high upwards (refused 25 0)).1 ((λ c h k. ap is_accepted (unversioned (some c) e) ∙ never_zero), sym (unversioned (some low) e))))
+        sym ((none_of check low high upwards (refused 25 0)).1 ((λ c h k. ap is_accepted (unversioned (Some c) e) ∙ never_zero), sym (unversioned (Some low) e))))
         (λ t. if_false (ltb high low) _ _ (le-ltb high low upwards))
       where
         never_zero : is_accepted (refused 25 0) ≡ false
@@ -408,7 +408,7 @@ module _ (version low high : ℕ) (text : List ℕ) where
   ranged = check_ranged version (from_to low high) text
 
   abbrev pub AcceptedAt : ℕ → Type 0
-  AcceptedAt c = check_replacement version (some c) text ≡ accepted 0
+  AcceptedAt c = check_replacement version (Some c) text ≡ accepted 0
 
   abbrev pub InRange : ℕ → Type 0
   InRange c = (low ≤ c) × (c ≤ high)
@@ -423,7 +423,7 @@ module _ (version low high : ℕ) (text : List ℕ) where
 
     -- refused for every one, and the refusal is that of the lowest
     pub refused_for_every : (a : Answer)
-        → (ranged ≡ for_none a) ↔ (((c : ℕ) → InRange c → AcceptedAt c → ⊥) × (a ≡ check_replacement version (some low) text))
+        → (ranged ≡ for_none a) ↔ (((c : ℕ) → InRange c → AcceptedAt c → ⊥) × (a ≡ check_replacement version (Some low) text))
     refused_for_every a = (
       λ e.
           let y = (none_of (check version text) low high upwards a).0 (sym (in_range version text low high upwards) ∙ e) in
@@ -461,7 +461,7 @@ module _ (version low high : ℕ) (text : List ℕ) where
         )
 
     -- one walk for the lowest, one for the highest, and the largest digit
-    pub by_two_walks : ranged ≡ by_ends (check_replacement version (some low) text) (check_replacement version (some high) text) (largest_digit (pieces text))
+    pub by_two_walks : ranged ≡ by_ends (check_replacement version (Some low) text) (check_replacement version (Some high) text) (largest_digit (pieces text))
     by_two_walks = in_range version text low high upwards ∙ ends (check version text) (largest_digit (pieces text)) (by_largest version text) low high upwards
 
     -- the smallest count is the largest digit, and at least 2
@@ -470,18 +470,18 @@ module _ (version low high : ℕ) (text : List ℕ) where
         smallest_largest (check version text) (largest_digit (pieces text)) (by_largest version text) low high upwards m (sym (in_range version text low high upwards) ∙ e)
 
     -- 23 for the text, after 25; and never 35
-    pub not_text : (place : ℕ) → is_version version ≡ true → ill_formed text ≡ some place
+    pub not_text : (place : ℕ) → is_version version ≡ true → ill_formed text ≡ Some place
         → ranged ≡ for_none (refused 23 place)
     not_text place v e =
         (refused_for_every (refused 23 place)).1 (
-          (λ c i ok. let z : ◌≡◌ {A = ℕ} 23 0 = ap (λ (a : Answer). a.number) (sym (ill_formed_lem version text (some c) place v e) ∙ ok) in omega arith),
-          sym (ill_formed_lem version text (some low) place v e),
+          (λ c i ok. let z : ◌≡◌ {A = ℕ} 23 0 = ap (λ (a : Answer). a.number) (sym (ill_formed_lem version text (Some c) place v e) ∙ ok) in omega arith),
+          sym (ill_formed_lem version text (Some low) place v e),
         )
 
     pub never_35 : (offset : ℕ) → ranged ≡ for_none (refused 35 offset) → ⊥
     never_35 offset e =
-        let n : (check_replacement version (some low) text).number ≡ 35 = ap (λ (a : Answer). a.number) (sym ((refused_for_every (refused 35 offset)).0 e).1) in
-        omega (arith, no_35 version text (some low))
+        let n : (check_replacement version (Some low) text).number ≡ 35 = ap (λ (a : Answer). a.number) (sym ((refused_for_every (refused 35 offset)).0 e).1) in
+        omega (arith, no_35 version text (Some low))
 
   -- 35 where the lowest exceeds the highest, before the text is looked at
   pub downwards : is_version version ≡ true → high < low → ranged ≡ for_none (refused 35 0)
@@ -492,16 +492,16 @@ module _ (version low high : ℕ) (text : List ℕ) where
 pub no_version : (version : ℕ) (counts : Counts) (text : List ℕ) → is_version version ≡ false
     → check_ranged version counts text ≡ for_none (refused 25 0)
 unfolding check_ranged alone is_accepted when◌then◌else◌
-no_version version unknown text e = rw (unversioned version text none e)
+no_version version unknown text e = rw (unversioned version text None e)
 no_version version (from_to low high) text e = rw e
 
 -- both ends equal: the check of document 01
 pub one_count : (version count : ℕ) (text : List ℕ)
-    → check_ranged version (from_to count count) text ≡ alone (check_replacement version (some count) text)
+    → check_ranged version (from_to count count) text ≡ alone (check_replacement version (Some count) text)
 one_count version count text = in_range version text count count (omega arith) ∙ single (check version text) count
 
 -- none known: the check of document 01
 pub none_known : (version : ℕ) (text : List ℕ)
-    → check_ranged version unknown text ≡ alone (check_replacement version none text)
+    → check_ranged version unknown text ≡ alone (check_replacement version None text)
 unfolding check_ranged
 none_known version text = refl

@@ -1,24 +1,36 @@
 -- Laws of replacements: a turn of the walk over the pieces, for each kind of piece.
 -- Assumes nothing.
-use Prim.Native.Nat.{ℕ, suc, ◌+◌, ◌-◌, ◌*◌, ◌≤◌, ◌<◌, max}
+use Rattle.std.specs.Prelude.{Option, None, Some}
+use Prim.Native.Nat.{ℕ, suc, ◌+◌, ◌-◌, ◌*◌, ◌≤◌, ◌<◌, max, min}
 use native.Mathlib.Numerals.{add-one}
 use native.Mathlib.Omega.{arith}
 use mathlib.Core.Path.{◌≡◌, refl, sym, ap, ◌∙◌}
 use mathlib.Core.Logic.{⊎_elim}
-use mathlib.Core.Bool.{Bool, true, false, not, true≢false}
+use mathlib.Core.Bool.{Bool, true, false, not}
 use mathlib.Core.List.{List, [], ◌∷◌}
-use mathlib.Core.Option.{Option, some}
 use mir.Val.{bool_byte}
 use lib.ListN.{length, drop, drop_of_length-le}
 use lib.Seq.{drop-cons}
 use lib.Dec.{eqb, leb, ltb}
-use borrow.Author.Tests.{eq-eqb, ne_eqb, not-false, leb-true, lt-ltb, le-ltb, lt-leb, le-leb}
+use borrow.Author.Tests.{eq-eqb, ne_eqb, leb-true, lt-ltb, le-ltb, lt-leb, le-leb}
 use Rattle.luck_text.specs.Bytes.{when◌then◌else◌, byte_at, is_digit}
+use Rattle.luck_text.proofs.Bytes.{within, below, above}
 use Rattle.luck_text.proofs.Cases.{by_test, if_true, if_false, and_right, order}
 use Rattle.luck_text.proofs.Others.{passes_others}
 use Rattle.luck_answer.specs.Answer.{Answer, accepted, refused}
-use Rattle.luck_replacement.specs.Replacement.{Piece, literal, digit, percent, other, lone, escaped, pieces, allows_digit, pieces_walk}
-use Rattle.luck_replacement.specs.Inner.{can_refuse, is_refused, rank}
+use Rattle.luck_replacement.specs.Replacement.{
+  Piece,
+  literal,
+  digit,
+  percent,
+  other,
+  lone,
+  escaped,
+  pieces,
+  allows_digit,
+  pieces_walk,
+}
+use Rattle.luck_replacement.specs.Inner.{is_refused, rank}
 
 -- ---- Reading
 
@@ -54,21 +66,31 @@ module _ (text : List ℕ) (p : ℕ) (h : p < length text) where
 -- ---- One byte behind a `%`
 
 module _ (strict : Bool) (b : ℕ) where
-  pub rank_digit : is_digit b ≡ true → b - 48 ≡ rank strict b
-  unfolding rank
-  rank_digit d = sym (if_true _ _ _ d)
+  pub rank_digit : 48 ≤ b → b < 58 → rank strict b ≡ b - 48
+  unfolding rank is_digit
+  rank_digit l h = if_true _ _ _ (within 48 57 b l (omega arith))
 
-  pub rank_other : is_digit b ≡ false → 10 * bool_byte strict ≡ rank strict b
+  rank_other : is_digit b ≡ false → rank strict b ≡ 10 * bool_byte strict
   unfolding rank
-  rank_other d = ten strict ∙ sym (if_false _ _ _ d)
+  rank_other d = if_false _ _ _ d ∙ ten strict
     where
-      ten : (s : Bool) → 10 * bool_byte s ≡ (when s then 10 else 0)
+      ten : (s : Bool) → (when s then 10 else 0) ≡ 10 * bool_byte s
       ten true = unfold when◌then◌else◌ in refl
       ten false = unfold when◌then◌else◌ in refl
 
+  pub rank_below : b < 48 → rank strict b ≡ 10 * bool_byte strict
+  unfolding is_digit
+  rank_below h = rank_other (below 48 57 b h)
+
+  pub rank_above : 58 ≤ b → rank strict b ≡ 10 * bool_byte strict
+  unfolding is_digit
+  rank_above h = rank_other (above 48 57 b h)
+
+pub ruleset ranks = (rank_digit, rank_below, rank_above)
+
 -- the code's comparison
 module _ (limit : ℕ) (l : 1 ≤ limit) (h : limit ≤ 9) where
-  of_digit : (d : ℕ) → ltb (limit + 0) d ≡ not (allows_digit (some limit) d)
+  of_digit : (d : ℕ) → ltb (limit + 0) d ≡ not (allows_digit (Some limit) d)
   unfolding allows_digit
   of_digit d =
       ⊎_elim
@@ -78,13 +100,13 @@ module _ (limit : ℕ) (l : 1 ≤ limit) (h : limit ≤ 9) where
 
   of_no_percent : (strict : Bool) (b : ℕ) (is_a_digit : Bool)
       → ltb (limit + 0) (when is_a_digit then b - 48 else when strict then 10 else 0)
-      ≡ (when is_a_digit then not (allows_digit (some limit) (b - 48)) else strict)
+      ≡ (when is_a_digit then not (allows_digit (Some limit) (b - 48)) else strict)
   unfolding when◌then◌else◌
   of_no_percent strict b true = of_digit (b - 48)
   of_no_percent true b false = lt-ltb (limit + 0) 10 (omega arith)
   of_no_percent false b false = le-ltb (limit + 0) 0 (omega arith)
 
-  pub compared : (strict : Bool) (b : ℕ) → ltb (limit + 16 * bool_byte (eqb b 37)) (rank strict b) ≡ is_refused strict (some limit) b
+  pub compared : (strict : Bool) (b : ℕ) → ltb (limit + 16 * bool_byte (eqb b 37)) (rank strict b) ≡ is_refused strict (Some limit) b
   unfolding rank is_digit is_refused when◌then◌else◌
   compared strict b = go (eqb b 37)
     where
@@ -96,7 +118,7 @@ module _ (limit : ℕ) (l : 1 ≤ limit) (h : limit ≤ 9) where
 
       go : (is_percent : Bool)
           → ltb (limit + 16 * bool_byte is_percent) (rank strict b)
-          ≡ (when is_percent then false else when is_digit b then not (allows_digit (some limit) (b - 48)) else strict)
+          ≡ (when is_percent then false else when is_digit b then not (allows_digit (Some limit) (b - 48)) else strict)
       go true = le-ltb (limit + 16) (rank strict b) (omega (arith, small))
       go false = of_no_percent strict b (is_digit b)
 
@@ -116,7 +138,7 @@ refusal_of strict captures b more p false false = refl
 
 -- ---- Whether anything can be refused
 
-pub below_nine : (limit : ℕ) → ltb limit 9 ≡ not (allows_digit (some limit) 9)
+pub below_nine : (limit : ℕ) → ltb limit 9 ≡ not (allows_digit (Some limit) 9)
 unfolding allows_digit
 below_nine limit =
     ⊎_elim
@@ -124,10 +146,22 @@ below_nine limit =
     (λ k. le-ltb limit 9 k ∙ sym (ap not (le-leb 9 (max limit 1) (omega arith))))
     (order limit 9)
 
-pub nothing_refused : (strict : Bool) (count : Option ℕ) → can_refuse strict count ≡ false → (strict ≡ false) × (allows_digit count 9 ≡ true)
-unfolding can_refuse
-nothing_refused true count e = absurd (true≢false e)
-nothing_refused false count e = (refl, not-false _ e)
+-- ---- The limit
+
+-- the digits that a count allows are those that it allows from 1 to 9
+pub clamped : (count d : ℕ) → d ≤ 9 → allows_digit (Some (max 1 (min count 9))) d ≡ allows_digit (Some count) d
+unfolding allows_digit
+clamped count d h =
+    ⊎_elim
+    (λ k. lt-leb d (max (max 1 (min count 9)) 1) (omega arith) ∙ sym (lt-leb d (max count 1) k))
+    (λ k. le-leb d (max (max 1 (min count 9)) 1) (omega arith) ∙ sym (le-leb d (max count 1) k))
+    (order (max count 1) d)
+
+pub all_nine : (d : ℕ) → d ≤ 9 → allows_digit (Some 9) d ≡ allows_digit None d
+unfolding allows_digit
+all_nine d h = le-leb d 9 h
+
+pub ruleset limits = (clamped, all_nine)
 
 -- ---- The walk
 
@@ -173,3 +207,6 @@ module _ (strict : Bool) (captures : Option ℕ) (text : List ℕ) where
 
       pub bad_escape : is_refused strict captures next ≡ true → is_digit next ≡ false → refused 20 (p + 1) ≡ on p
       bad_escape t d = sym (turn ∙ if_true _ _ _ t ∙ if_false _ _ _ d)
+
+-- for a function that walks over the pieces
+pub ruleset turns = (at_end, passes_literal, passes_plain, lone_strict, lone_lenient, passes_escape, beyond, bad_escape)

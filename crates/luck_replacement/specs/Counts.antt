@@ -1,9 +1,8 @@
 -- Which replacements are accepted where the pattern's count of captures is known within a range (F-7 of document 02):
 -- by the check for each single count in it.
 -- Assumes nothing.
-use Rattle.std.specs.Prelude.{ℕ, zero, suc, ◌+◌, ◌-◌, max, Bool, true}
+use Rattle.std.specs.Prelude.{ℕ, zero, suc, ◌+◌, ◌-◌, max, Bool, true, Option, None, Some}
 use Rattle.std.specs.Prelude.{false, not, ◌&&◌, List, [], ◌∷◌, eqb, leb, ltb}
-use Rattle.std.proofs.Math.Option.{Option, none, some}
 use Rattle.luck_text.specs.Bytes.{when◌then◌else◌}
 use Rattle.luck_token.specs.Version.{is_version}
 use Rattle.luck_answer.specs.Answer.{Answer, accepted, refused}
@@ -35,14 +34,14 @@ module _ (check : ℕ → Answer) where
   accepted_for_all (suc n) low = is_accepted (check low) && accepted_for_all n (low + 1)
 
   unfoldable pub smallest_accepted : ℕ → ℕ → Option ℕ
-  smallest_accepted zero low = none
+  smallest_accepted zero low = None
   smallest_accepted (suc n) low =
       let later = smallest_accepted n (low + 1) in
-      when is_accepted (check low) then some low else later
+      when is_accepted (check low) then Some low else later
 
   unfoldable pub refused_or_depends : ℕ → Option ℕ → Ranged
-  refused_or_depends low none = for_none (check low)
-  refused_or_depends low (some count) = depends count
+  refused_or_depends low None = for_none (check low)
+  refused_or_depends low (Some count) = depends count
 
   unfoldable pub for_counts : ℕ → ℕ → Ranged
   for_counts n low = when accepted_for_all n low then for_every else refused_or_depends low (smallest_accepted n low)
@@ -53,9 +52,9 @@ module _ (check : ℕ → Answer) where
 
 -- 25, then 35, then the text for each count
 unfoldable pub check_ranged : ℕ → Counts → List ℕ → Ranged
-check_ranged version unknown text = alone (check_replacement version none text)
+check_ranged version unknown text = alone (check_replacement version None text)
 check_ranged version (from_to low high) text =
-    let each = for_range (λ count. check_replacement version (some count) text) low high in
+    let each = for_range (λ count. check_replacement version (Some count) text) low high in
     when not (is_version version) then for_none (refused 25 0) else when ltb high low then for_none (refused 35 0) else each
 
 -- what the answer's record shows: where it is dependent, a flag, number 0 and the smallest count

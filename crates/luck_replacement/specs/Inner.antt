@@ -1,8 +1,7 @@
 -- What the inner functions of the check of replacements promise each other. No public contract rests on these.
 -- Assumes nothing.
-use Rattle.std.specs.Prelude.{ℕ, ◌-◌, Bool, false, not, ◌||◌, eqb}
+use Rattle.std.specs.Prelude.{ℕ, ◌-◌, Bool, false, not, ◌||◌, eqb, Option}
 use Prim.Native.Char.{code}
-use Rattle.std.proofs.Math.Option.{Option}
 use Rattle.luck_text.specs.Bytes.{when◌then◌else◌, is_digit}
 use Rattle.luck_replacement.specs.Replacement.{allows_digit}
 

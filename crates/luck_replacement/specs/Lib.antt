@@ -1,4 +1,5 @@
 pub mod Replacement
 pub mod Inner
+pub mod Limit
 pub mod Counts
 pub mod Computed

@@ -1,15 +1,12 @@
 -- How a gsub replacement is read (add_s of lstrlib.c), and which are accepted (validate_gsub_replacement of luck;
 -- document 01, "Pattern, then replacement").
 -- Assumes nothing.
-use Rattle.std.specs.Prelude.{ℕ, ◌+◌, ◌-◌, max, Bool, true, List, [], ◌∷◌, eqb, leb}
+use Rattle.std.specs.Prelude.{ℕ, ◌+◌, ◌-◌, max, Bool, true, List, [], ◌∷◌, eqb, leb, Option, None, Some}
 use Prim.Native.Char.{code}
-use Rattle.std.proofs.Math.Option.{Option, none, some}
 use Rattle.luck_text.specs.Bytes.{when◌then◌else◌, is_digit}
 use Rattle.luck_token.specs.Version.{rules_of}
 use Rattle.luck_token.specs.declared.version.Rules.{Rules}
 use Rattle.luck_answer.specs.Answer.{Answer, accepted, refused, check_text}
-use Rattle.luck_replacement.specs.declared.replacement.Captures.{Captures}
-use Rattle.luck_replacement.specs.declared.replacement.Captures.TheVariants.{Known, Unknown}
 
 -- the row "strict replacement, checked date" of document 01
 abbrev pub is_strict : Rules → Bool
@@ -33,15 +30,10 @@ pieces (b ∷ c ∷ more) =
     let one = literal b ∷ pieces (c ∷ more) in
     when eqb b (code "%") then two else one
 
--- the pattern's count of captures, none where it is not known
-abbrev pub count_of : Captures → Option ℕ
-count_of (Known count) = some count
-count_of Unknown = none
-
--- with a known count, a digit is at most the larger of it and 1
+-- With a count of captures that is known, a digit is at most the larger of it and 1
 unfoldable pub allows_digit : Option ℕ → ℕ → Bool
-allows_digit (some count) d = leb d (max count 1)
-allows_digit none d = true
+allows_digit (Some count) d = leb d (max count 1)
+allows_digit None d = true
 
 -- the pieces from place p on
 unfoldable pub pieces_walk : Bool → Option ℕ → List Piece → ℕ → Answer

@@ -1,7 +1,6 @@
 -- What the struct luck_decoded of include/luck.h stands for, and a count of captures that a caller may know.
 -- Assumes nothing.
-use Rattle.std.specs.Prelude.{ℕ, Bool, true, false}
-use Rattle.std.proofs.Math.Option.{Option, none, some}
+use Rattle.std.specs.Prelude.{ℕ, Bool, true, false, Option, None, Some}
 use Rattle.luck_token.specs.Decode as decode
 use Rattle.luck_structs.specs.declared.decoded.Decoded.{Decoded}
 
@@ -10,5 +9,5 @@ decoded_answer d = record { number = d.number; offset = d.offset; written = d.wr
 
 -- a count of captures that is known, or none
 unfoldable pub count_if : Bool → ℕ → Option ℕ
-count_if true captures = some captures
-count_if false captures = none
+count_if true captures = Some captures
+count_if false captures = None

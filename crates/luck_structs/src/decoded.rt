@@ -1,32 +1,39 @@
 // The answer of decoding.
 ghost use Rattle.std.specs.Prelude.{◌≡◌};
-ghost use Rattle.luck_token.specs.Decode.{decoding, numbered};
+ghost use Rattle.luck_token.specs.Decode.{decoding};
 ghost use Rattle.luck_structs.specs.Answers.{decoded_answer};
 
-use luck_token::string;
+use luck_token::string::DecodeError;
+use luck_token::text::TextError;
 
 // luck_decoded
 #[repr(C)]
-#[derive(Clone, Copy)]
+#[derive(Clone, Copy, Debug, PartialEq, Eq)]
 pub struct Decoded {
     pub number: u32,
     pub offset: usize,
     pub written: usize,
 }
 
-pub fn of_decoded(decoded: string::Decoded) -> Decoded
-    ensures { decoded_answer result ≡ numbered decoded }
-{
-    match decoded {
-        string::Decoded::Value(written) => Decoded {
-            number: 0,
-            offset: 0,
-            written,
-        },
-        string::Decoded::UnknownVersion => refused(25, 0),
-        string::Decoded::NotUtf8(place) => refused(23, place),
-        string::Decoded::Undecodable => refused(24, 0),
-        string::Decoded::OutputTooShort => refused(26, 0),
+impl From<Result<usize, DecodeError>> for Decoded {
+    ghost use Rattle.luck_token.specs.Decode.{numbered};
+    ghost use Rattle.luck_structs.specs.Answers.{decoded_answer};
+
+    ghost from_gives = { λ decoded d. decoded_answer d ≡ numbered decoded };
+
+    #[tactic(auto, unfolding(luck_token::specs::Decode::numbered))]
+    fn from(decoded: Result<usize, DecodeError>) -> Self {
+        match decoded {
+            Ok(written) => Decoded {
+                number: 0,
+                offset: 0,
+                written,
+            },
+            Err(DecodeError::Text(TextError::UnknownVersion)) => refused(25, 0),
+            Err(DecodeError::Text(TextError::NotUtf8(place))) => refused(23, place),
+            Err(DecodeError::Undecodable) => refused(24, 0),
+            Err(DecodeError::OutputTooShort) => refused(26, 0),
+        }
     }
 }
 

@@ -6,15 +6,18 @@ use native.Mathlib.Numerals.{add-one}
 use native.Mathlib.Omega.{arith}
 use mathlib.Core.Path.{◌≡◌, refl, sym, ap, ap₂, subst, ◌∙◌}
 use mathlib.Core.Logic.{◌⊎◌, inl, inr, ⊎_elim}
-use mathlib.Core.Bool.{Bool, true, false, ◌||◌, not}
-use mathlib.Core.List.{List, [], ◌∷◌}
-use lib.ListN.{length, drop, length-append, length-drop, drop_of_length-le}
-use lib.Seq.{drop-cons, take-nil, get_or-take, get_or-drop, length-take-le}
+use mathlib.Core.Bool.{Bool, true, false, ◌||◌, cond}
+use mathlib.Core.List.{List, [], ◌∷◌, ◌++◌}
+use Rattle.std.proofs.lemmas.List.{drop-drop}
+use lib.ListN.{length, get_or-append, take, drop, length-append, length-take, length-drop, drop_of_length-le}
+use lib.Seq.{take-suc, drop-append_seam, drop-cons, take-nil, get_or-take, get_or-drop, length-take-le}
 use lib.Dec.{leb}
-use borrow.Author.Tests.{le-leb, lt-leb, leb-true, eq-eqb, ne_eqb, not-true, not-false}
-use Rattle.luck_text.specs.Bytes.{when◌then◌else◌, byte_at, part, in_front, between, among, is_digit, is_xdigit, run, digit_value, numeral_from, numeral}
+use Rattle.std.specs.List.{prefix_len}
+use borrow.Author.Tests.{le-leb, lt-leb, leb-true}
+use Rattle.luck_text.specs.Bytes.{when◌then◌else◌, byte_at, part, in_front, between, is_digit}
+use Rattle.luck_text.specs.Bytes.{is_xdigit, run, digit_value, numeral_from, numeral}
 use Rattle.luck_text.specs.Scan.{most, grown}
-use Rattle.luck_text.proofs.Cases.{by_test, order, and_left, and_right, second_false}
+use Rattle.luck_text.proofs.Cases.{order, and_left, and_right, second_false}
 
 -- ---- A range
 
@@ -34,22 +37,6 @@ module _ (low high b : ℕ) where
   pub above : high < b → between low high b ≡ false
   above h = second_false (leb low b) (leb b high) (lt-leb b high h)
 
--- ---- A set
-
-module _ (b : ℕ) (set : List ℕ) (p : ℕ) where
-  -- the byte stands at p, or further on, or the set ends at p
-  pub among_here : p < length set → b ≡ byte_at set p → true ≡ among b (drop p set)
-  unfolding among
-  among_here h e = rw (drop-cons set p 0, eq-eqb b (byte_at set p) e)
-
-  pub among_later : p < length set → (b ≡ byte_at set p → ⊥) → among b (drop (p + 1) set) ≡ among b (drop p set)
-  unfolding among
-  among_later h e = rw (drop-cons set p 0, add-one p, ne_eqb b (byte_at set p) e)
-
-  pub among_end : length set ≤ p → false ≡ among b (drop p set)
-  unfolding among
-  among_end h = rw (drop_of_length-le set h)
-
 -- ---- A part
 
 -- what holds of each byte of a part holds of the text's from place to place
@@ -64,6 +51,24 @@ all_of_part P text p size h f k l m =
 pub all_between : (P : ℕ → Type 0) (from at to : ℕ) → ((k : ℕ) → from ≤ k → k < at → P k) → ((k : ℕ) → at ≤ k → k < to → P k)
     → (k : ℕ) → from ≤ k → k < to → P k
 all_between P from at to f g k l m = ⊎_elim (λ h. f k l h) (λ h. g k h m) (order k at)
+
+-- the next block of a text, of which `at` bytes were passed
+module _ (text block rest : List ℕ) (at size : ℕ) (is : drop at text ≡ block ++ rest) (whole : length block ≡ size) where
+  pub block_rest : rest ≡ drop (at + size) text
+  block_rest = sym (drop-append_seam block rest) ∙ rw (whole, ← is) (drop-drop size at text)
+
+  pub block_fits : at ≤ length text → at + size ≤ length text
+  block_fits h = omega (arith, length-drop at text, length-append block rest, ap length is)
+
+  block_byte : (j : ℕ) → j < size → byte_at block j ≡ byte_at text (at + j)
+  block_byte j h = sym (get_or-append block rest 0 j (omega arith)) ∙ rw (← is) (get_or-drop at text j 0)
+
+  -- what holds of the bytes that were passed, and of the block's
+  pub block_more : (P : ℕ → Type 0) (from : ℕ) → ((k : ℕ) → from ≤ k → k < at → P (byte_at text k)) → ((k : ℕ) → k < length block → P (byte_at block k))
+      → (k : ℕ) → from ≤ k → k < at + size → P (byte_at text k)
+  block_more P from passed here =
+      all_between (λ k. P (byte_at text k)) from at (at + size) passed
+      (λ k l m. let q : at + (k - at) ≡ k = omega arith in subst P (block_byte (k - at) (omega arith) ∙ ap (byte_at text) q) (here (k - at) (omega arith)))
 
 -- ---- A run
 
@@ -111,26 +116,32 @@ module _ (test : ℕ → Bool) where
   pub run_inside : (text : List ℕ) (p : ℕ) → p ≤ length text → p + run test (drop p text) ≤ length text
   run_inside text p h = omega (arith, run_length (drop p text), length-drop p text)
 
--- the bytes from `at` to `end` are of a run
-pub record InRun (test : ℕ → Bool) (text : List ℕ) (at end : ℕ) : Type 0 where
-  pub behind : at ≤ end
-  pub so_far : run test (drop at text) ≡ end - at + run test (drop end text)
+  -- the library counts a run as the front that passes
+  pub run_prefix : (text : List ℕ) → prefix_len test text ≡ run test text
+  unfolding run when◌then◌else◌
+  run_prefix [] = refl
+  run_prefix (b ∷ text) = go (run_prefix text) (test b)
+    where
+      go : prefix_len test text ≡ run test text → (t : Bool) → cond t (1 + prefix_len test text) 0 ≡ (when t then suc (run test text) else 0)
+      go e true = omega arith
+      go e false = refl
 
-pub run_begins : (test : ℕ → Bool) (text : List ℕ) (at : ℕ) → InRun test text at at
-run_begins test text at = record { behind = omega arith; so_far = omega arith }
+-- of a front, `limit` bytes at most, the first i are of a run
+module _ (test : ℕ → Bool) (text items : List ℕ) (limit i : ℕ) (is : items ≡ take limit text) (so_far : run test text ≡ i + run test (drop i text)) where
+  front_size : length items ≡ min limit (length text)
+  front_size = rw (is, length-take limit text)
 
-module _ {test : ℕ → Bool} {text : List ℕ} {at end : ℕ} (i : InRun test text at end) where
-  pub run_ended : length text ≤ end → end - at ≡ run test (drop at text)
-  run_ended h = omega (arith, run_end test text end h)
+  front_byte : i < length items → byte_at text i ≡ byte_at items i
+  front_byte h = rw (is) (sym (get_or-take limit text i 0 (omega (arith, front_size))))
 
-  -- by a test of the next byte
-  module _ (h : end < length text) {b : Bool} (e : b ≡ test (byte_at text end)) where
-    pub run_stopped : not b ≡ true → end - at ≡ run test (drop at text)
-    run_stopped t = omega (arith, run_stop test text end h (sym e ∙ not-true b t))
+  pub front_goes_on : i < length items → test (byte_at items i) ≡ true → run test text ≡ i + 1 + run test (drop (i + 1) text)
+  front_goes_on h t = omega (arith, front_size, run_more test text i (omega (arith, front_size)) (ap test (front_byte h) ∙ t))
 
-    pub run_goes_on : not b ≡ false → InRun test text at (end + 1)
-    run_goes_on t =
-        record { behind = omega arith; so_far = omega (arith, run_more test text end h (sym e ∙ not-false b t)) }
+  pub front_stopped : i < length items → test (byte_at items i) ≡ false → i ≡ min limit (run test text)
+  front_stopped h t = omega (arith, front_size, run_stop test text i (omega (arith, front_size)) (ap test (front_byte h) ∙ t))
+
+  pub front_ended : length items ≡ i → i ≡ min limit (run test text)
+  front_ended h = ⊎_elim (λ l. omega (arith, front_size)) (λ g. omega (arith, front_size, run_end test text i g)) (order i (length text))
 
 -- ---- A number
 
@@ -160,62 +171,44 @@ module _ (base : ℕ) (text : List ℕ) (to : ℕ) where
   digit_end high p (inl h) = let e : to - p ≡ 0 = omega arith in rw e
   digit_end high p (inr h) = rw (drop_of_length-le text {i = p} h, take-nil (to - p))
 
--- A number that is read digit by digit from `at` up to `to`: `end` is reached, the number so far stays at the largest, and the exact one beside it is
--- made the whole one by the digits that are left.
-module _ (base : ℕ) (text : List ℕ) (at to : ℕ) where
-  abbrev pub Spelled : ℕ → ℕ → Type 0
-  Spelled end value = (exact : ℕ) × (value ≡ min exact most) × (numeral_from base exact (part text end to) ≡ numeral base (part text at to))
+-- one digit more: the number so far stays at the largest
+module _ (base : ℕ) where
+  from_last : (high : ℕ) (digits : List ℕ) (d : ℕ) → numeral_from base high (digits ++ (d ∷ [])) ≡ numeral_from base high digits * base + digit_value d
+  unfolding numeral_from
+  from_last high [] d = refl
+  from_last high (x ∷ digits) d = from_last (high * base + digit_value x) digits d
 
-  pub spelled_none : Spelled at 0
+  pub spelled_more : (digits : List ℕ) (i value digit next : ℕ) → i < length digits → value ≡ min (numeral base (take i digits)) most
+      → digit ≡ digit_value (byte_at digits i) → next ≡ grown value base digit → next ≡ min (numeral base (take (i + 1) digits)) most
   unfolding numeral
-  spelled_none = (0, omega arith, refl)
-
-  module _ (end value : ℕ) (s : Spelled end value) where
-    pub spelled_more : (next digit : ℕ) → end < to → end < length text → digit ≡ digit_value (byte_at text end) → next ≡ grown value base digit → Spelled (end + 1) next
-    spelled_more next digit h l d e =
-        let v = digit_value (byte_at text end) in (
-          s.0 * base + v,
-          e ∙ ap₂ (λ (x y : ℕ). grown x base y) s.1 d ∙ grown_min s.0 v base,
-          sym (digit_more base text to s.0 end h l) ∙ s.2,
-        )
-
-    pub spelled_whole : at ≤ end → end ≡ to → value ≡ min (numeral base (part text at (at + (end - at)))) most
-    spelled_whole b e =
-        let f : at + (end - at) ≡ to = omega arith in
-        s.1 ∙ ap (λ (n : ℕ). min n most)
-        (sym (digit_end base text to s.0 end (inl (omega arith))) ∙ s.2 ∙ ap (λ (q : ℕ). numeral base (part text at q)) (sym f))
+  spelled_more digits i value digit next h v d e =
+      let n = numeral_from base 0 (take i digits) in
+      e ∙ ap₂ (λ (x y : ℕ). grown x base y) v d ∙ grown_min n (digit_value (byte_at digits i)) base
+      ∙ ap (λ (x : ℕ). min x most) (sym (from_last 0 (take i digits) (byte_at digits i)))
+      ∙ ap (λ (l : List ℕ). min (numeral_from base 0 l) most) (sym (rw (add-one i) (take-suc digits i 0 h)))
 
 -- ---- The value of a digit
 
 module _ (b : ℕ) where
+  pub digit_low : b ≤ 57 → b - 48 ≡ digit_value b
+  unfolding digit_value when◌then◌else◌
+  digit_low h = rw (le-leb b 57 h)
+
+  pub digit_capital : 57 < b → b ≤ 70 → b - 65 + 10 ≡ digit_value b
+  unfolding digit_value when◌then◌else◌
+  digit_capital l h = rw (lt-leb b 57 l, le-leb b 70 h)
+
+  pub digit_high : 70 < b → b - 97 + 10 ≡ digit_value b
+  unfolding digit_value when◌then◌else◌
+  digit_high l = rw (lt-leb b 57 (omega arith), lt-leb b 70 l)
+
   pub digit_none : b < 48 → 0 ≡ digit_value b
-  unfolding digit_value when◌then◌else◌
-  digit_none h = rw (le-leb b 57 (omega arith)) (omega arith)
+  digit_none h = omega (arith, digit_low (omega arith))
 
-  pub digit_decimal : 48 ≤ b → b ≤ 57 → b - 48 ≡ digit_value b
-  unfolding digit_value when◌then◌else◌
-  digit_decimal l h = rw (le-leb b 57 h)
-
-  pub digit_between : 57 < b → b < 65 → 10 ≡ digit_value b
-  unfolding digit_value when◌then◌else◌
-  digit_between l h = rw (lt-leb b 57 l, le-leb b 70 (omega arith)) (omega arith)
-
-  pub digit_capital : 65 ≤ b → b ≤ 70 → b - 55 ≡ digit_value b
-  unfolding digit_value when◌then◌else◌
-  digit_capital l h = rw (lt-leb b 57 (omega arith), le-leb b 70 h) (omega arith)
-
-  pub digit_above : 70 < b → b < 97 → 10 ≡ digit_value b
-  unfolding digit_value when◌then◌else◌
-  digit_above l h = rw (lt-leb b 57 (omega arith), lt-leb b 70 l) (omega arith)
-
-  pub digit_small_letter : 97 ≤ b → b - 87 ≡ digit_value b
-  unfolding digit_value when◌then◌else◌
-  digit_small_letter l = rw (lt-leb b 57 (omega arith), lt-leb b 70 (omega arith)) (omega arith)
-
-  -- it is small, whatever the byte
-  pub digit_small : b < 256 → digit_value b < 256
-  unfolding digit_value
-  digit_small h = by_test (λ x. x < 256) _ _ _ (λ _. omega arith) (λ _. by_test (λ x. x < 256) _ _ _ (λ e. omega (arith, leb-true b 70 e)) (λ _. omega arith))
+-- a decimal digit's value is below 10
+pub digit_here : (b : ℕ) → is_digit b ≡ true → (48 ≤ b) × (b - 48 ≡ digit_value b) × (b - 48 < 10)
+unfolding is_digit
+digit_here b e = let r = between_true 48 57 b e in (r.0, digit_low b r.1, omega arith)
 
 -- a hexadecimal digit is one of three kinds
 pub hex_case : (P : Type 0) (b : ℕ) → is_xdigit b ≡ true → (48 ≤ b → b ≤ 57 → P) → (97 ≤ b → b ≤ 102 → P) → (65 ≤ b → b ≤ 70 → P) → P
@@ -235,14 +228,14 @@ hex_case P b e digit small capital =
 -- its value is below 16
 pub hex_value : (b : ℕ) → is_xdigit b ≡ true → digit_value b < 16
 hex_value b e =
-    hex_case (digit_value b < 16) b e (λ l h. omega (arith, digit_decimal b l h)) (λ l h. omega (arith, digit_small_letter b l))
-    (λ l h. omega (arith, digit_capital b l h))
+    hex_case (digit_value b < 16) b e (λ l h. omega (arith, digit_low b h)) (λ l h. omega (arith, digit_high b (omega arith)))
+    (λ l h. omega (arith, digit_capital b (omega arith) h))
 
 -- and made from the halves of its code
 pub hex_halves : (b : ℕ) → is_xdigit b ≡ true → b % 16 + b / 64 * 9 ≡ digit_value b
 hex_halves b e =
-    hex_case (b % 16 + b / 64 * 9 ≡ digit_value b) b e (λ l h. omega (arith, digit_decimal b l h)) (λ l h. omega (arith, digit_small_letter b l))
-    (λ l h. omega (arith, digit_capital b l h))
+    hex_case (b % 16 + b / 64 * 9 ≡ digit_value b) b e (λ l h. omega (arith, digit_low b h)) (λ l h. omega (arith, digit_high b (omega arith)))
+    (λ l h. omega (arith, digit_capital b (omega arith) h))
 
 -- ---- The front of an output
 

@@ -1,11 +1,14 @@
 -- Texts and bytes, on which all other definitions stand. A text is a list of bytes and a byte a number. A place past
 -- the end of a text reads as 0, as C's closing zero byte. Here and everywhere `-` on numbers stops at 0: 2 - 3 is 0.
 -- Assumes nothing.
-use Rattle.std.specs.Prelude.{ℕ, suc, ◌+◌, ◌*◌, ◌-◌, Bool, true, false, ◌&&◌, ◌||◌, List, [], ◌∷◌, ◌++◌, length, get_or, take, drop, leb, eqb}
+use Rattle.std.specs.Prelude.{ℕ, suc, ◌+◌, ◌*◌, ◌-◌, Bool, true, false, ◌&&◌, ◌||◌}
+use Rattle.std.specs.Prelude.{List, [], ◌∷◌, ◌++◌, length, get_or, take, drop, leb, eqb}
 use Prim.Native.Char.{code}
 use Prim.Native.String.{String, [] as empty, ◌∷◌ as ◌then◌}
 
 infixr 5 when◌then◌else◌
+-- The library's `if◌then◌else◌` unfolds everywhere. This choice unfolds only where a proof says so, so that goals about
+-- nested ones stay small; it has a word of its own, since the library's may have no other meaning.
 -- both branches are computed before the choice: a branch that recurs is bound by a `let`, which waits
 unfoldable pub when◌then◌else◌ : {A : Type 0} → Bool → A → A → A
 when◌then◌else◌ true x y = x

@@ -1,41 +1,144 @@
 // Bytes of a class or a set, the byte at a place, runs, and the number that digits spell.
-ghost use Rattle.std.specs.Prelude.{◌≡◌, ◌+◌, ◌<◌, ◌≤◌, min, true, drop};
-ghost use Rattle.luck_text.specs.Bytes.{byte_at, between, part, among, is_digit, is_xdigit, run as run_of, digit_value, numeral as numeral_of};
-ghost use Rattle.luck_text.specs.Scan.{in_class, most, grown};
+ghost use Rattle.std.specs.Prelude.{◌≡◌, ℕ, ◌+◌, ◌≤◌, ◌<◌, Bool, eqb, min, true, take, drop};
+ghost use Rattle.luck_text.specs.Bytes.{byte_at, between, part, among, is_digit, is_xdigit, is_lua_whitespace};
+ghost use Rattle.luck_text.specs.Bytes.{run as run_of, digit_value, numeral as numeral_of};
+ghost use Rattle.luck_text.specs.Scan.{most, grown};
 
-// What a run is made of.
+// What a byte is tested for: a class or a set.
+pub trait Class {
+    ghost holds: { Self → ℕ → Bool };
+
+    fn has(&self, byte: u8) -> bool
+        ensures { result ≡ holds self.now byte };
+}
+
+// A class of digits, which spell numbers to a base.
+trait Base: Class {
+    ghost BASE: { ℕ };
+
+    const BASE: u32;
+
+    fn value(&self, digit: u8) -> u8
+        requires { Self.holds self.now digit ≡ true }
+        ensures { (result ≡ digit_value digit) × (result < 256) };
+}
+
+// `0` to `9`.
 #[derive(Clone, Copy)]
-pub enum Class {
-    Digit,
-    HexDigit,
-    Whitespace,
-    Byte(u8),
+pub struct Digit;
+
+impl Class for Digit {
+    ghost holds = { λ _ b. is_digit b };
+
+    #[tactic(auto, unfolding(crate::specs::Bytes::is_digit))]
+    fn has(&self, byte: u8) -> bool {
+        byte.is_ascii_digit()
+    }
+}
+
+impl Base for Digit {
+    ghost BASE = { 10 };
+
+    const BASE: u32 = 10;
+
+    #[tactic(auto, using(crate::proofs::Bytes::digit_here))]
+    fn value(&self, digit: u8) -> u8 {
+        digit - b'0'
+    }
+}
+
+// `0` to `9`, `a` to `f` and `A` to `F`.
+#[derive(Clone, Copy)]
+pub struct HexDigit;
+
+impl Class for HexDigit {
+    ghost holds = { λ _ b. is_xdigit b };
+
+    // A sum instead of branches: which of the three a digit is can't be foreseen.
+    fn has(&self, byte: u8) -> bool {
+        let digit = is_between(byte, b'0', b'9') as u8;
+        let small = is_between(byte, b'a', b'f') as u8;
+        let capital = is_between(byte, b'A', b'F') as u8;
+        0 < digit + small + capital
+    }
+}
+
+impl Base for HexDigit {
+    ghost BASE = { 16 };
+
+    const BASE: u32 = 16;
+
+    fn value(&self, digit: u8) -> u8 {
+        hex_value(digit)
+    }
+}
+
+// A space, and HT, LF, VT, FF and CR.
+#[derive(Clone, Copy)]
+pub struct Whitespace;
+
+impl Class for Whitespace {
+    ghost holds = { λ _ b. is_lua_whitespace b };
+
+    #[tactic(auto, unfolding(crate::specs::Bytes::is_lua_whitespace))]
+    fn has(&self, byte: u8) -> bool {
+        matches!(byte, b' ' | b'\t'..=b'\r')
+    }
+}
+
+// This byte alone.
+#[derive(Clone, Copy)]
+pub struct Byte(pub u8);
+
+impl Class for Byte {
+    ghost holds = { λ c b. eqb c.0 b };
+
+    fn has(&self, byte: u8) -> bool {
+        self.0 == byte
+    }
+}
+
+// The bytes of a set.
+#[derive(Clone, Copy)]
+pub struct OneOf<'a>(pub &'a [u8]);
+
+impl<'a> Class for OneOf<'a> {
+    ghost holds = { λ s b. among b s.0.now };
+
+    fn has(&self, byte: u8) -> bool {
+        self.0.contains(&byte)
+    }
+}
+
+// The bytes from `from` on, none where the text ends before.
+fn rest(text: &[u8], from: usize) -> &[u8]
+    ensures { result.now ≡ drop from text.now }
+{
+    &text[from.min(text.len())..]
+}
+
+// The first `count` bytes, all where the text is shorter.
+fn front(text: &[u8], count: usize) -> &[u8]
+    ensures { result.now ≡ take count text.now }
+{
+    &text[..count.min(text.len())]
+}
+
+// How many bytes from `at` on are of the class, up to the first that is not.
+pub fn run<C: Class>(text: &[u8], at: usize, class: &C) -> usize
+    ensures { result ≡ run_of (C.holds class.now) (drop at text.now) }
+{
+    rest(text, at)
+        .iter()
+        .take_while(|byte| class.has(**byte))
+        .count()
 }
 
 // Whether a byte is from `low` to `high`, both included.
 pub fn is_between(byte: u8, low: u8, high: u8) -> bool
     ensures { result ≡ between low high byte }
 {
-    if byte < low {
-        return false;
-    }
-    byte <= high
-}
-
-fn is_digit(byte: u8) -> bool
-    ensures { result ≡ in_class Class.Digit byte }
-{
-    is_between(byte, b'0', b'9')
-}
-
-// A sum instead of branches: which of the three a digit is can't be foreseen.
-fn is_hex_digit(byte: u8) -> bool
-    ensures { result ≡ in_class Class.HexDigit byte }
-{
-    let digit = is_between(byte, b'0', b'9') as u8;
-    let small = is_between(byte, b'a', b'f') as u8;
-    let capital = is_between(byte, b'A', b'F') as u8;
-    0 < digit + small + capital
+    (low..=high).contains(&byte)
 }
 
 // `0` is 30, `A` 41 and `a` 61 (hexadecimal): a letter's low half is 9 below its value.
@@ -46,127 +149,40 @@ pub fn hex_value(digit: u8) -> u8
     digit % 16 + digit / 64 * 9
 }
 
-fn is_lua_whitespace(byte: u8) -> bool
-    ensures { result ≡ in_class Class.Whitespace byte }
-{
-    if byte == b' ' {
-        return true;
-    }
-    if byte < b'\t' {
-        return false;
-    }
-    byte <= b'\r'
-}
-
-pub fn is_in(class: Class, byte: u8) -> bool
-    ensures { result ≡ in_class class byte }
-{
-    match class {
-        Class::Digit => is_digit(byte),
-        Class::HexDigit => is_hex_digit(byte),
-        Class::Whitespace => is_lua_whitespace(byte),
-        Class::Byte(b) => b == byte,
-    }
-}
-
 // The byte at a place, a zero byte past the end.
 pub fn byte_at(text: &[u8], at: usize) -> u8
     ensures { result ≡ byte_at text.now at }
 {
-    if at < text.len() {
-        return text[at];
-    }
-    0
-}
-
-// How many bytes from `at` on belong to the class, up to the first that does not.
-pub fn run(text: &[u8], at: usize, class: Class) -> usize
-    ensures { result ≡ run_of (in_class class) (drop at text.now) }
-{
-    let mut end = at;
-    while end < text.len() {
-        if !is_in(class, text[end]) {
-            return end - at;
-        }
-        end += 1;
-    }
-    end - at
-}
-
-// Whether the byte is one of a set's.
-pub fn contains(set: &[u8], byte: u8) -> bool
-    ensures { result ≡ among byte set.now }
-{
-    let mut at = 0;
-    while at < set.len() {
-        if byte == set[at] {
-            return true;
-        }
-        at += 1;
-    }
-    false
-}
-
-// How many bytes from `at` on are of a set, up to the first that is not.
-pub fn run_in(text: &[u8], at: usize, set: &[u8]) -> usize
-    ensures { result ≡ run_of (λ b. among b set.now) (drop at text.now) }
-{
-    let mut end = at;
-    while end < text.len() {
-        if !contains(set, text[end]) {
-            return end - at;
-        }
-        end += 1;
-    }
-    end - at
+    text.get(at).copied().unwrap_or(0)
 }
 
 fn digit_value(byte: u8) -> u64
     ensures { (result ≡ digit_value byte) × (result < 256) }
 {
-    if byte < b'0' {
-        return 0;
+    match byte {
+        ..=b'9' => byte.saturating_sub(b'0') as u64,
+        ..=b'F' => byte.saturating_sub(b'A') as u64 + 10,
+        _ => byte.saturating_sub(b'a') as u64 + 10,
     }
-    if byte <= b'9' {
-        return byte as u64 - 48;
-    }
-    if byte < b'A' {
-        return 10;
-    }
-    if byte <= b'F' {
-        return byte as u64 - 55;
-    }
-    if byte < b'a' {
-        return 10;
-    }
-    byte as u64 - 87
 }
 
 // A number with one more digit, of this value. What is larger than every limit of a check or an escape is kept as
 // 80000000 (hexadecimal).
+#[tactic(auto, unfolding(crate::specs::Scan::grown))]
 fn with_digit(value: u64, base: u32, digit: u64) -> u64
     requires { (value ≤ most) × (digit < 256) }
     ensures { result ≡ grown value base digit }
 {
-    let larger = value * (base as u64) + digit;
-    if 0x8000_0000 < larger {
-        return 0x8000_0000;
-    }
-    larger
+    (value * (base as u64) + digit).min(0x8000_0000)
 }
 
 // The number that the bytes from `from` to `to` spell to a base, or 80000000 (hexadecimal) where it is larger.
 pub fn numeral(text: &[u8], from: usize, to: usize, base: u32) -> u32
     ensures { result ≡ min (numeral_of base (part text.now from to)) most }
 {
-    let mut at = from;
     let mut value: u64 = 0;
-    while at < to {
-        if text.len() <= at {
-            return value as u32;
-        }
-        value = with_digit(value, base, digit_value(text[at]));
-        at += 1;
+    for &byte in front(rest(text, from), to.saturating_sub(from)) {
+        value = with_digit(value, base, digit_value(byte));
     }
     value as u32
 }
@@ -178,25 +194,32 @@ pub struct Number {
     pub value: u32,
 }
 
-// The hexadecimal digits from `at` on, counted and read in one pass.
+// The digits from `at` on, `limit` of them at most, counted and read in one pass.
+fn read_digits<D: Base>(text: &[u8], at: usize, limit: usize, digits: &D) -> Number
+    ensures count { result.count ≡ min limit (run_of (D.holds digits.now) (drop at text.now)) }
+    ensures value { result.value ≡ min (numeral_of D.BASE (part text.now at (at + result.count))) most }
+{
+    let mut value: u64 = 0;
+    let mut count = 0;
+    for &byte in front(rest(text, at), limit) {
+        if !digits.has(byte) {
+            break;
+        }
+        value = with_digit(value, D::BASE, digits.value(byte) as u64);
+        count += 1;
+    }
+    Number {
+        count,
+        value: value as u32,
+    }
+}
+
+// The hexadecimal digits from `at` on.
 pub fn hex_digits(text: &[u8], at: usize) -> Number
     ensures count { result.count ≡ run_of is_xdigit (drop at text.now) }
     ensures value { result.value ≡ min (numeral_of 16 (part text.now at (at + result.count))) most }
 {
-    let mut end = at;
-    let mut value: u64 = 0;
-    while end < text.len() {
-        let digit = text[end];
-        if !is_hex_digit(digit) {
-            break;
-        }
-        value = with_digit(value, 16, hex_value(digit) as u64);
-        end += 1;
-    }
-    Number {
-        count: end - at,
-        value: value as u32,
-    }
+    read_digits(text, at, usize::MAX, &HexDigit)
 }
 
 // The decimal digits from `at` on, `limit` of them at most.
@@ -204,21 +227,5 @@ pub fn digits(text: &[u8], at: usize, limit: usize) -> Number
     ensures count { result.count ≡ min limit (run_of is_digit (drop at text.now)) }
     ensures value { result.value ≡ min (numeral_of 10 (part text.now at (at + result.count))) most }
 {
-    let mut end = at;
-    let mut value: u64 = 0;
-    while end < text.len() {
-        if limit <= end - at {
-            break;
-        }
-        let digit = text[end];
-        if !is_digit(digit) {
-            break;
-        }
-        value = with_digit(value, 10, (digit - b'0') as u64);
-        end += 1;
-    }
-    Number {
-        count: end - at,
-        value: value as u32,
-    }
+    read_digits(text, at, limit, &Digit)
 }

@@ -1,12 +1,12 @@
 -- The bounds of decoding, whatever it is given: its number, its offset, and how much it writes. A piece of a literal stands for no more bytes than it
 -- takes, so a value is no longer than its literal.
 -- Assumes nothing.
+use Rattle.std.specs.Prelude.{Option, None, Some}
 use Prim.Native.Nat.{ℕ, ◌+◌, ◌-◌, ◌≤◌, ◌<◌}
 use native.Mathlib.Omega.{arith}
 use mathlib.Core.Path.{◌≡◌, refl}
 use mathlib.Core.Bool.{Bool, true, false, ◌&&◌}
 use mathlib.Core.List.{List, [], ◌∷◌}
-use mathlib.Core.Option.{Option, none, some}
 use lib.ListN.{length, drop, length-append, length-take, length-drop}
 use lib.Dec.{eqb, leb, ltb}
 use borrow.Author.Tests.{eqb-true, eqb-false, leb-true, leb-false}
@@ -43,7 +43,7 @@ use Rattle.luck_token.specs.Literal.{
 use Rattle.luck_token.specs.Decode.{DecodeOutcome, value, refused, with_room, decode_string, decoding_of, output_of}
 use Rattle.luck_token.specs.declared.version.Rules.{Rules}
 use Rattle.luck_token.specs.declared.string.Escape.{Escape}
-use Rattle.luck_token.specs.declared.string.Escape.TheVariants.{Simple, LineBreak, Hex, Whitespace, Decimal, Unicode, Itself, Undefined}
+use Rattle.luck_token.specs.declared.string.Escape.TheVariants.{Simple, LineBreak, Hex, Whitespace, Decimal, Unicode, Itself}
 use Rattle.luck_token.proofs.Literals.{exact, allowed_small, allowed_some, in_width}
 use Rattle.luck_token.proofs.Texts.{in_any_case}
 
@@ -90,16 +90,16 @@ module _ (body : List ℕ) (p : ℕ) (h : p < length body) where
       (few, omega arith))
       (λ _. tt)
 
-  escape_small : (rules : Rules) (escape : Escape) → Small body p (escape_piece rules escape body p)
+  escape_small : (rules : Rules) (escape : Option Escape) → Small body p (escape_piece rules escape body p)
   unfolding escape_piece line_break_escape whitespace_escape
-  escape_small rules Simple = one_byte (simple_escape (byte_at body (p + 1))) 2 (omega arith)
-  escape_small rules LineBreak = one_byte 10 _ (omega arith)
-  escape_small rules Hex = hex_small
-  escape_small rules Whitespace = (omega arith, omega arith)
-  escape_small rules Decimal = decimal_small
-  escape_small rules Unicode = unicode_small rules
-  escape_small rules Itself = one_byte (byte_at body (p + 1)) 2 (omega arith)
-  escape_small rules Undefined = tt
+  escape_small rules (Some Simple) = one_byte (simple_escape (byte_at body (p + 1))) 2 (omega arith)
+  escape_small rules (Some LineBreak) = one_byte 10 _ (omega arith)
+  escape_small rules (Some Hex) = hex_small
+  escape_small rules (Some Whitespace) = (omega arith, omega arith)
+  escape_small rules (Some Decimal) = decimal_small
+  escape_small rules (Some Unicode) = unicode_small rules
+  escape_small rules (Some Itself) = one_byte (byte_at body (p + 1)) 2 (omega arith)
+  escape_small rules None = tt
 
   short_small : (rules : Rules) → Small body p (short_piece rules body p)
   unfolding short_piece escape_piece_at
@@ -117,8 +117,8 @@ module _ (body : List ℕ) (p : ℕ) (h : p < length body) where
 
 -- a value has at most this many bytes
 abbrev Most : ℕ → Option (List ℕ) → Type 0
-Most n none = Unit {0}
-Most n (some bytes) = length bytes ≤ n
+Most n None = Unit {0}
+Most n (Some bytes) = length bytes ≤ n
 
 module _ (long : Bool) (rules : Rules) (body : List ℕ) (most : ℕ) (in_most : length body ≤ most) where
   -- the bytes so far are no more than the bytes read
@@ -198,8 +198,8 @@ module _ (text : List ℕ) (room : ℕ) where
 
   room_bounded : (o : Option (List ℕ)) → Most (length text) o → Bounded (length text) room (with_room room o)
   unfolding with_room among
-  room_bounded none s = refusal_bounded 24 0 refl (omega arith) (λ _. refl) (λ e. absurd (omega arith))
-  room_bounded (some bytes) s =
+  room_bounded None s = refusal_bounded 24 0 refl (omega arith) (λ _. refl) (λ e. absurd (omega arith))
+  room_bounded (Some bytes) s =
       by_test (Bounded (length text) room) (leb (length bytes) room) _ _
       (λ e. value_bounded bytes (leb-true (length bytes) room e) s) (λ e. refusal_bounded 26 0 refl (omega arith) (λ _. refl) (λ _. omega (arith, leb-false (length bytes) room e)))
 

@@ -1,12 +1,12 @@
 -- Laws of `\u{XXX}`: the piece that it is in a version that has it, and the value of a literal that has nothing else.
 -- Assumes nothing.
+use Rattle.std.specs.Prelude.{Option, None, Some}
 use Prim.Native.Nat.{ℕ, zero, suc, ◌+◌, ◌-◌, ◌<◌}
 use native.Mathlib.Nat.{le_refl}
 use native.Mathlib.Omega.{arith}
 use mathlib.Core.Path.{◌≡◌, refl, sym, ap, ◌∙◌}
 use mathlib.Core.Bool.{Bool, true, false, ◌&&◌}
 use mathlib.Core.List.{List, [], ◌∷◌, ◌++◌, append_assoc}
-use mathlib.Core.Option.{none, some}
 use lib.ListN.{length, drop, length-append}
 use lib.Seq.{take_at, get_or_at}
 use borrow.Author.Tests.{le-leb, eq-eqb}
@@ -33,7 +33,7 @@ use Rattle.luck_token.specs.Literal.{
 }
 use Rattle.luck_token.specs.declared.version.Rules.{Rules}
 use Rattle.luck_token.specs.declared.string.Escape.{Escape}
-use Rattle.luck_token.specs.declared.string.Escape.TheVariants.{Unicode, Itself, Undefined}
+use Rattle.luck_token.specs.declared.string.Escape.TheVariants.{Unicode, Itself}
 use Rattle.luck_token.proofs.Literals.{escape_is, short_escape, piece_short}
 use Rattle.luck_token.proofs.Values.{start, turn, bad, done, short_literal}
 
@@ -50,29 +50,29 @@ pub known_version : (version : ℕ) → among version with_unicode ≡ true → 
 unfolding is_version
 known_version = every_among (λ (v : ℕ). is_version v ≡ true) with_unicode (refl, (refl, (refl, (refl, tt))))
 
-pub unicode_kind : (version : ℕ) → among version with_unicode ≡ true → escape_kind (rules_of version) 117 ≡ Unicode
+pub unicode_kind : (version : ℕ) → among version with_unicode ≡ true → escape_kind (rules_of version) 117 ≡ Some Unicode
 unfolding escape_kind when◌then◌else◌ is_digit rules_of has is_version versions among
-unicode_kind = every_among (λ (v : ℕ). escape_kind (rules_of v) 117 ≡ Unicode) with_unicode (refl, (refl, (refl, (refl, tt))))
+unicode_kind = every_among (λ (v : ℕ). escape_kind (rules_of v) 117 ≡ Some Unicode) with_unicode (refl, (refl, (refl, (refl, tt))))
 
 module _ (body : List ℕ) (p : ℕ) (backslash : byte_at body p ≡ 92) (letter : byte_at body (p + 1) ≡ 117) where
-  by_kind : (rules : Rules) (k : Escape) → escape_kind rules 117 ≡ k → piece_at false rules body p ≡ escape_piece rules k body p
+  by_kind : (rules : Rules) (k : Option Escape) → escape_kind rules 117 ≡ k → piece_at false rules body p ≡ escape_piece rules k body p
   by_kind rules k kind =
       let there = present body (p + 1) (omega arith) in
       sym (escape_is rules body p there k (sym (ap (escape_kind rules) letter ∙ kind)) ∙ short_escape rules body p backslash ∙ piece_short rules body p false refl)
 
   pub letter_piece : piece_at false (rules_of 1) body p ≡ piece (117 ∷ []) 2
   unfolding escape_piece escape_kind other_escape when◌then◌else◌ is_digit rules_of has is_version versions among
-  letter_piece = by_kind (rules_of 1) Itself refl ∙ ap (λ (b : ℕ). piece (b ∷ []) 2) letter
+  letter_piece = by_kind (rules_of 1) (Some Itself) refl ∙ ap (λ (b : ℕ). piece (b ∷ []) 2) letter
 
   pub no_piece : piece_at false (rules_of 2) body p ≡ malformed
   unfolding escape_piece escape_kind other_escape when◌then◌else◌ is_digit rules_of has is_version versions among
-  no_piece = by_kind (rules_of 2) Undefined refl
+  no_piece = by_kind (rules_of 2) None refl
 
   module _ (opens : byte_at body (p + 2) ≡ 123) (count : ℕ) (n : count ≡ run is_xdigit (drop (p + 3) body)) (closes : byte_at body (p + 3 + count) ≡ 125) where
-    pub unicode_piece : (rules : Rules) → escape_kind rules 117 ≡ Unicode → (c : ℕ) → c ≡ numeral 16 (part body (p + 3) (p + 3 + count))
+    pub unicode_piece : (rules : Rules) → escape_kind rules 117 ≡ Some Unicode → (c : ℕ) → c ≡ numeral 16 (part body (p + 3) (p + 3 + count))
         → piece_at false rules body p ≡ (when allows_code_point rules count c then piece (utf8_bytes c) (count + 4) else malformed)
     unfolding escape_piece unicode_escape
-    unicode_piece rules kind c e = by_kind rules Unicode kind ∙ rw (← n, ← e, eq-eqb _ _ opens, eq-eqb _ _ closes)
+    unicode_piece rules kind c e = by_kind rules (Some Unicode) kind ∙ rw (← n, ← e, eq-eqb _ _ opens, eq-eqb _ _ closes)
 
 -- ---- The literal
 
@@ -100,7 +100,7 @@ module _ (body : List ℕ) where
 -- a body that is one piece, or begins with a malformed one
 module _ (long : Bool) (rules : Rules) (body : List ℕ) (some_byte : 0 < length body) where
   only_piece : (good : Bool) (bytes : List ℕ) → piece_at long rules body 0 ≡ (when good then piece bytes (length body) else malformed)
-      → value_of long rules body ≡ (when good then some bytes else none)
+      → value_of long rules body ≡ (when good then Some bytes else None)
   unfolding when◌then◌else◌
   only_piece true bytes e =
       let end = turn long rules body 0 [] (value_of long rules body) (start long rules body) bytes (length body) (sym e) (omega arith) (omega arith) in
@@ -139,7 +139,7 @@ low_digits (d ∷ digits) after e l =
     let h = first_passes is_xdigit d digits e in
     (hex_case (d < 0x80) d h.0 (λ _ n. omega arith) (λ _ n. omega arith) (λ _ n. omega arith), low_digits digits after h.1 l)
 
-low_formed : (text : List ℕ) → Low text → none ≡ ill_formed text
+low_formed : (text : List ℕ) → Low text → None ≡ ill_formed text
 unfolding ill_formed none_ill_formed
 low_formed text l =
     sym (walk_ascii text 0 (length text) (omega arith) (le_refl (length text)) (λ k _ _. low_at text l k)
@@ -153,13 +153,13 @@ abbrev pub escaped : List ℕ → List ℕ
 escaped digits = 34 ∷ 92 ∷ 117 ∷ 123 ∷ (digits ++ (125 ∷ 34 ∷ []))
 
 module _ (digits : List ℕ) (all : run is_xdigit digits ≡ length digits) where
-  pub escaped_formed : none ≡ ill_formed (escaped digits)
+  pub escaped_formed : None ≡ ill_formed (escaped digits)
   escaped_formed =
       let after = low_digits digits (125 ∷ 34 ∷ []) all (omega arith, (omega arith, tt)) in
       low_formed (escaped digits) (omega arith, (omega arith, (omega arith, (omega arith, after))))
 
-  module _ (rules : Rules) (kind : escape_kind rules 117 ≡ Unicode) (c : ℕ) (e : c ≡ numeral 16 digits) where
-    braced_value : value_of false rules (braced digits) ≡ (when allows_code_point rules (length digits) c then some (utf8_bytes c) else none)
+  module _ (rules : Rules) (kind : escape_kind rules 117 ≡ Some Unicode) (c : ℕ) (e : c ≡ numeral 16 digits) where
+    braced_value : value_of false rules (braced digits) ≡ (when allows_code_point rules (length digits) c then Some (utf8_bytes c) else None)
     unfolding is_xdigit is_digit
     braced_value =
         let body = braced digits in
@@ -170,5 +170,5 @@ module _ (digits : List ℕ) (all : run is_xdigit digits ≡ length digits) wher
         only_piece false rules body (omega arith) (allows_code_point rules count c) (utf8_bytes c)
         (unicode_piece body 0 refl refl refl count (sym (run_all is_xdigit digits 125 [] all refl)) closes rules kind c (e ∙ ap (numeral 16) (sym inner)) ∙ rw many)
 
-    pub escaped_value : literal_value rules (escaped digits) ≡ (when allows_code_point rules (length digits) c then some (utf8_bytes c) else none)
+    pub escaped_value : literal_value rules (escaped digits) ≡ (when allows_code_point rules (length digits) c then Some (utf8_bytes c) else None)
     escaped_value = rw (← append_assoc digits (125 ∷ []) (34 ∷ [])) (quoted_value (braced digits) rules ∙ braced_value)

@@ -1,5 +1,6 @@
 -- Laws of string literals: a law for each way that the code reads a literal's text, an escape or a piece.
 -- Assumes nothing.
+use Rattle.std.specs.Prelude.{Option, Some}
 use Prim.Native.Nat.{ℕ, ◌+◌, ◌*◌, ◌-◌, ◌≤◌, ◌<◌, min}
 use native.Mathlib.Omega.{arith}
 use mathlib.Core.Path.{◌≡◌, refl, sym, ap, ap₂, ◌∙◌}
@@ -63,7 +64,7 @@ both_quotes raw e =
 -- ---- Escapes
 
 module _ (rules : Rules) (b : ℕ) where
-  pub decimal_escape_lem : 48 ≤ b → b ≤ 57 → Decimal ≡ escape_kind rules b
+  pub decimal_escape_lem : 48 ≤ b → b ≤ 57 → Some Decimal ≡ escape_kind rules b
   unfolding escape_kind among when◌then◌else◌ is_digit
   decimal_escape_lem l h =
       rw (
@@ -105,14 +106,6 @@ module _ (rules : Rules) (value : ℕ) where
   none_allowed count h = second_false (allows_digits rules count) (allows_value rules value) (no_value h)
 
   module _ (count : ℕ) where
-    pub by_value : allows_digits rules count ≡ true → allows_value rules value ≡ allows_code_point rules count value
-    unfolding allows_code_point
-    by_value d = rw d
-
-    pub by_digits : allows_digits rules count ≡ false → false ≡ allows_code_point rules count value
-    unfolding allows_code_point
-    by_digits d = rw d
-
     module _ (e : allows_code_point rules count value ≡ true) where
       pub allowed_small : value ≤ last_code
       allowed_small = ⊎_elim (λ l. absurd (true≢false (sym e ∙ none_allowed count l))) (λ g. g) (order last_code value)
@@ -219,7 +212,7 @@ module _ (rules : Rules) (body : List ℕ) (p : ℕ) where
       -- it has no more bytes than the escape takes: one digit is a code point of one byte, and with two there are six bytes
       pub in_width : 1 ≤ count → value ≤ last_code → length (utf8_bytes value) ≤ count + 4
       unfolding exact numeral
-      in_width some small =
+      in_width there small =
           ⊎_elim (λ one. omega (arith, ap length (one_byte value (omega (arith, one_digit one))))) (λ more. omega (arith, few_bytes value)) (order count 2)
         where
           one_digit : count < 2 → value < 16
@@ -244,9 +237,9 @@ module _ (rules : Rules) (body : List ℕ) (p : ℕ) where
 
 -- the escape that the byte after a backslash begins
 module _ (rules : Rules) (body : List ℕ) (p : ℕ) where
-  pub escape_is : p + 1 < length body → (e : Escape) → e ≡ escape_kind rules (byte_at body (p + 1)) → escape_piece rules e body p ≡ escape_piece_at rules body p
+  pub escape_is : p + 1 < length body → (e : Option Escape) → e ≡ escape_kind rules (byte_at body (p + 1)) → escape_piece rules e body p ≡ escape_piece_at rules body p
   unfolding escape_piece_at
-  escape_is h e q = ap (λ (k : Escape). escape_piece rules k body p) q ∙ sym (if_true _ _ _ (lt-ltb (p + 1) (length body) h))
+  escape_is h e q = ap (λ (k : Option Escape). escape_piece rules k body p) q ∙ sym (if_true _ _ _ (lt-ltb (p + 1) (length body) h))
 
   pub escape_cut : length body ≤ p + 1 → malformed ≡ escape_piece_at rules body p
   unfolding escape_piece_at
@@ -307,7 +300,7 @@ plain_is true rules body p e =
 plain_is false rules body p e = short_byte rules body p (eqb-false (byte_at body p) 92 (not-true _ e)) ∙ piece_short rules body p false refl
 
 -- a piece that was found is the one that is wanted
-pub as_piece : {body : List ℕ} {p : ℕ} {found : Found} (v w : LiteralPiece) → v ≡ w → IsPiece v body p found → IsPiece w body p found
+pub as_piece : {body : List ℕ} {p : ℕ} {found : Option Found} (v w : LiteralPiece) → v ≡ w → IsPiece v body p found → IsPiece w body p found
 as_piece v w e t = record { is = t.is ∙ e; inside = t.inside }
 
 -- ---- Long brackets

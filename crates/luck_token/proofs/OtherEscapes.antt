@@ -1,13 +1,13 @@
 -- What `\u{XXX}` with values up to 7FFFFFFF leaves as it is: every other piece, the value of a text without `\u`, and every value that was one with
 -- characters only.
 -- Assumes nothing.
+use Rattle.std.specs.Prelude.{Option, None, Some}
 use Prim.Native.Nat.{ℕ, zero, suc, ◌+◌, ◌-◌, ◌<◌}
 use native.Mathlib.Omega.{arith}
 use mathlib.Core.Path.{◌≡◌, refl, sym, ap, subst, fun_ext, ◌∙◌}
 use mathlib.Core.Logic.{⊎_elim}
 use mathlib.Core.Bool.{Bool, true, false, ◌&&◌, true≢false}
 use mathlib.Core.List.{List, [], ◌++◌}
-use mathlib.Core.Option.{Option, none, some}
 use lib.ListN.{length, drop, length-take}
 use lib.Seq.{get_or-take, get_or-drop}
 use lib.Dec.{eqb, ltb}
@@ -42,7 +42,7 @@ use Rattle.luck_token.specs.Literal.{
 }
 use Rattle.luck_token.specs.declared.version.Rules.{Rules}
 use Rattle.luck_token.specs.declared.string.Escape.{Escape}
-use Rattle.luck_token.specs.declared.string.Escape.TheVariants.{Simple, LineBreak, Hex, Whitespace, Decimal, Unicode, Itself, Undefined}
+use Rattle.luck_token.specs.declared.string.Escape.TheVariants.{Simple, LineBreak, Hex, Whitespace, Decimal, Unicode, Itself}
 use Rattle.luck_token.proofs.Literals.{short_escape, short_byte}
 use Rattle.luck_token.proofs.Values.{item}
 
@@ -78,15 +78,15 @@ same_kind : (rules : Rules) (b : ℕ) → escape_kind (characters_only rules) b 
 unfolding escape_kind other_escape
 same_kind rules b = refl
 
-abbrev is_unicode : Escape → Bool
-is_unicode Simple = false
-is_unicode LineBreak = false
-is_unicode Hex = false
-is_unicode Whitespace = false
-is_unicode Decimal = false
-is_unicode Unicode = true
-is_unicode Itself = false
-is_unicode Undefined = false
+abbrev is_unicode : Option Escape → Bool
+is_unicode (Some Simple) = false
+is_unicode (Some LineBreak) = false
+is_unicode (Some Hex) = false
+is_unicode (Some Whitespace) = false
+is_unicode (Some Decimal) = false
+is_unicode (Some Unicode) = true
+is_unicode (Some Itself) = false
+is_unicode None = false
 
 only_u : (rules : Rules) (b : ℕ) → is_unicode (escape_kind rules b) ≡ true → b ≡ 117
 unfolding escape_kind other_escape
@@ -94,22 +94,22 @@ only_u rules b =
     by_test U _ _ _ no (λ _. by_test U _ _ _ no (λ _. by_test U _ _ _ no (λ _. by_test U _ _ _ no (λ _. by_test U _ _ _ no
     (λ _. by_test U _ _ _ (λ t _. eqb-true b 117 (and_left (eqb b 117) rules.unicode_escape t)) (λ _. by_test U _ _ _ no no))))))
   where
-    U : Escape → Type 0
+    U : Option Escape → Type 0
     U k = is_unicode k ≡ true → b ≡ 117
 
     no : {t u : Bool} → t ≡ u → false ≡ true → b ≡ 117
     no _ e = absurd (true≢false (sym e))
 
-other_escape_lem : (rules : Rules) (k : Escape) (body : List ℕ) (p : ℕ) → is_unicode k ≡ false → escape_piece (characters_only rules) k body p ≡ escape_piece rules k body p
+other_escape_lem : (rules : Rules) (k : Option Escape) (body : List ℕ) (p : ℕ) → is_unicode k ≡ false → escape_piece (characters_only rules) k body p ≡ escape_piece rules k body p
 unfolding escape_piece
-other_escape_lem rules Simple body p e = refl
-other_escape_lem rules LineBreak body p e = refl
-other_escape_lem rules Hex body p e = refl
-other_escape_lem rules Whitespace body p e = refl
-other_escape_lem rules Decimal body p e = refl
-other_escape_lem rules Unicode body p e = absurd (true≢false e)
-other_escape_lem rules Itself body p e = refl
-other_escape_lem rules Undefined body p e = refl
+other_escape_lem rules (Some Simple) body p e = refl
+other_escape_lem rules (Some LineBreak) body p e = refl
+other_escape_lem rules (Some Hex) body p e = refl
+other_escape_lem rules (Some Whitespace) body p e = refl
+other_escape_lem rules (Some Decimal) body p e = refl
+other_escape_lem rules (Some Unicode) body p e = absurd (true≢false e)
+other_escape_lem rules (Some Itself) body p e = refl
+other_escape_lem rules None body p e = refl
 
 module _ (rules : Rules) (body : List ℕ) (p : ℕ) where
   no_unicode : (byte_at body (p + 1) ≡ 117 → ⊥) → is_unicode (escape_kind rules (byte_at body (p + 1))) ≡ false
@@ -124,7 +124,7 @@ module _ (rules : Rules) (body : List ℕ) (p : ℕ) where
   other_escape_at h =
       let b = byte_at body (p + 1) in
       ap (λ (x : LiteralPiece). when ltb (p + 1) (length body) then x else malformed)
-      (ap (λ (k : Escape). escape_piece (characters_only rules) k body p) (same_kind rules b) ∙ other_escape_lem rules (escape_kind rules b) body p (no_unicode h))
+      (ap (λ (k : Option Escape). escape_piece (characters_only rules) k body p) (same_kind rules b) ∙ other_escape_lem rules (escape_kind rules b) body p (no_unicode h))
 
   other_short : (byte_at body p ≡ 92 → byte_at body (p + 1) ≡ 117 → ⊥) → short_piece (characters_only rules) body p ≡ short_piece rules body p
   other_short h =
@@ -192,16 +192,16 @@ module _ (rules : Rules) where
         (λ t e. if_true _ _ _ (both_true braces (allows_code_point rules count c) (and_left braces former t) (more_allowed count c (and_right braces former t))) ∙ e)
         (λ _ e. let z : ◌≡◌ {A = ℕ} 0 1 = cc in absurd (omega arith))
 
-    escape_stays : (k : Escape) → Stays (escape_piece (characters_only rules) k body p) (escape_piece rules k body p)
+    escape_stays : (k : Option Escape) → Stays (escape_piece (characters_only rules) k body p) (escape_piece rules k body p)
     unfolding escape_piece
-    escape_stays Simple bytes width e = e
-    escape_stays LineBreak bytes width e = e
-    escape_stays Hex bytes width e = e
-    escape_stays Whitespace bytes width e = e
-    escape_stays Decimal bytes width e = e
-    escape_stays Unicode bytes width e = unicode_stays bytes width e
-    escape_stays Itself bytes width e = e
-    escape_stays Undefined bytes width e = e
+    escape_stays (Some Simple) bytes width e = e
+    escape_stays (Some LineBreak) bytes width e = e
+    escape_stays (Some Hex) bytes width e = e
+    escape_stays (Some Whitespace) bytes width e = e
+    escape_stays (Some Decimal) bytes width e = e
+    escape_stays (Some Unicode) bytes width e = unicode_stays bytes width e
+    escape_stays (Some Itself) bytes width e = e
+    escape_stays None bytes width e = e
 
     escape_at_stays : Stays (escape_piece_at (characters_only rules) body p) (escape_piece_at rules body p)
     unfolding escape_piece_at
@@ -220,16 +220,16 @@ module _ (old new : ℕ → List ℕ → Turn (List ℕ) (Option (List ℕ))) (v
   on item n p t = elim t [ stop a ↦ a | goes width after ↦ walk item whole_value n (width - 1) (suc p) after ]
 
   turn_stays : (n p : ℕ) (before : List ℕ) (q r : LiteralPiece) → Stays q r
-      → ((width : ℕ) (after : List ℕ) → walk old whole_value n (width - 1) (suc p) after ≡ some v → walk new whole_value n (width - 1) (suc p) after ≡ some v)
-      → on old n p (piece_turn before q) ≡ some v → on new n p (piece_turn before r) ≡ some v
+      → ((width : ℕ) (after : List ℕ) → walk old whole_value n (width - 1) (suc p) after ≡ Some v → walk new whole_value n (width - 1) (suc p) after ≡ Some v)
+      → on old n p (piece_turn before q) ≡ Some v → on new n p (piece_turn before r) ≡ Some v
   unfolding piece_turn
   turn_stays n p before malformed r s rest e = let z : ◌≡◌ {A = ℕ} 0 1 = cc in absurd (omega arith)
   turn_stays n p before (piece bytes width) r s rest e =
-      subst (λ (x : LiteralPiece). on new n p (piece_turn before x) ≡ some v) (sym (s bytes width refl)) (rest width (before ++ bytes) e)
+      subst (λ (x : LiteralPiece). on new n p (piece_turn before x) ≡ Some v) (sym (s bytes width refl)) (rest width (before ++ bytes) e)
 
 module _ (long : Bool) (rules : Rules) (body : List ℕ) where
-  walk_stays : (n k p : ℕ) (before v : List ℕ) → walk (item long (characters_only rules) body) whole_value n k p before ≡ some v
-      → walk (item long rules body) whole_value n k p before ≡ some v
+  walk_stays : (n k p : ℕ) (before v : List ℕ) → walk (item long (characters_only rules) body) whole_value n k p before ≡ Some v
+      → walk (item long rules body) whole_value n k p before ≡ Some v
   unfolding walk
   walk_stays zero k p before v e = e
   walk_stays (suc n) (suc k) p before v e = walk_stays n k (suc p) before v e
@@ -237,17 +237,17 @@ module _ (long : Bool) (rules : Rules) (body : List ℕ) where
       turn_stays (item long (characters_only rules) body) (item long rules body) v n p before (piece_at long (characters_only rules) body p) (piece_at long rules body p)
       (piece_stays rules body p long) (λ width after. walk_stays n (width - 1) (suc p) after v) e
 
-  value_stays : (v : List ℕ) → value_of long (characters_only rules) body ≡ some v → value_of long rules body ≡ some v
+  value_stays : (v : List ℕ) → value_of long (characters_only rules) body ≡ Some v → value_of long rules body ≡ Some v
   unfolding value_of walk_from
   value_stays v = walk_stays (length body - 0) 0 0 [] v
 
-pub literal_stays : (rules : Rules) (raw v : List ℕ) → literal_value (characters_only rules) raw ≡ some v → literal_value rules raw ≡ some v
+pub literal_stays : (rules : Rules) (raw v : List ℕ) → literal_value (characters_only rules) raw ≡ Some v → literal_value rules raw ≡ Some v
 unfolding literal_value when◌then◌else◌
 literal_stays rules raw v =
     go (ltb 0 (bracket_width raw)) (is_short raw) _ _ _ _ (value_stays true rules (long_string_body rules.lfcr_line_break raw) v) (value_stays false rules (part raw 1 (length raw - 1)) v)
   where
-    go : (t u : Bool) (x y x' y' : Option (List ℕ)) → (x ≡ some v → x' ≡ some v) → (y ≡ some v → y' ≡ some v)
-        → (when t then x else when u then y else none) ≡ some v → (when t then x' else when u then y' else none) ≡ some v
+    go : (t u : Bool) (x y x' y' : Option (List ℕ)) → (x ≡ Some v → x' ≡ Some v) → (y ≡ Some v → y' ≡ Some v)
+        → (when t then x else when u then y else None) ≡ Some v → (when t then x' else when u then y' else None) ≡ Some v
     go true u x y x' y' f g = f
     go false true x y x' y' f g = g
     go false false x y x' y' f g = λ e. e

@@ -2,13 +2,13 @@
 -- `piece_at` and `literal_value` in specs/Literal.antt, `after_text` in specs/Text.antt, `rules_of` in specs/Version.antt,
 -- `utf8_bytes`, `is_char` and `ill_formed` in specs/Utf8.antt of luck_utf8.
 -- Assumes nothing.
+use Rattle.std.specs.Prelude.{None, Some}
 use Prim.Native.Nat.{ℕ, ◌+◌, ◌≤◌}
 use Prim.Native.Char.{code}
 use native.Mathlib.Omega.{arith}
 use mathlib.Core.Path.{◌≡◌, refl, sym, ap, ◌∙◌}
 use mathlib.Core.Bool.{Bool, true, false, ◌&&◌, ◌||◌}
 use mathlib.Core.List.{List, [], ◌∷◌, ◌++◌}
-use mathlib.Core.Option.{none, some}
 use lib.ListN.{length, drop}
 use lib.Dec.{eqb, leb}
 use Rattle.luck_text.specs.Bytes.{when◌then◌else◌, byte_at, part, ascii, between, among, is_xdigit, run, numeral}
@@ -125,7 +125,7 @@ module _ (version : ℕ) (known : among version (3 ∷ 4 ∷ 5 ∷ 6 ∷ []) ≡
   -- and so in a literal that has nothing else
   pub literal_decoded : (digits : List ℕ) (c room : ℕ) → run is_xdigit digits ≡ length digits → c ≡ numeral 16 digits
       → decode_string version (ascii "\"\\u{" ++ digits ++ ascii "}\"") room
-      ≡ with_room room (when decodes version (length digits) c then some (utf8_bytes c) else none)
+      ≡ with_room room (when decodes version (length digits) c then Some (utf8_bytes c) else None)
   literal_decoded digits c room all spelled =
       sym (literal version (escaped digits) room (known_version version known) (escaped_formed digits all))
       ∙ ap (with_room room) (escaped_value digits all (rules_of version) (unicode_kind version known) c spelled)
@@ -162,8 +162,8 @@ module _ (rules : Rules) where
   values_left raw h = sym (other_literal rules raw h)
 
   -- and each value that there was: only refusals became values
-  pub values_kept : (raw v : List ℕ) → literal_value (characters_only rules) raw ≡ some v
-      → literal_value rules raw ≡ some v
+  pub values_kept : (raw v : List ℕ) → literal_value (characters_only rules) raw ≡ Some v
+      → literal_value rules raw ≡ Some v
   values_kept = literal_stays rules
 
 -- ---- A text with a code point that has no character
@@ -171,7 +171,7 @@ module _ (rules : Rules) where
 -- such a text is refused by 23 at the first byte of the code point, where what stands before is UTF-8: whatever form
 -- the refusal has, and whatever the answer to a text that is UTF-8 would be
 pub no_character_refused : {A : Type 0} (refusal : ℕ → ℕ → A) (answer : A) (version : ℕ) → is_version version ≡ true
-    → (before after : List ℕ) → ill_formed before ≡ none → (c : ℕ) → c ≤ 0x7FFF_FFFF → is_char c ≡ false
+    → (before after : List ℕ) → ill_formed before ≡ None → (c : ℕ) → c ≤ 0x7FFF_FFFF → is_char c ≡ false
     → after_text refusal version (before ++ utf8_bytes c ++ after) answer ≡ refusal 23 (length before)
 no_character_refused refusal answer version known before after utf8 c last e =
     sym (text_ill_formed refusal version (before ++ utf8_bytes c ++ after) answer known (length before)

@@ -1,5 +1,6 @@
 -- Laws of a literal's value and of decoding it: a turn of the walk, what is written so far, and the outcomes.
 -- Assumes nothing.
+use Rattle.std.specs.Prelude.{Option, None, Some, Ok, Err}
 use Prim.Native.Nat.{ℕ, zero, suc, ◌+◌, ◌-◌, ◌≤◌, ◌<◌}
 use native.Mathlib.Nat.{le_refl, add-zero}
 use native.Mathlib.Numerals.{add-one}
@@ -7,9 +8,8 @@ use native.Mathlib.Omega.{arith}
 use mathlib.Core.Path.{◌≡◌, refl, sym, ap, ap₂, subst, ◌∙◌}
 use mathlib.Core.Bool.{Bool, true, false, ◌&&◌}
 use mathlib.Core.List.{List, [], ◌∷◌, ◌++◌, append_assoc, append-nil}
-use mathlib.Core.Option.{Option, none, some}
 use lib.ListN.{length, take, drop, set, length-append}
-use lib.Seq.{take_all, drop-length, drop-cons, take_at, set-append_seam, sets, length-sets}
+use lib.Seq.{take_all, drop-cons, take_at, set-append_seam, sets, length-sets}
 use lib.Dec.{eqb, leb}
 use borrow.Author.Tests.{lt-ltb, le-ltb, le-leb, lt-leb, leb-true}
 use Rattle.luck_text.specs.Bytes.{when◌then◌else◌, byte_at, part}
@@ -35,14 +35,15 @@ use Rattle.luck_token.specs.Literal.{
   literal_value,
 }
 use Rattle.luck_token.specs.Decode.{refused, with_room, decode_string, decoding_of, numbered, output_of}
-use Rattle.luck_token.proofs.Texts.{text_fine, text_ill_formed, text_unknown_version}
+use Rattle.luck_token.specs.Text.{text_refusal, read_text}
+use Rattle.luck_token.specs.declared.text.TextError.{TextError}
+use Rattle.luck_token.specs.declared.text.TextError.TheVariants.{UnknownVersion, NotUtf8}
+use Rattle.luck_token.proofs.Texts.{text_fine, by_error, by_rules}
 use Rattle.luck_token.specs.Inner.{IsPiece, LiesInText, size_of, plain, SizeWithin, Written}
 use Rattle.luck_output.specs.Output.{stores}
 use Rattle.luck_token.specs.declared.version.Rules.{Rules}
 use Rattle.luck_token.specs.declared.string.Piece.{Piece as Found}
-use Rattle.luck_token.specs.declared.string.Size.{Size}
-use Rattle.luck_token.specs.declared.string.Size.TheVariants as size
-use Rattle.luck_token.specs.declared.string.Decoded.TheVariants as decoded
+use Rattle.luck_token.specs.declared.string.DecodeError.TheVariants as error
 use Rattle.luck_text.proofs.Cases.{by_test, if_true, if_false, and_left}
 use Rattle.luck_output.proofs.Outputs.{stores_fit, part_length}
 use Rattle.luck_token.proofs.Literals.{plain_is, quoted}
@@ -66,11 +67,11 @@ module _ (long : Bool) (rules : Rules) (body : List ℕ) where
     unfolding piece_turn
     turn bytes width e l i = sym (walk_goes item whole_value (length body) p before width (before ++ bytes) l i (sym (ap (piece_turn before) e))) ∙ h
 
-    pub bad : malformed ≡ piece_at long rules body p → p < length body → none ≡ whole
+    pub bad : malformed ≡ piece_at long rules body p → p < length body → None ≡ whole
     unfolding piece_turn
-    bad e l = sym (walk_stop item whole_value (length body) p before none l (sym (ap (piece_turn before) e))) ∙ h
+    bad e l = sym (walk_stop item whole_value (length body) p before None l (sym (ap (piece_turn before) e))) ∙ h
 
-    pub done : length body ≤ p → some before ≡ whole
+    pub done : length body ≤ p → Some before ≡ whole
     unfolding whole_value
     done l = sym (walk_end item whole_value (length body) p before l) ∙ h
 
@@ -98,20 +99,20 @@ module _ (long : Bool) (rules : Rules) (body : List ℕ) where
         subst (λ (q : ℕ). on q (before ++ part body p end) ≡ whole) e (passed (end - p) p before h (omega arith) (λ j m n. f j m (omega arith)))
 
   -- what is known of a piece that was found, once its shape is
-  pub seen : {p : ℕ} {found : Found} (shape : Found) → found ≡ shape → IsPiece (piece_at long rules body p) body p found → IsPiece (piece_at long rules body p) body p shape
-  seen {p} shape e t = subst (λ (x : Found). IsPiece (piece_at long rules body p) body p x) e t
+  pub seen : {p : ℕ} {found : Option Found} (shape : Option Found) → found ≡ shape → IsPiece (piece_at long rules body p) body p found → IsPiece (piece_at long rules body p) body p shape
+  seen {p} shape e t = subst (λ (x : Option Found). IsPiece (piece_at long rules body p) body p x) e t
 
   -- a body of plain bytes is its value
-  pub plain_value : ((k : ℕ) → k < length body → plain long body k ≡ true) → some body ≡ value_of long rules body
+  pub plain_value : ((k : ℕ) → k < length body → plain long body k ≡ true) → Some body ≡ value_of long rules body
   plain_value f =
       let all = plain_part (value_of long rules body) 0 (length body) [] start (omega arith) (le_refl (length body)) (λ j l m. f j m) in
       let e : part body 0 (length body) ≡ body = take_all (length body - 0) body (omega arith) in
-      ap some (sym e) ∙ done (length body) (part body 0 (length body)) (value_of long rules body) all (le_refl (length body))
+      ap Some (sym e) ∙ done (length body) (part body 0 (length body)) (value_of long rules body) all (le_refl (length body))
 
 -- a long string is never malformed
 module _ (rules : Rules) (body : List ℕ) where
   abbrev There : List ℕ → Option (List ℕ) → Type 0
-  There before o = o ≡ none → ⊥
+  There before o = o ≡ None → ⊥
 
   no_stop : (p : ℕ) (before : List ℕ) (a : Option (List ℕ)) → piece_turn before (piece_at true rules body p) ≡ stop a → There before a
   unfolding piece_turn piece_at long_piece
@@ -123,7 +124,7 @@ module _ (rules : Rules) (body : List ℕ) where
   unfolding whole_value
   value_there p before e = let z : ◌≡◌ {A = ℕ} 0 1 = cc in omega arith
 
-  pub long_value : (long : Bool) → long ≡ true → value_of long rules body ≡ none → ⊥
+  pub long_value : (long : Bool) → long ≡ true → value_of long rules body ≡ None → ⊥
   unfolding value_of
   long_value long t = rw t (walk_related (item true rules body) whole_value There no_stop (λ p s w s' a e r. r) value_there (length body) 0 [])
 
@@ -196,10 +197,10 @@ module _ (long : Bool) (rules : Rules) (body : List ℕ) where
           rest = plain_part long rules body (value_of long rules body) at end before read.rest l i f;
         }
 
-    pub read_end : length body ≤ at → size.Length n ≡ size_of (value_of long rules body)
-    read_end l = ap size.Length read.number ∙ ap size_of (done long rules body at before (value_of long rules body) read.rest l)
+    pub read_end : length body ≤ at → Some n ≡ size_of (value_of long rules body)
+    read_end l = ap Some read.number ∙ ap size_of (done long rules body at before (value_of long rules body) read.rest l)
 
-    pub read_bad : malformed ≡ piece_at long rules body at → at < length body → none ≡ value_of long rules body
+    pub read_bad : malformed ≡ piece_at long rules body at → at < length body → None ≡ value_of long rules body
     read_bad q l = bad long rules body at before (value_of long rules body) read.rest q l
 
   abbrev pub Kept : List ℕ → List ℕ → ℕ → ℕ → Type 0
@@ -217,66 +218,75 @@ module _ (long : Bool) (rules : Rules) (body : List ℕ) where
         (kept.0 ++ part body at end, read_part at n kept.0 kept.1 end l i f, holds_more output n (part body at end) kept.0 output₀ new kept.1.number w kept.2)
 
     pub kept_end : length body ≤ at
-        → (size.Length n ≡ size_of (value_of long rules body)) × (SizeWithin (size.Length n) (length body) × Written (value_of long rules body) output₀ output)
+        → (Some n ≡ size_of (value_of long rules body)) × (SizeWithin (Some n) (length body) × Written (value_of long rules body) output₀ output)
     kept_end l =
         let e = done long rules body at kept.0 (value_of long rules body) kept.1.rest l in
         (read_end at n kept.0 kept.1 l, (omega (arith, kept.1.no_more, kept.1.inside), subst (λ (o : Option (List ℕ)). Written o output₀ output) e kept.2.front))
 
     pub kept_bad : malformed ≡ piece_at long rules body at → at < length body
-        → (size.Malformed ≡ size_of (value_of long rules body)) × (SizeWithin size.Malformed (length body) × Written (value_of long rules body) output₀ output)
+        → (None ≡ size_of (value_of long rules body)) × (SizeWithin None (length body) × Written (value_of long rules body) output₀ output)
     kept_bad q l =
         let e = read_bad at n kept.0 kept.1 q l in
         (ap size_of e, (tt, subst (λ (o : Option (List ℕ)). Written o output₀ output) e tt))
 
-pub written : (o : Option (List ℕ)) (before output₀ : List ℕ) → some before ≡ o → length before ≤ length output₀
+pub written : (o : Option (List ℕ)) (before output₀ : List ℕ) → Some before ≡ o → length before ≤ length output₀
     → before ++ drop (length before) output₀ ≡ output_of (with_room (length output₀) o) output₀
 unfolding with_room output_of when◌then◌else◌
 written o before output₀ e h = rw (← e, le-leb (length before) (length output₀) h)
 
 -- ---- The outcomes
 
-pub no_size : (o : Option (List ℕ)) → size.Malformed ≡ size_of o → o ≡ none
-no_size none e = refl
-no_size (some v) e = let z : ◌≡◌ {A = ℕ} 0 1 = cc in absurd (omega arith)
+pub no_size : (o : Option (List ℕ)) → None ≡ size_of o → o ≡ None
+no_size None e = refl
+no_size (Some v) e = let z : ◌≡◌ {A = ℕ} 0 1 = cc in absurd (omega arith)
 
-pub has_size : (o : Option (List ℕ)) (n : ℕ) → size.Length n ≡ size_of o → (v : List ℕ) × (o ≡ some v) × (n ≡ length v)
-has_size none n e = let z : ◌≡◌ {A = ℕ} 0 1 = cc in absurd (omega arith)
-has_size (some v) n e = (v, refl, cc)
-
--- a body stands at its own front
-pub whole : (body : List ℕ) → Written (some body) body body
-whole body l = rw (drop-length body, append-nil body)
+pub has_size : (o : Option (List ℕ)) (n : ℕ) → Some n ≡ size_of o → (v : List ℕ) × (o ≡ Some v) × (n ≡ length v)
+has_size None n e = let z : ◌≡◌ {A = ℕ} 0 1 = cc in absurd (omega arith)
+has_size (Some v) n e = (v, refl, cc)
 
 -- a value that is no longer than its body has room where the body has
-pub in_room : (n : ℕ) (found : Size) → found ≡ size.Length n → {len room : ℕ} → SizeWithin found len → len ≤ room → n ≤ room
-in_room n found e {len} w l = let h : SizeWithin (size.Length n) len = subst (λ (x : Size). SizeWithin x len) e w in omega arith
+pub in_room : (n : ℕ) (found : Option ℕ) → found ≡ Some n → {len room : ℕ} → SizeWithin found len → len ≤ room → n ≤ room
+in_room n found e {len} w l = let h : SizeWithin (Some n) len = subst (λ (x : Option ℕ). SizeWithin x len) e w in omega arith
+
+pub refused_answer : (e : TextError) → numbered (Err (error.Text e)) ≡ decoding_of (text_refusal refused e)
+unfolding numbered decoding_of
+refused_answer UnknownVersion = refl
+refused_answer (NotUtf8 place) = refl
+
+pub refused_output : (e : TextError) (output : List ℕ) → output ≡ output_of (text_refusal refused e) output
+unfolding output_of
+refused_output UnknownVersion output = refl
+refused_output (NotUtf8 place) output = refl
 
 module _ (o : Option (List ℕ)) (output : List ℕ) where
-  pub undecodable : o ≡ none → (numbered decoded.Undecodable ≡ decoding_of (with_room (length output) o)) × (output ≡ output_of (with_room (length output) o) output)
+  pub undecodable : o ≡ None → (numbered (Err error.Undecodable) ≡ decoding_of (with_room (length output) o)) × (output ≡ output_of (with_room (length output) o) output)
   unfolding numbered decoding_of with_room output_of
   undecodable e = (rw e, rw e)
 
-  module _ (n : ℕ) (h : (v : List ℕ) × (o ≡ some v) × (n ≡ length v)) where
-    pub too_short : length output < n → (numbered decoded.OutputTooShort ≡ decoding_of (with_room (length output) o)) × (output ≡ output_of (with_room (length output) o) output)
+  module _ (n : ℕ) (h : (v : List ℕ) × (o ≡ Some v) × (n ≡ length v)) where
+    pub too_short : length output < n → (numbered (Err error.OutputTooShort) ≡ decoding_of (with_room (length output) o)) × (output ≡ output_of (with_room (length output) o) output)
     unfolding numbered decoding_of with_room output_of when◌then◌else◌
     too_short l =
         let t = lt-leb (length h.0) (length output) (omega (arith, h.2)) in
         (rw (h.1, t), rw (h.1, t))
 
+    pub stored_value : n ≤ length output → sets output 0 h.0 ≡ output_of (with_room (length output) o) output
+    stored_value m = stored h.0 [] output output 0 refl refl (omega (arith, h.2)) ∙ written o h.0 output (sym h.1) (omega (arith, h.2))
+
     pub copied_value : (buffer₀ buffer : List ℕ) → Written o buffer₀ buffer → n ≤ length buffer₀ → n ≤ length output
-        → sets output 0 (part buffer 0 n) ≡ output_of (with_room (length output) o) output
+        → sets output 0 (take n buffer) ≡ output_of (with_room (length output) o) output
     copied_value buffer₀ buffer w l m =
         let v = h.0 in
-        let f : Written (some v) buffer₀ buffer = subst (λ (x : Option (List ℕ)). Written x buffer₀ buffer) h.1 w in
-        let e : part buffer 0 n ≡ v = rw (f (omega (arith, h.2))) (take_at v (drop (length v) buffer₀) (n - 0) (omega (arith, h.2))) in
-        ap (sets output 0) e ∙ stored v [] output output 0 refl refl (omega (arith, h.2)) ∙ written o v output (sym h.1) (omega (arith, h.2))
+        let f : Written (Some v) buffer₀ buffer = subst (λ (x : Option (List ℕ)). Written x buffer₀ buffer) h.1 w in
+        let e : take n buffer ≡ v = rw (f (omega (arith, h.2))) (take_at v (drop (length v) buffer₀) n (omega (arith, h.2))) in
+        ap (sets output 0) e ∙ stored_value m
 
     pub written_value : (new : List ℕ) → Written o output new → n ≤ length output → new ≡ output_of (with_room (length output) o) output
     written_value new w m =
-        let f : Written (some h.0) output new = subst (λ (x : Option (List ℕ)). Written x output new) h.1 w in
+        let f : Written (Some h.0) output new = subst (λ (x : Option (List ℕ)). Written x output new) h.1 w in
         f (omega (arith, h.2)) ∙ written o h.0 output (sym h.1) (omega (arith, h.2))
 
-    pub fits : n ≤ length output → numbered (decoded.Value n) ≡ decoding_of (with_room (length output) o)
+    pub fits : n ≤ length output → numbered (Ok n) ≡ decoding_of (with_room (length output) o)
     unfolding numbered decoding_of with_room when◌then◌else◌
     fits l =
         let t = le-leb (length h.0) (length output) (omega (arith, h.2)) in
@@ -306,19 +316,21 @@ module _ (rules : Rules) (raw : List ℕ) where
   unfolding literal_value
   short_literal e = sym (if_false _ _ _ (le-ltb 0 (bracket_width raw) (omega (arith, quoted raw e))) ∙ if_true _ _ _ e)
 
-  pub no_literal : bracket_width raw ≤ 0 → is_short raw ≡ false → literal_value rules raw ≡ none
+  pub no_literal : bracket_width raw ≤ 0 → is_short raw ≡ false → literal_value rules raw ≡ None
   unfolding literal_value
   no_literal h e = if_false _ _ _ (le-ltb 0 (bracket_width raw) h) ∙ if_false _ _ _ e
 
 module _ (version : ℕ) (raw : List ℕ) (room : ℕ) where
-  pub unknown_version : is_version version ≡ false → refused 25 0 ≡ decode_string version raw room
+  pub refused_text : (e : TextError) → read_text version raw ≡ Err e → text_refusal refused e ≡ decode_string version raw room
   unfolding decode_string
-  unknown_version = text_unknown_version refused version raw _
+  refused_text e h = by_error version raw refused e h _
 
-  pub not_utf8 : is_version version ≡ true → (p : ℕ) → some p ≡ ill_formed raw → refused 23 p ≡ decode_string version raw room
+  pub read_literal : (rules : Rules) → read_text version raw ≡ Ok rules → with_room room (literal_value rules raw) ≡ decode_string version raw room
   unfolding decode_string
-  not_utf8 = text_ill_formed refused version raw _
+  read_literal rules h =
+      let r = by_rules version raw refused rules h in
+      ap (λ (x : Rules). with_room room (literal_value x raw)) r.0 ∙ r.1 (with_room room (literal_value (rules_of version) raw))
 
-  pub literal : is_version version ≡ true → none ≡ ill_formed raw → with_room room (literal_value (rules_of version) raw) ≡ decode_string version raw room
+  pub literal : is_version version ≡ true → None ≡ ill_formed raw → with_room room (literal_value (rules_of version) raw) ≡ decode_string version raw room
   unfolding decode_string
   literal = text_fine refused version raw _

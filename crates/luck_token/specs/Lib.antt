@@ -1,4 +1,5 @@
 pub mod Version
+pub mod Versions
 pub mod Text
 pub mod Whitespace
 pub mod Literal

@@ -3,9 +3,9 @@
 -- A literal's text is taken apart into what stands between its quotes or brackets, and that into pieces; its value is
 -- the pieces' bytes.
 -- Assumes nothing.
-use Rattle.std.specs.Prelude.{ℕ, ◌+◌, ◌-◌, min, max, Bool, true, false, not, ◌&&◌, ◌||◌, List, [], ◌∷◌, ◌++◌, length, drop, eqb, leb, ltb}
+use Rattle.std.specs.Prelude.{ℕ, ◌+◌, ◌-◌, min, max, Bool, true, false, not, ◌&&◌, ◌||◌, eqb, leb, ltb}
+use Rattle.std.specs.Prelude.{List, [], ◌∷◌, ◌++◌, length, drop, Option, None, Some}
 use Prim.Native.Char.{code}
-use Rattle.std.proofs.Math.Option.{Option, none, some}
 use Rattle.luck_text.specs.Bytes.{
   when◌then◌else◌,
   ascii,
@@ -20,10 +20,9 @@ use Rattle.luck_text.specs.Bytes.{
 }
 use Rattle.luck_text.specs.Walk.{Turn, stop, goes, walk_from}
 use Rattle.luck_utf8.specs.Utf8.{last_code, is_char, utf8_bytes}
+use Rattle.std.specs.declared.ops.Range.{Range}
 use Rattle.luck_token.specs.Whitespace.{line_break, strip_line_break}
 use Rattle.luck_token.specs.declared.version.Rules.{Rules}
-use Rattle.luck_token.specs.declared.string.ShortString.{ShortString}
-use Rattle.luck_token.specs.declared.string.ShortString.TheVariants.{Body, Other}
 use Rattle.luck_token.specs.declared.string.Escape.{Escape}
 use Rattle.luck_token.specs.declared.string.Escape.TheVariants.{
   Simple,
@@ -33,7 +32,6 @@ use Rattle.luck_token.specs.declared.string.Escape.TheVariants.{
   Decimal,
   Unicode,
   Itself,
-  Undefined,
 }
 
 -- ---- The literal's text
@@ -46,11 +44,11 @@ is_short raw =
 
 -- what stands between the quotes: its start and its end
 unfoldable pub short_string_body : List ℕ → Option (ℕ × ℕ)
-short_string_body raw = when is_short raw then some (1, length raw - 1) else none
+short_string_body raw = when is_short raw then Some (1, length raw - 1) else None
 
-abbrev pub places_of : ShortString → Option (ℕ × ℕ)
-places_of (Body start end) = some (start, end)
-places_of Other = none
+abbrev pub places_of : Option (Range ℕ) → Option (ℕ × ℕ)
+places_of (Some range) = Some (range.start, range.end)
+places_of None = None
 
 -- how many `=` stand from place p on
 unfoldable pub equals : List ℕ → ℕ → ℕ
@@ -88,19 +86,20 @@ long_piece lfcr body p =
     when eqb width 0 then piece (byte_at body p ∷ []) 1 else piece (code "\n" ∷ []) width
 
 -- an escape that the version does not define: 5.1 and Luau read the byte as itself
-unfoldable pub other_escape : Rules → Escape
-other_escape rules = when rules.strict_escapes then Undefined else Itself
+unfoldable pub other_escape : Rules → Option Escape
+other_escape rules = when rules.strict_escapes then None else Some Itself
 
--- what the byte after a backslash begins. The code's enum Escape: Simple (`\n`, `\"` and such), LineBreak, Hex
--- `\xXX`, Whitespace `\z`, Decimal `\ddd`, Unicode `\u{XXX}`, Itself (the byte stands for itself), Undefined.
-unfoldable pub escape_kind : Rules → ℕ → Escape
+-- what the byte after a backslash begins, none where the version does not define it. The code's enum Escape: Simple
+-- (`\n`, `\"` and such), LineBreak, Hex `\xXX`, Whitespace `\z`, Decimal `\ddd`, Unicode `\u{XXX}`, Itself (the byte
+-- stands for itself).
+unfoldable pub escape_kind : Rules → ℕ → Option Escape
 escape_kind rules e =
-    when among e (ascii "abfnrtv\\\"'") then Simple
-    else when eqb e (code "\n") || eqb e (code "\r") then LineBreak
-    else when is_digit e then Decimal
-    else when eqb e (code "x") && rules.hex_escape then Hex
-    else when eqb e (code "z") && rules.hex_escape then Whitespace
-    else when eqb e (code "u") && rules.unicode_escape then Unicode
+    when among e (ascii "abfnrtv\\\"'") then Some Simple
+    else when eqb e (code "\n") || eqb e (code "\r") then Some LineBreak
+    else when is_digit e then Some Decimal
+    else when eqb e (code "x") && rules.hex_escape then Some Hex
+    else when eqb e (code "z") && rules.hex_escape then Some Whitespace
+    else when eqb e (code "u") && rules.unicode_escape then Some Unicode
     else other_escape rules
 
 -- the byte of an escape of kind Simple: 07, 08, 0C and 0B are BEL, BS, FF and VT; a backslash or a quote is itself
@@ -158,15 +157,15 @@ unicode_escape rules body p =
     else malformed
 
 -- the escape whose backslash stands at place p
-unfoldable pub escape_piece : Rules → Escape → List ℕ → ℕ → LiteralPiece
-escape_piece rules Simple body p = piece (simple_escape (byte_at body (p + 1)) ∷ []) 2
-escape_piece rules LineBreak body p = line_break_escape rules.lfcr_line_break body p
-escape_piece rules Hex body p = hex_escape body p
-escape_piece rules Whitespace body p = whitespace_escape body p
-escape_piece rules Decimal body p = decimal_escape body p
-escape_piece rules Unicode body p = unicode_escape rules body p
-escape_piece rules Itself body p = piece (byte_at body (p + 1) ∷ []) 2
-escape_piece rules Undefined body p = malformed
+unfoldable pub escape_piece : Rules → Option Escape → List ℕ → ℕ → LiteralPiece
+escape_piece rules (Some Simple) body p = piece (simple_escape (byte_at body (p + 1)) ∷ []) 2
+escape_piece rules (Some LineBreak) body p = line_break_escape rules.lfcr_line_break body p
+escape_piece rules (Some Hex) body p = hex_escape body p
+escape_piece rules (Some Whitespace) body p = whitespace_escape body p
+escape_piece rules (Some Decimal) body p = decimal_escape body p
+escape_piece rules (Some Unicode) body p = unicode_escape rules body p
+escape_piece rules (Some Itself) body p = piece (byte_at body (p + 1) ∷ []) 2
+escape_piece rules None body p = malformed
 
 unfoldable pub escape_piece_at : Rules → List ℕ → ℕ → LiteralPiece
 escape_piece_at rules body p =
@@ -188,11 +187,11 @@ piece_at false rules body p = short_piece rules body p
 
 -- the bytes so far and those of one more piece
 unfoldable pub piece_turn : List ℕ → LiteralPiece → Turn (List ℕ) (Option (List ℕ))
-piece_turn before malformed = stop none
+piece_turn before malformed = stop None
 piece_turn before (piece bytes width) = goes width (before ++ bytes)
 
 unfoldable pub whole_value : ℕ → List ℕ → Option (List ℕ)
-whole_value p before = some before
+whole_value p before = Some before
 
 unfoldable pub value_of : Bool → Rules → List ℕ → Option (List ℕ)
 value_of long rules body =
@@ -203,4 +202,4 @@ unfoldable pub literal_value : Rules → List ℕ → Option (List ℕ)
 literal_value rules raw =
     let long = value_of true rules (long_string_body rules.lfcr_line_break raw) in
     let short = value_of false rules (part raw 1 (length raw - 1)) in
-    when ltb 0 (bracket_width raw) then long else when is_short raw then short else none
+    when ltb 0 (bracket_width raw) then long else when is_short raw then short else None

@@ -4,5 +4,6 @@
 
 pub mod span;
 pub mod string;
+pub mod text;
 pub mod version;
 pub mod whitespace;

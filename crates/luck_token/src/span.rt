@@ -13,13 +13,11 @@ pub struct Span {
 fn index_to_offset(index: usize) -> u32
     ensures { result ≡ min index u32_max }
 {
-    if 0xFFFF_FFFF < index {
-        return 0xFFFF_FFFF;
-    }
-    index as u32
+    u32::try_from(index).unwrap_or(u32::MAX)
 }
 
 impl Span {
+    #[tactic(auto, unfolding(crate::specs::Span::span_of))]
     pub fn from_indices(start: usize, end: usize) -> Self
         ensures { result ≡ span_of start end }
     {
@@ -30,6 +28,7 @@ impl Span {
     }
 
     // This span moved `offset` bytes later, saturating at the 4 GB cap.
+    #[tactic(auto, unfolding(crate::specs::Span::shifted_by))]
     pub fn shifted(self, offset: u32) -> Self
         ensures { result ≡ shifted_by self offset }
     {

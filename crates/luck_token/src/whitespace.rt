@@ -6,16 +6,16 @@ ghost use Rattle.luck_token.specs.Whitespace.{line_break, strip_line_break};
 
 use crate::version;
 use luck_text::scan;
-use luck_text::scan::Class;
+use luck_text::scan::{Class, Whitespace};
 
 pub fn is_lua_whitespace(byte: u8) -> bool
     ensures { result ≡ is_lua_whitespace byte }
 {
-    scan::is_in(Class::Whitespace, byte)
+    Whitespace.has(byte)
 }
 
-// How many bytes the line break at `at` has, 0 where there is none. Sums instead of branches: which of the breaks comes
-// next can't be foreseen.
+// How many bytes the line break at `at` has, 0 where there is none: callers pass over them, and so over none. Sums instead
+// of branches: which of the breaks comes next can't be foreseen.
 pub fn line_break(text: &[u8], at: usize, lfcr: bool) -> usize
     ensures { result ≡ line_break lfcr text.now at }
 {

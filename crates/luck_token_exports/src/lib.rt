@@ -13,11 +13,10 @@ ghost use Rattle.luck_token.specs.Whitespace.{strip_line_break};
 ghost use Rattle.luck_token_exports.specs.Answers.{place_or, body_struct};
 
 use luck_token::span::Span;
-use luck_token::string::ShortString;
 use luck_token::version::Rules;
 use luck_token::{string, version, whitespace};
 use luck_utf8::utf8;
-use luck_utf8::utf8::{Char, Utf8};
+use luck_utf8::utf8::Char;
 
 pub fn luck_token_rules(version: u32) -> Rules
     ensures { result ≡ rules_of version }
@@ -29,10 +28,9 @@ pub fn luck_token_rules(version: u32) -> Rules
 pub fn luck_token_utf8(text: &[u8]) -> usize
     ensures { result ≡ place_or (length text.now) (ill_formed text.now) }
 {
-    let utf8 = utf8::validate(text);
-    match utf8 {
-        Utf8::IllFormed(at) => at,
-        Utf8::Valid => text.len(),
+    match utf8::validate(text) {
+        Ok(()) => text.len(),
+        Err(ill_formed) => ill_formed.at,
     }
 }
 
@@ -68,14 +66,13 @@ pub struct Body {
 pub fn luck_token_short_string_body(text: &[u8]) -> Body
     ensures { result ≡ body_struct (short_string_body text.now) }
 {
-    let body = string::short_string_body(text);
-    match body {
-        ShortString::Body { start, end } => Body {
+    match string::short_string_body(text) {
+        Some(body) => Body {
             is_short: true,
-            start,
-            end,
+            start: body.start,
+            end: body.end,
         },
-        ShortString::Other => Body {
+        None => Body {
             is_short: false,
             start: 0,
             end: 0,

@@ -1,11 +1,11 @@
 -- Texts that share bytes: the walk passes a beginning that is UTF-8, and what stands between two ASCII bytes, the first
 -- and the last of a UTF-8 text, is UTF-8.
 -- Assumes nothing.
+use Rattle.std.specs.Prelude.{Option, None, Some}
 use mathlib.Core.Path.{◌≡◌, refl, sym, ap, ◌∙◌}
 use mathlib.Core.Logic.{⊎_elim}
 use mathlib.Core.Bool.{Bool, true, false, ◌&&◌}
 use mathlib.Core.List.{List, [], ◌∷◌, ◌++◌}
-use mathlib.Core.Option.{Option, none, some}
 use Prim.Native.Nat.{ℕ, zero, suc, ◌+◌, ◌-◌, ◌<◌, ◌≤◌}
 use native.Mathlib.Nat.{add-zero}
 use native.Mathlib.Omega.{arith}
@@ -17,13 +17,15 @@ use Rattle.luck_text.specs.Bytes.{byte_at, part}
 use Rattle.luck_text.specs.Walk.{walk_from}
 use Rattle.luck_text.proofs.Cases.{and_left, and_right, both_true, order}
 use Rattle.luck_text.proofs.Walk.{walk_end}
-use Rattle.luck_utf8.specs.Utf8.{Range, rfc3629, in_range, tails_of, follow, sequence, sequence_at, none_ill_formed, ill_formed}
-use Rattle.luck_utf8.proofs.Sequences.{sequence_none, sequence_refused, sequence_accepted, sequence_ascii, Formed, formed, walk_ill_formed, walk_sequence}
+use Rattle.luck_utf8.specs.Utf8.{Range, rfc3629, in_range, tails_of, follow, sequence, sequence_at}
+use Rattle.luck_utf8.specs.Utf8.{none_ill_formed, ill_formed}
+use Rattle.luck_utf8.proofs.Sequences.{sequence_none, sequence_refused, sequence_accepted, sequence_ascii}
+use Rattle.luck_utf8.proofs.Sequences.{Formed, formed, walk_ill_formed, walk_sequence}
 
 abbrev pub walk_at : List ℕ → ℕ → Option ℕ
 walk_at text p = walk_from (sequence_at text) none_ill_formed (length text) p tt
 
-some_none : (p : ℕ) → some p ≡ none → ⊥
+some_none : (p : ℕ) → Some p ≡ None → ⊥
 some_none p e = let z : ◌≡◌ {A = ℕ} 0 1 = cc in omega arith
 
 -- a body that has the text's bytes from a place on, up to an end
@@ -42,7 +44,7 @@ module _ (text body : List ℕ) (from end : ℕ) (inside : end ≤ length body)
       (follow_same ranges (q + 1) (omega arith) (rw next at rest))
 
   module _ (q w : ℕ) (e : w ≡ sequence text (q + from)) (f : w ≡ 0 → ⊥) (fits : q + w ≤ end) where
-    by_follow : (tails : List Range) → q + from < length text → tails_of rfc3629 (byte_at text (q + from)) ≡ some tails
+    by_follow : (tails : List Range) → q + from < length text → tails_of rfc3629 (byte_at text (q + from)) ≡ Some tails
         → (t : Bool) → follow text (q + from + 1) tails ≡ t → w ≡ sequence body q
     by_follow tails h r true s =
         let next : q + from + 1 ≡ q + 1 + from = omega arith in
@@ -53,8 +55,8 @@ module _ (text body : List ℕ) (from end : ℕ) (inside : end ≤ length body)
 
     by_row : q + from < length text → (o : Option (List Range)) → tails_of rfc3629 (byte_at text (q + from)) ≡ o
         → w ≡ sequence body q
-    by_row h none r = absurd (f (e ∙ sequence_none text (q + from) h r))
-    by_row h (some tails) r = by_follow tails h r (follow text (q + from + 1) tails) refl
+    by_row h None r = absurd (f (e ∙ sequence_none text (q + from) h r))
+    by_row h (Some tails) r = by_follow tails h r (follow text (q + from + 1) tails) refl
 
     sequence_same : w ≡ sequence body q
     sequence_same =
@@ -64,8 +66,8 @@ module _ (text body : List ℕ) (from end : ℕ) (inside : end ≤ length body)
   -- where no sequence of the text goes past the end, and all of them are well-formed, the body's walk comes to the end
   module _ (within : end + from ≤ length text)
       (stops : (q w : ℕ) → q < end → Formed text (q + from) w → q + w ≤ end) where
-    turn : (q : ℕ) → walk_at text (q + from) ≡ none
-        → ((w : ℕ) → q + suc w ≤ end → walk_at text (q + suc w + from) ≡ none
+    turn : (q : ℕ) → walk_at text (q + from) ≡ None
+        → ((w : ℕ) → q + suc w ≤ end → walk_at text (q + suc w + from) ≡ None
         → walk_at body (q + suc w) ≡ walk_at body end)
         → q < end → (w : ℕ) → w ≡ sequence text (q + from) → walk_at body q ≡ walk_at body end
     turn q e on l zero s =
@@ -79,18 +81,18 @@ module _ (text body : List ℕ) (from end : ℕ) (inside : end ≤ length body)
         walk_sequence body q (suc w) here (λ z. omega arith) (omega arith)
         ∙ on w fits (sym (past ∙ ap (walk_at text) next) ∙ e)
 
-    to_end : (n q : ℕ) → end ≤ q + n → q ≤ end → walk_at text (q + from) ≡ none → walk_at body q ≡ walk_at body end
+    to_end : (n q : ℕ) → end ≤ q + n → q ≤ end → walk_at text (q + from) ≡ None → walk_at body q ≡ walk_at body end
     to_end zero q h l e = let s : q ≡ end = omega arith in ap (walk_at body) s
     to_end (suc n) q h l e =
         ⊎_elim (λ g. turn q e (λ w f rest. to_end n (q + suc w) (omega arith) f rest) g (sequence text (q + from)) refl)
         (λ g. let s : q ≡ end = omega arith in ap (walk_at body) s) (order q end)
 
-pub at_end : (text : List ℕ) → walk_at text (length text) ≡ none
+pub at_end : (text : List ℕ) → walk_at text (length text) ≡ None
 unfolding none_ill_formed
 at_end text = walk_end (sequence_at text) none_ill_formed (length text) (length text) tt (omega arith)
 
 -- what follows a text that is UTF-8 is walked as from there
-pub walk_past : (before rest : List ℕ) → ill_formed before ≡ none
+pub walk_past : (before rest : List ℕ) → ill_formed before ≡ None
     → walk_at (before ++ rest) 0 ≡ walk_at (before ++ rest) (length before)
 unfolding ill_formed
 walk_past before rest e =
@@ -122,7 +124,7 @@ module _ (text : List ℕ) (two : 2 ≤ length text) where
           let high = f.more (length body - q) (omega arith) (omega arith) in
           omega (arith, rw k at high)
 
-  pub between_ascii : byte_at text 0 < 0x80 → byte_at text (length text - 1) < 0x80 → none ≡ ill_formed text → none ≡ ill_formed body
+  pub between_ascii : byte_at text 0 < 0x80 → byte_at text (length text - 1) < 0x80 → None ≡ ill_formed text → None ≡ ill_formed body
   unfolding ill_formed
   between_ascii first last e =
       let one : 1 ≡ sequence text 0 = sym (sequence_ascii text 0 (omega arith) first) in

@@ -1,10 +1,10 @@
 -- What is promised of a code point's bytes. `utf8_bytes`, `is_char`, `sequence`, `ill_formed` and `char_at` are in
 -- specs/Utf8.antt.
 -- Assumes nothing.
+use Rattle.std.specs.Prelude.{None, Some}
 use mathlib.Core.Path.{◌≡◌, refl, sym, ap, ◌∙◌}
 use mathlib.Core.Bool.{true, false}
 use mathlib.Core.List.{List, [], ◌∷◌, ◌++◌, append_assoc, append-nil}
-use mathlib.Core.Option.{none, some}
 use Prim.Native.Nat.{ℕ, ◌+◌, ◌/◌, ◌%◌, ◌<◌, ◌≤◌}
 use native.Mathlib.Nat.{add-zero, div-div-eq-div-mul}
 use native.Mathlib.Omega.{arith}
@@ -55,8 +55,8 @@ module _ (c : ℕ) where
   reads_back e before after = (read _ (length before) c e (stands before (utf8_bytes c) after)).char
 
   -- Behind a well-formed text they make a well-formed text.
-  pub well_formed : is_char c ≡ true → (before : List ℕ) → ill_formed before ≡ none
-      → ill_formed (before ++ utf8_bytes c) ≡ none
+  pub well_formed : is_char c ≡ true → (before : List ℕ) → ill_formed before ≡ None
+      → ill_formed (before ++ utf8_bytes c) ≡ None
   unfolding ill_formed
   well_formed e before f =
       let bytes = utf8_bytes c in
@@ -75,8 +75,8 @@ module _ (c : ℕ) where
   ill_formed_lem e before after = refused _ (length before) c e (stands before (utf8_bytes c) after)
 
   -- Behind a well-formed text its first byte is the first ill-formed one.
-  pub first_ill_formed : c ≤ last_code → is_char c ≡ false → (before after : List ℕ) → ill_formed before ≡ none
-      → ill_formed (before ++ utf8_bytes c ++ after) ≡ some (length before)
+  pub first_ill_formed : c ≤ last_code → is_char c ≡ false → (before after : List ℕ) → ill_formed before ≡ None
+      → ill_formed (before ++ utf8_bytes c ++ after) ≡ Some (length before)
   unfolding ill_formed
   first_ill_formed last e before after w =
       let bytes = utf8_bytes c in

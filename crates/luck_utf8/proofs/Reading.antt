@@ -1,9 +1,9 @@
 -- The bytes of a character, where they stand in a text, are read as it.
 -- Assumes nothing.
+use Rattle.std.specs.Prelude.{Some}
 use mathlib.Core.Path.{◌≡◌, refl, sym, ap, ◌∙◌}
 use mathlib.Core.Bool.{true}
 use mathlib.Core.List.{List, [], ◌∷◌, ◌++◌}
-use mathlib.Core.Option.{some}
 use Prim.Native.Nat.{ℕ, suc, ◌+◌, ◌/◌, ◌%◌, ◌<◌, ◌≤◌}
 use native.Mathlib.Nat.{add-zero}
 use native.Mathlib.Omega.{arith}
@@ -14,7 +14,8 @@ use Rattle.luck_text.specs.Bytes.{when◌then◌else◌, byte_at}
 use Rattle.luck_text.proofs.Cases.{both_true}
 use Rattle.luck_text.proofs.Bytes.{within}
 use Rattle.luck_utf8.specs.Utf8.{Range, tail, rfc3629, tails_of, follow, sequence, char_at, is_char, six_bits, utf8_bytes}
-use Rattle.luck_utf8.proofs.Sequences.{row_two, row_three, row_four, sequence_accepted, sequence_ascii, char_one, char_two, char_three, char_four}
+use Rattle.luck_utf8.proofs.Sequences.{row_two, row_three, row_four, sequence_accepted, sequence_ascii}
+use Rattle.luck_utf8.proofs.Sequences.{char_one, char_two, char_three, char_four}
 use Rattle.luck_utf8.proofs.CodePoints.{by_order, not_both, is_surrogate, char_below, by_row}
 
 -- The bytes stand in a text from a place on.
@@ -59,7 +60,7 @@ module _ (text : List ℕ) where
       both_true _ _ (both_true _ _ there ranged) (followed ranges bytes (p + 1) (rest text p s) i.2)
 
   accepted : (p : ℕ) {b : ℕ} {bytes : List ℕ} {ranges : List Range} → Stand text p (b ∷ bytes)
-      → tails_of rfc3629 b ≡ some ranges → In ranges bytes → sequence text p ≡ suc (length ranges)
+      → tails_of rfc3629 b ≡ Some ranges → In ranges bytes → sequence text p ≡ suc (length ranges)
   accepted p {b} {bytes} {ranges} s row i =
       sequence_accepted text p ranges (omega (arith, s.inside)) (ap (tails_of rfc3629) (first text p s) ∙ row)
       (followed ranges bytes (p + 1) (rest text p s) i)
@@ -87,7 +88,7 @@ module _ (text : List ℕ) (p c : ℕ) where
 
   module _ (s : Stand text p (six_bits 0xE0 2 c [])) where
     -- the first byte's row has a range that the second byte is in
-    row_of_three : {r : Range} → tails_of rfc3629 (0xE0 + c / 0x40 / 0x40) ≡ some (r ∷ tail ∷ [])
+    row_of_three : {r : Range} → tails_of rfc3629 (0xE0 + c / 0x40 / 0x40) ≡ Some (r ∷ tail ∷ [])
         → (r.low ≤ 0x80 + c / 0x40 % 0x40) × (0x80 + c / 0x40 % 0x40 ≤ r.high) → Read text p c 3
     unfolding six_bits
     row_of_three row i =
@@ -111,7 +112,7 @@ module _ (text : List ℕ) (p c : ℕ) where
         by_order c 0xE000 (λ h₃. absurd (not_both e (is_surrogate c l₂ h₃))) (λ l₃. others (omega arith)))))
 
   module _ (s : Stand text p (six_bits 0xF0 3 c [])) where
-    row_of_four : {r : Range} → tails_of rfc3629 (0xF0 + c / 0x40 / 0x40 / 0x40) ≡ some (r ∷ tail ∷ tail ∷ [])
+    row_of_four : {r : Range} → tails_of rfc3629 (0xF0 + c / 0x40 / 0x40 / 0x40) ≡ Some (r ∷ tail ∷ tail ∷ [])
         → (r.low ≤ 0x80 + c / 0x40 / 0x40 % 0x40) × (0x80 + c / 0x40 / 0x40 % 0x40 ≤ r.high) → Read text p c 4
     unfolding six_bits
     row_of_four row i =

@@ -1,9 +1,9 @@
 -- The bytes of a code point that has no character, where they stand in a text: a well-formed sequence begins at none.
 -- Assumes nothing.
+use Rattle.std.specs.Prelude.{Some}
 use mathlib.Core.Path.{◌≡◌, ap, ◌∙◌}
 use mathlib.Core.Bool.{false}
 use mathlib.Core.List.{List, [], ◌∷◌}
-use mathlib.Core.Option.{some}
 use Prim.Native.Nat.{ℕ, zero, suc, ◌+◌, ◌/◌, ◌%◌, ◌<◌, ◌≤◌}
 use native.Mathlib.Nat.{add-zero}
 use native.Mathlib.Omega.{arith}
@@ -47,7 +47,7 @@ module _ (text : List ℕ) (p : ℕ) where
       sequence_none text p (omega arith) (no_row_high (byte_at text p) (omega arith))
 
   second_high : {b b₁ : ℕ} {bytes : List ℕ} {r : Range} {ranges : List Range} → Stand text p (b ∷ b₁ ∷ bytes)
-      → tails_of rfc3629 b ≡ some (r ∷ ranges) → r.high < b₁ → sequence text p ≡ 0
+      → tails_of rfc3629 b ≡ Some (r ∷ ranges) → r.high < b₁ → sequence text p ≡ 0
   second_high {r} {ranges} s row h =
       let e₁ = s.byte 1 (omega arith) in
       let out = follow_out text p 1 r ranges (above r.low r.high (byte_at text (p + 1)) (omega arith)) in

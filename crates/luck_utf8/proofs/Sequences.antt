@@ -1,27 +1,28 @@
 -- The laws of UTF-8: the row of a first byte, the bytes that follow it, what a well-formed sequence says of its bytes,
 -- the walk at a sequence and over a run of ASCII bytes, and the character at a place.
 -- Assumes nothing.
+use Rattle.std.specs.Prelude.{Option, None, Some}
 use mathlib.Core.Path.{◌≡◌, refl, sym, ap, ◌∙◌}
 use mathlib.Core.Logic.{⊎_elim}
 use mathlib.Core.Bool.{Bool, true, false, ◌&&◌, not}
 use mathlib.Core.List.{List, [], ◌∷◌}
-use mathlib.Core.Option.{Option, none, some}
 use Prim.Native.Nat.{ℕ, zero, suc, ◌+◌, ◌*◌, ◌-◌, ◌<◌, ◌≤◌}
 use native.Mathlib.Nat.{add-zero}
 use native.Mathlib.Omega.{arith}
 use lib.ListN.{length, take, drop}
 use lib.Dec.{leb, ltb}
-use borrow.Author.Tests.{lt-ltb, le-ltb, le-leb, lt-leb, ne_eqb, ltb-true, leb-true, not-true, not-false}
-use Rattle.luck_text.specs.Bytes.{when◌then◌else◌, byte_at}
+use borrow.Author.Tests.{lt-ltb, le-ltb, le-leb, lt-leb, ne_eqb, ltb-true, leb-true, leb-false, not-true, not-false}
+use Rattle.luck_text.specs.Bytes.{when◌then◌else◌, byte_at, part}
 use Rattle.luck_text.specs.Walk.{walk_from}
-use Rattle.luck_utf8.specs.Utf8.{Range, Row, tail, rfc3629, in_range, tails_of, follow, width_by, sequence, sequence_at, none_ill_formed, code_point, char_at}
+use Rattle.luck_utf8.specs.Utf8.{Range, Row, tail, rfc3629, in_range, tails_of, follow, width_by, sequence}
+use Rattle.luck_utf8.specs.Utf8.{sequence_at, none_ill_formed, code_point, char_at}
 use Rattle.luck_text.proofs.Cases.{if_true, if_false, and_left, and_right, second_false, order, present}
 use Rattle.luck_text.proofs.Bytes.{all_of_part}
 use Rattle.luck_text.proofs.Walk.{walk_stop, walk_goes}
 
 -- The row of a first byte.
 module _ (b : ℕ) where
-  pub row_holds : (r : Row) (rows : List Row) → r.lead.low ≤ b → b ≤ r.lead.high → tails_of (r ∷ rows) b ≡ some r.tails
+  pub row_holds : (r : Row) (rows : List Row) → r.lead.low ≤ b → b ≤ r.lead.high → tails_of (r ∷ rows) b ≡ Some r.tails
   unfolding tails_of when◌then◌else◌
   row_holds r rows l h = rw (le-leb r.lead.low b l, le-leb b r.lead.high h)
 
@@ -51,33 +52,33 @@ module _ (b : ℕ) where
         row_below r rows (omega arith) ∙ rows_below n rows (and_right (ltb r.lead.high bound) _ e) h
 
     -- all rows start above the byte
-    pub rows_above : (rows : List Row) → start_above rows ≡ true → b < bound → tails_of rows b ≡ none
+    pub rows_above : (rows : List Row) → start_above rows ≡ true → b < bound → tails_of rows b ≡ None
     unfolding tails_of
     rows_above [] e h = refl
     rows_above (r ∷ rows) e h =
         let l = leb-true bound r.lead.low (and_left _ (start_above rows) e) in
         row_above r rows (omega arith) ∙ rows_above rows (and_right (leb bound r.lead.low) _ e) h
 
-  pub no_row_low : 0x80 ≤ b → b < 0xC2 → tails_of rfc3629 b ≡ none
+  pub no_row_low : 0x80 ≤ b → b < 0xC2 → tails_of rfc3629 b ≡ None
   unfolding rfc3629
   no_row_low l h = rows_below 0x80 1 rfc3629 refl l ∙ rows_above 0xC2 (drop 1 rfc3629) refl h
 
-  pub no_row_high : 0xF5 ≤ b → tails_of rfc3629 b ≡ none
+  pub no_row_high : 0xF5 ≤ b → tails_of rfc3629 b ≡ None
   unfolding rfc3629 tails_of
   no_row_high l = rows_below 0xF5 9 rfc3629 refl l
 
-  pub row_two : 0xC2 ≤ b → b < 0xE0 → tails_of rfc3629 b ≡ some (tail ∷ [])
+  pub row_two : 0xC2 ≤ b → b < 0xE0 → tails_of rfc3629 b ≡ Some (tail ∷ [])
   unfolding rfc3629
   row_two l h = rows_below 0x80 1 rfc3629 refl (omega arith) ∙ row_holds _ _ l (omega arith)
 
   -- the rows between E0 and ED, and between ED and F0, have the same tails
-  pub row_three : 0xE0 ≤ b → (b ≡ 0xE0 → ⊥) → (b ≡ 0xED → ⊥) → b < 0xF0 → tails_of rfc3629 b ≡ some (tail ∷ tail ∷ [])
+  pub row_three : 0xE0 ≤ b → (b ≡ 0xE0 → ⊥) → (b ≡ 0xED → ⊥) → b < 0xF0 → tails_of rfc3629 b ≡ Some (tail ∷ tail ∷ [])
   unfolding rfc3629
   row_three l f g h =
       ⊎_elim (λ under. rows_below 0xE1 3 rfc3629 refl (omega arith) ∙ row_holds _ _ (omega arith) (omega arith))
       (λ over. rows_below 0xEE 5 rfc3629 refl (omega arith) ∙ row_holds _ _ (omega arith) (omega arith)) (order b 0xED)
 
-  pub row_four : 0xF0 ≤ b → (b ≡ 0xF0 → ⊥) → (b ≡ 0xF4 → ⊥) → b < 0xF5 → tails_of rfc3629 b ≡ some (tail ∷ tail ∷ tail ∷ [])
+  pub row_four : 0xF0 ≤ b → (b ≡ 0xF0 → ⊥) → (b ≡ 0xF4 → ⊥) → b < 0xF5 → tails_of rfc3629 b ≡ Some (tail ∷ tail ∷ tail ∷ [])
   unfolding rfc3629
   row_four l f g h = rows_below 0xF1 7 rfc3629 refl (omega arith) ∙ row_holds _ _ (omega arith) (omega arith)
 
@@ -110,11 +111,11 @@ module _ (text : List ℕ) where
     unfolding sequence
     there h = if_true (ltb p (length text)) _ _ (lt-ltb p (length text) h)
 
-    pub sequence_none : p < length text → tails_of rfc3629 (byte_at text p) ≡ none → sequence text p ≡ 0
+    pub sequence_none : p < length text → tails_of rfc3629 (byte_at text p) ≡ None → sequence text p ≡ 0
     unfolding width_by
     sequence_none h e = there h ∙ ap (width_by text p) e
 
-    module _ (tails : List Range) (h : p < length text) (e : tails_of rfc3629 (byte_at text p) ≡ some tails) where
+    module _ (tails : List Range) (h : p < length text) (e : tails_of rfc3629 (byte_at text p) ≡ Some tails) where
       pub sequence_refused : follow text (p + 1) tails ≡ false → sequence text p ≡ 0
       unfolding width_by
       sequence_refused f = there h ∙ ap (width_by text p) e ∙ if_false (follow text (p + 1) tails) _ _ f
@@ -132,7 +133,7 @@ pub record Left (text : List ℕ) (p k n : ℕ) (ranges : List Range) : Type 0 w
   pub whole : sequence text p ≡ (when follow text (p + k) ranges then n else 0)
 
 module _ {text : List ℕ} {p : ℕ} where
-  pub left_row : {tails : List Range} → p < length text → tails_of rfc3629 (byte_at text p) ≡ some tails → Left text p 1 (suc (length tails)) tails
+  pub left_row : {tails : List Range} → p < length text → tails_of rfc3629 (byte_at text p) ≡ Some tails → Left text p 1 (suc (length tails)) tails
   unfolding width_by
   left_row h e = record { whole = there text p h ∙ ap (width_by text p) e }
 
@@ -173,20 +174,20 @@ abbrev high_rows : List Row → Bool
 high_rows [] = true
 high_rows (r ∷ rows) = (leb (least (length r.tails)) r.lead.low && high_tails r.tails) && high_rows rows
 
-no_tails : (tails : List Range) → none ≡ some tails → ⊥
+no_tails : (tails : List Range) → None ≡ Some tails → ⊥
 no_tails tails e = let z : ◌≡◌ {A = ℕ} 0 1 = cc in omega arith
 
-tails_of_row : (rows : List Row) (b : ℕ) (tails : List Range) → high_rows rows ≡ true → tails_of rows b ≡ some tails
+tails_of_row : (rows : List Row) (b : ℕ) (tails : List Range) → high_rows rows ≡ true → tails_of rows b ≡ Some tails
     → (least (length tails) ≤ b) × (high_tails tails ≡ true)
 unfolding tails_of
 tails_of_row [] b tails s e = absurd (no_tails tails e)
 tails_of_row (r ∷ rows) b tails s e =
     go (λ o. tails_of_row rows b tails (and_right (leb (least (length r.tails)) r.lead.low && high_tails r.tails) _ s) o) (in_range r.lead b) refl
   where
-    some_same : some r.tails ≡ some tails → r.tails ≡ tails
+    some_same : Some r.tails ≡ Some tails → r.tails ≡ tails
     some_same q = cc
 
-    go : (tails_of rows b ≡ some tails → (least (length tails) ≤ b) × (high_tails tails ≡ true)) → (t : Bool) → in_range r.lead b ≡ t
+    go : (tails_of rows b ≡ Some tails → (least (length tails) ≤ b) × (high_tails tails ≡ true)) → (t : Bool) → in_range r.lead b ≡ t
         → (least (length tails) ≤ b) × (high_tails tails ≡ true)
     go later true i =
         let here = and_left _ (high_rows rows) s in
@@ -231,7 +232,7 @@ module _ (text : List ℕ) where
       rw (← q) (tails_high ranges (p + 1) (and_right (leb 0x80 r.low) _ s) rest k (omega arith))
 
   module _ (p : ℕ) where
-    accepted : (tails : List Range) → p < length text → tails_of rfc3629 (byte_at text p) ≡ some tails → follow text (p + 1) tails ≡ true
+    accepted : (tails : List Range) → p < length text → tails_of rfc3629 (byte_at text p) ≡ Some tails → follow text (p + 1) tails ≡ true
         → Formed text p (suc (length tails))
     unfolding rfc3629
     accepted tails h e f =
@@ -250,20 +251,20 @@ module _ (text : List ℕ) where
     pub formed : (w : ℕ) → w ≡ sequence text p → (w ≡ 0 → ⊥) → Formed text p w
     formed w e f = ⊎_elim (λ h. by_row h (tails_of rfc3629 (byte_at text p)) refl) (λ h. absurd (f (e ∙ sequence_past text p h))) (order p (length text))
       where
-        by_follow : (tails : List Range) → p < length text → tails_of rfc3629 (byte_at text p) ≡ some tails
+        by_follow : (tails : List Range) → p < length text → tails_of rfc3629 (byte_at text p) ≡ Some tails
             → (t : Bool) → follow text (p + 1) tails ≡ t → Formed text p w
         by_follow tails h r true q = rw (e ∙ sequence_accepted text p tails h r q) (accepted tails h r q)
         by_follow tails h r false q = absurd (f (e ∙ sequence_refused text p tails h r q))
 
         by_row : p < length text → (o : Option (List Range)) → tails_of rfc3629 (byte_at text p) ≡ o → Formed text p w
-        by_row h none r = absurd (f (e ∙ sequence_none text p h r))
-        by_row h (some tails) r = by_follow tails h r (follow text (p + 1) tails) refl
+        by_row h None r = absurd (f (e ∙ sequence_none text p h r))
+        by_row h (Some tails) r = by_follow tails h r (follow text (p + 1) tails) refl
 
   -- The walk.
   module _ (p w : ℕ) (e : w ≡ sequence text p) where
-    pub walk_ill_formed : p < length text → w ≡ 0 → walk_from (sequence_at text) none_ill_formed (length text) p tt ≡ some p
+    pub walk_ill_formed : p < length text → w ≡ 0 → walk_from (sequence_at text) none_ill_formed (length text) p tt ≡ Some p
     unfolding sequence_at when◌then◌else◌
-    walk_ill_formed h z = walk_stop (sequence_at text) none_ill_formed (length text) p tt (some p) h (rw (← e, z))
+    walk_ill_formed h z = walk_stop (sequence_at text) none_ill_formed (length text) p tt (Some p) h (rw (← e, z))
 
     pub walk_sequence : (w ≡ 0 → ⊥) → p + w ≤ length text
         → walk_from (sequence_at text) none_ill_formed (length text) p tt ≡ walk_from (sequence_at text) none_ill_formed (length text) (p + w) tt
@@ -288,11 +289,11 @@ module _ (text : List ℕ) where
       ascii_run (q - p) p (omega arith) (λ k m n. g k m (omega arith))
       ∙ ap (λ (x : ℕ). walk_from (sequence_at text) none_ill_formed (length text) x tt) e
 
-  -- what bounds each byte of a part bounds the text's bytes there
-  pub part_low : (at size high : ℕ) → at + size ≤ length text
-      → ((k : ℕ) → k < length (take (at + size - at) (drop at text)) → byte_at (take (at + size - at) (drop at text)) k ≤ high)
-      → high < 0x80 → (k : ℕ) → at ≤ k → k < at + size → byte_at text k < 0x80
-  part_low at size high h g l = all_of_part (λ (b : ℕ). b < 0x80) text at size h (λ k m. omega (arith, g k m))
+  -- where no byte of a part is 80 or above, the text's bytes there are ASCII
+  pub part_low : (at size : ℕ) → at + size ≤ length text
+      → ((k : ℕ) → k < length (part text at (at + size)) → leb 0x80 (byte_at (part text at (at + size)) k) ≡ false)
+      → (k : ℕ) → at ≤ k → k < at + size → byte_at text k < 0x80
+  part_low at size h g = all_of_part (λ (b : ℕ). b < 0x80) text at size h (λ k m. leb-false 0x80 _ (g k m))
 
 -- The character at a place.
 module _ (text : List ℕ) (p w : ℕ) (e : w ≡ sequence text p) where

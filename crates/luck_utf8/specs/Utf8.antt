@@ -1,13 +1,13 @@
 -- UTF-8 as RFC 3629 has it: well-formed sequences, and the character at a place. The bytes of a code point, as RFC 2279
 -- has them: those of a character are the same in both.
 -- Assumes nothing.
-use Rattle.std.specs.Prelude.{ℕ, zero, suc, ◌+◌, ◌*◌, ◌-◌, ◌/◌, ◌%◌, Bool, true, ◌&&◌, ◌||◌, List, [], ◌∷◌, length, eqb, leb, ltb}
-use Rattle.std.proofs.Math.Option.{Option, none, some}
+use Rattle.std.specs.Prelude.{ℕ, zero, suc, ◌+◌, ◌*◌, ◌-◌, ◌/◌, ◌%◌, Bool, true}
+use Rattle.std.specs.Prelude.{◌&&◌, ◌||◌, List, [], ◌∷◌, length, eqb, leb, ltb, Option, None}
+use Rattle.std.specs.Prelude.{Some, Result, Ok, Err}
 use Rattle.luck_text.specs.Bytes.{when◌then◌else◌, byte_at, between}
 use Rattle.luck_text.specs.Walk.{Turn, stop, goes, walk_from}
 use Rattle.luck_utf8.specs.declared.utf8.Char.{Char}
-use Rattle.luck_utf8.specs.declared.utf8.Utf8.{Utf8}
-use Rattle.luck_utf8.specs.declared.utf8.Utf8.TheVariants.{Valid, IllFormed}
+use Rattle.luck_utf8.specs.declared.utf8.IllFormed.{IllFormed}
 
 pub record Range : Type 0 where
   pub low : ℕ
@@ -44,8 +44,8 @@ in_range r b = between r.low r.high b
 
 -- the ranges that follow a first byte: those of its row
 unfoldable pub tails_of : List Row → ℕ → Option (List Range)
-tails_of [] b = none
-tails_of (r ∷ rows) b = let more = tails_of rows b in when in_range r.lead b then some r.tails else more
+tails_of [] b = None
+tails_of (r ∷ rows) b = let more = tails_of rows b in when in_range r.lead b then Some r.tails else more
 
 -- the bytes from place p on are there, one in each range
 unfoldable pub follow : List ℕ → ℕ → List Range → Bool
@@ -53,8 +53,8 @@ follow text p [] = true
 follow text p (r ∷ ranges) = ltb p (length text) && in_range r (byte_at text p) && follow text (p + 1) ranges
 
 unfoldable pub width_by : List ℕ → ℕ → Option (List Range) → ℕ
-width_by text p none = 0
-width_by text p (some tails) = when follow text (p + 1) tails then suc (length tails) else 0
+width_by text p None = 0
+width_by text p (Some tails) = when follow text (p + 1) tails then suc (length tails) else 0
 
 -- how many bytes the well-formed sequence at place p has; 0 where it is ill-formed or the text ends there
 unfoldable pub sequence : List ℕ → ℕ → ℕ
@@ -62,17 +62,17 @@ sequence text p = when ltb p (length text) then width_by text p (tails_of rfc362
 
 -- the place of the first ill-formed sequence, none where the whole text is well-formed
 unfoldable pub sequence_at : List ℕ → ℕ → Unit {0} → Turn (Unit {0}) (Option ℕ)
-sequence_at text p u = when eqb (sequence text p) 0 then stop (some p) else goes (sequence text p) tt
+sequence_at text p u = when eqb (sequence text p) 0 then stop (Some p) else goes (sequence text p) tt
 
 unfoldable pub none_ill_formed : ℕ → Unit {0} → Option ℕ
-none_ill_formed p u = none
+none_ill_formed p u = None
 
 unfoldable pub ill_formed : List ℕ → Option ℕ
 ill_formed text = walk_from (sequence_at text) none_ill_formed (length text) 0 tt
 
-abbrev pub place_of : Utf8 → Option ℕ
-place_of Valid = none
-place_of (IllFormed p) = some p
+abbrev pub place_of : Result (Unit {0}) IllFormed → Option ℕ
+place_of (Ok u) = None
+place_of (Err e) = Some e.at
 
 -- RFC 3629, section 3: the bits of a code point, six to each byte after the first
 unfoldable pub code_point : List ℕ → ℕ → ℕ → ℕ

@@ -1,17 +1,20 @@
 // UTF-8, as RFC 3629 has it.
-ghost use Rattle.std.specs.Prelude.{◌≡◌, [], ◌∷◌, ℕ, ◌+◌, ◌*◌, ◌-◌, ◌<◌, ◌≤◌, length};
-ghost use Rattle.std.proofs.Math.Option.{some};
-ghost use Rattle.luck_text.specs.Bytes.{byte_at};
+ghost use Rattle.std.specs.Prelude.{◌≡◌, [], ◌∷◌, ℕ, ◌+◌, ◌*◌, ◌-◌, ◌<◌};
+ghost use Rattle.std.specs.Prelude.{◌≤◌, length, leb};
+ghost use Rattle.luck_text.specs.Bytes.{byte_at, between};
 ghost use Rattle.luck_text.specs.Walk.{walk_from};
-ghost use Rattle.luck_utf8.specs.Utf8.{◌to◌, tail, rfc3629, tails_of, sequence_at, none_ill_formed, ill_formed, place_of, char_at};
+ghost use Rattle.luck_utf8.specs.Utf8.{◌to◌, tail, rfc3629, tails_of, in_range, sequence_at};
+ghost use Rattle.luck_utf8.specs.Utf8.{none_ill_formed, ill_formed, place_of, char_at};
 ghost use Rattle.luck_utf8.specs.Utf8.{sequence as sequence_of};
 
-use luck_text::scan;
+use luck_text::blocks::Sought;
+use luck_text::scan::Class;
+use luck_text::{blocks, scan};
 
-#[derive(Clone, Copy)]
-pub enum Utf8 {
-    Valid,
-    IllFormed(usize),
+// Where the first ill-formed sequence of a text stands.
+#[derive(Clone, Copy, Debug, PartialEq, Eq)]
+pub struct IllFormed {
+    pub at: usize,
 }
 
 #[repr(C)]
@@ -21,57 +24,68 @@ pub struct Char {
     pub width: usize,
 }
 
-// The range of the second byte of a sequence. The bytes after it are 80 to BF.
+// The range of the second byte of a sequence. The bytes after it are 80 to BF. A `RangeInclusive` has a flag besides its
+// ends, of which the contracts below would have to speak too.
 #[derive(Clone, Copy)]
 struct Second {
     low: u8,
     high: u8,
 }
 
+impl Class for Second {
+    ghost holds = { λ r b. between r.low r.high b };
+
+    fn has(&self, byte: u8) -> bool {
+        scan::is_between(byte, self.low, self.high)
+    }
+}
+
 // A byte below A0 behind E0 would be a longer form of a shorter sequence, and one above 9F behind ED a surrogate.
 fn second_of_three(lead: u8) -> Second
     requires { (0xE0 ≤ lead) × (lead < 0xF0) }
-    ensures { tails_of rfc3629 lead ≡ some (◌to◌ result.low result.high ∷ tail ∷ []) }
+    ensures { tails_of rfc3629 lead ≡ Some (◌to◌ result.low result.high ∷ tail ∷ []) }
 {
-    if lead == 0xE0 {
-        return Second {
+    match lead {
+        0xE0 => Second {
             low: 0xA0,
             high: 0xBF,
-        };
-    }
-    if lead == 0xED {
-        return Second {
+        },
+        0xED => Second {
             low: 0x80,
             high: 0x9F,
-        };
-    }
-    Second {
-        low: 0x80,
-        high: 0xBF,
+        },
+        _ => Second {
+            low: 0x80,
+            high: 0xBF,
+        },
     }
 }
 
 // A byte below 90 behind F0 would be a longer form of a shorter sequence, and one above 8F behind F4 past 10FFFF.
 fn second_of_four(lead: u8) -> Second
     requires { (0xF0 ≤ lead) × (lead < 0xF5) }
-    ensures { tails_of rfc3629 lead ≡ some (◌to◌ result.low result.high ∷ tail ∷ tail ∷ []) }
+    ensures { tails_of rfc3629 lead ≡ Some (◌to◌ result.low result.high ∷ tail ∷ tail ∷ []) }
 {
-    if lead == 0xF0 {
-        return Second {
+    match lead {
+        0xF0 => Second {
             low: 0x90,
             high: 0xBF,
-        };
-    }
-    if lead == 0xF4 {
-        return Second {
+        },
+        0xF4 => Second {
             low: 0x80,
             high: 0x8F,
-        };
+        },
+        _ => Second {
+            low: 0x80,
+            high: 0xBF,
+        },
     }
-    Second {
-        low: 0x80,
-        high: 0xBF,
-    }
+}
+
+fn is_tail(byte: u8) -> bool
+    ensures { result ≡ in_range tail byte }
+{
+    scan::is_between(byte, 0x80, 0xBF)
 }
 
 // The sequence at `at`, whose first byte is 80 to DF. All its bytes are read before any is judged: the tests then become one branch.
@@ -84,10 +98,7 @@ fn two(text: &[u8], at: usize) -> usize
     }
     let lead = text[at];
     let second = text[at + 1];
-    if lead < 0xC2 {
-        return 0;
-    }
-    if !scan::is_between(second, 0x80, 0xBF) {
+    if lead < 0xC2 || !is_tail(second) {
         return 0;
     }
     2
@@ -104,10 +115,7 @@ fn three(text: &[u8], at: usize) -> usize
     }
     let second = text[at + 1];
     let third = text[at + 2];
-    if !scan::is_between(second, range.low, range.high) {
-        return 0;
-    }
-    if !scan::is_between(third, 0x80, 0xBF) {
+    if !range.has(second) || !is_tail(third) {
         return 0;
     }
     3
@@ -125,13 +133,7 @@ fn four(text: &[u8], at: usize) -> usize
     let second = text[at + 1];
     let third = text[at + 2];
     let fourth = text[at + 3];
-    if !scan::is_between(second, range.low, range.high) {
-        return 0;
-    }
-    if !scan::is_between(third, 0x80, 0xBF) {
-        return 0;
-    }
-    if !scan::is_between(fourth, 0x80, 0xBF) {
+    if !range.has(second) || !is_tail(third) || !is_tail(fourth) {
         return 0;
     }
     4
@@ -144,51 +146,42 @@ pub fn sequence(text: &[u8], at: usize) -> usize
     if text.len() <= at {
         return 0;
     }
-    let lead = text[at];
-    if lead < 0x80 {
-        return 1;
+    match text[at] {
+        ..0x80 => 1,
+        ..0xE0 => two(text, at),
+        ..0xF0 => three(text, at),
+        ..0xF5 => four(text, at),
+        _ => 0,
     }
-    if lead < 0xE0 {
-        return two(text, at);
-    }
-    if lead < 0xF0 {
-        return three(text, at);
-    }
-    if lead < 0xF5 {
-        return four(text, at);
-    }
-    0
 }
 
-// The highest byte of a block. A maximum is what the compiler makes vector instructions of.
+// The highest byte of a block. A maximum is what the compiler makes vector instructions of: the library's `is_ascii`, which
+// can stop early, was measured to take near three times as long over ASCII text.
 fn highest(block: &[u8]) -> u8
     ensures { (k : ℕ) → k < length block.now → byte_at block.now k ≤ result }
 {
     let mut high = 0;
-    let mut i = 0;
-    while i < block.len() {
-        let byte = block[i];
-        if high < byte {
-            high = byte;
-        }
-        i += 1;
+    for &byte in block {
+        high = high.max(byte);
     }
     high
 }
 
-// The place behind the blocks of 128 ASCII bytes that follow `from`.
-fn ascii_blocks(text: &[u8], from: usize) -> usize
-    requires { from ≤ length text.now }
-    ensures { (from ≤ result) × (result ≤ length text.now) × ((k : ℕ) → from ≤ k → k < result → byte_at text.now k < 0x80) }
-{
-    let mut at = from;
-    while 128 <= text.len() - at {
-        if 0x80 <= highest(&text[at..at + 128]) {
-            return at;
-        }
-        at += 128;
+// The bytes that are not ASCII.
+struct NotAscii;
+
+impl Class for NotAscii {
+    ghost holds = { λ _ b. leb 0x80 b };
+
+    fn has(&self, byte: u8) -> bool {
+        0x80 <= byte
     }
-    at
+}
+
+impl Sought for NotAscii {
+    fn is_in(&self, block: &[u8]) -> bool {
+        0x80 <= highest(block)
+    }
 }
 
 // The place of the first sequence from `from` on that is ill-formed or does not begin before `stop`.
@@ -200,6 +193,7 @@ fn sequences(text: &[u8], from: usize, stop: usize) -> usize
         × (result < stop → sequence_of text.now result ≡ 0) }
 {
     let mut at = from;
+    // The step is the width of a sequence.
     while at < stop {
         let width = sequence(text, at);
         if width == 0 {
@@ -217,15 +211,13 @@ fn ascii_end(text: &[u8], at: usize) -> usize
     ensures { (at ≤ result) × (result ≤ length text.now) × ((k : ℕ) → at ≤ k → k < result → byte_at text.now k < 0x80) }
 {
     if 32 <= text.len() - at {
-        if highest(&text[at..at + 32]) < 0x80 {
-            return ascii_blocks(text, at + 32);
+        if NotAscii.is_in(&text[at..at + 32]) {
+            return at;
         }
-        return at;
+        return blocks::blocks_without::<128, NotAscii>(text, at + 32, &NotAscii);
     }
-    if 8 <= text.len() - at {
-        if highest(&text[at..at + 8]) < 0x80 {
-            return at + 8;
-        }
+    if 8 <= text.len() - at && !NotAscii.is_in(&text[at..at + 8]) {
+        return at + 8;
     }
     at
 }
@@ -235,18 +227,16 @@ fn block_end(text: &[u8], at: usize) -> usize
     requires { at < length text.now }
     ensures { (at < result) × (result ≤ length text.now) }
 {
-    if text.len() - at < 32 {
-        return text.len();
-    }
-    at + 32
+    text.len().min(at.saturating_add(32))
 }
 
 // Blocks of ASCII bytes are passed over whole. Where a block has another byte, its sequences are read one by one, and the
 // next block is tried behind them, so that text with few ASCII bytes pays for one test in 32 bytes.
-pub fn validate(text: &[u8]) -> Utf8
+pub fn validate(text: &[u8]) -> Result<(), IllFormed>
     ensures { place_of result ≡ ill_formed text.now }
 {
     let mut at = 0;
+    // The step is what was passed over: blocks, or the sequences of one.
     while at < text.len() {
         let end = ascii_end(text, at);
         if at < end {
@@ -256,10 +246,10 @@ pub fn validate(text: &[u8]) -> Utf8
         let stop = block_end(text, at);
         at = sequences(text, at, stop);
         if at < stop {
-            return Utf8::IllFormed(at);
+            return Err(IllFormed { at });
         }
     }
-    Utf8::Valid
+    Ok(())
 }
 
 // Six more bits: those of the byte at `at`, behind `bits`.

@@ -1,10 +1,10 @@
 -- The proofs of demand 1, an entry at a time: each cites the promises of the crate that has it.
 -- Assumes nothing.
+use Rattle.std.specs.Prelude.{Option}
 use Prim.Native.Nat.{ℕ, ◌-◌, ◌≤◌}
 use mathlib.Core.Path.{◌≡◌, refl, ap}
 use mathlib.Core.Bool.{true}
 use mathlib.Core.List.{List}
-use mathlib.Core.Option.{Option}
 use lib.ListN.{length, drop}
 use lib.Seq.{drop-append_seam}
 use Rattle.luck_token.specs.Decode.{DecodeOutcome, value, refused, decode_string, decoding_of, output_of}

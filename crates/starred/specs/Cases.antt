@@ -1,8 +1,7 @@
 -- A case of document 01 or 02: the versions, what is asked, and all that is told, by the definitions that the contracts
 -- of the entries name.
 -- Assumes nothing.
-use Rattle.std.specs.Prelude.{ℕ, true, false, List, [], ◌∷◌, ◌++◌, length}
-use Rattle.std.proofs.Math.Option.{Option}
+use Rattle.std.specs.Prelude.{ℕ, true, false, List, [], ◌∷◌, ◌++◌, length, Option}
 use Rattle.luck_token.specs.Decode.{Decoding, decode_string, decoding_of, output_of}
 use Rattle.luck_answer.specs.Answer.{Answer}
 use Rattle.luck_pattern.specs.Pattern.{check_pattern}

@@ -3,9 +3,8 @@
 -- the level before the step, kinds 5 and 8 before 28, the attempt after the last match), each item, each kind of single
 -- and of 29, and each way of writing once.
 -- Assumes nothing.
-use Rattle.std.specs.Prelude.{ℕ, zero, suc, ◌≡◌, refl, List, [], ◌∷◌, ◌++◌}
+use Rattle.std.specs.Prelude.{ℕ, zero, suc, ◌≡◌, refl, List, [], ◌∷◌, ◌++◌, None, Some}
 use Prim.Native.Char.{code}
-use Rattle.std.proofs.Math.Option.{none, some}
 use Rattle.luck_text.specs.Bytes.{ascii}
 use Rattle.luck_linter.specs.Computed.{computed as checks_computed}
 use Rattle.lstr_gsub.specs.Computed.{computed as trial_computed}
@@ -49,13 +48,13 @@ checks =
     ∷ case (only 1) (pack (ascii "!5j")) (checked (record { number = 0; offset = 0; first = 0; second = 0; count = 1 }))
     ∷ case (only 1) (packsize (ascii "bz"))
     (checked (record { number = 18; offset = 1; first = code "z"; second = 0; count = 0 }))
-    ∷ case (only 2) (replacement none (ascii "a%"))
+    ∷ case (only 2) (replacement None (ascii "a%"))
     (checked (record { number = 19; offset = 1; first = 0; second = 0; count = 0 }))
-    ∷ case (only 2) (replacement none (ascii "%x"))
+    ∷ case (only 2) (replacement None (ascii "%x"))
     (checked (record { number = 20; offset = 1; first = 0; second = 0; count = 0 }))
-    ∷ case (only 1) (replacement none (ascii "%x"))
+    ∷ case (only 1) (replacement None (ascii "%x"))
     (checked (record { number = 0; offset = 0; first = 0; second = 0; count = 0 }))
-    ∷ case (only 2) (replacement (some 0) (ascii "%2"))
+    ∷ case (only 2) (replacement (Some 0) (ascii "%2"))
     (checked (record { number = 21; offset = 1; first = 0; second = 0; count = 0 }))
     ∷ case (only 2) (date (ascii "%Q")) (checked (record { number = 22; offset = 1; first = 0; second = 0; count = 0 }))
     ∷ case (only 4) (pattern (0xFF ∷ []))
@@ -71,26 +70,26 @@ checks_hold = refl
 
 abbrev pub literals : List Case
 literals =
-    case (only 1) (literal (code "F") none 10 (ascii "\"trip %y\""))
+    case (only 1) (literal (code "F") None 10 (ascii "\"trip %y\""))
     (spanned (record { number = 2; offset = 6; first = code "y"; second = 0; count = 0 }) 17 18)
-    ∷ case (only 1) (literal (code "F") none 10 (ascii "'%" ++ (0xC3 ∷ 0xA9 ∷ []) ++ ascii "'"))
+    ∷ case (only 1) (literal (code "F") None 10 (ascii "'%" ++ (0xC3 ∷ 0xA9 ∷ []) ++ ascii "'"))
     (spanned (record { number = 2; offset = 1; first = 0xE9; second = 0; count = 0 }) 12 14)
-    ∷ case (only 4) (literal (code "P") none 10 (ascii "\"(a\""))
+    ∷ case (only 4) (literal (code "P") None 10 (ascii "\"(a\""))
     (spanned (record { number = 11; offset = 2; first = 0; second = 0; count = 0 }) 13 14)
-    ∷ case (only 4) (literal (code "F") none 0xFFFF_FFFE (ascii "\"a%#d\""))
+    ∷ case (only 4) (literal (code "F") None 0xFFFF_FFFE (ascii "\"a%#d\""))
     (spanned (record { number = 6; offset = 2; first = code "#"; second = code "d"; count = 0 })
     0xFFFF_FFFF 0xFFFF_FFFF)
-    ∷ case (only 4) (literal (code "P") none 10 (ascii "\"(a)\""))
+    ∷ case (only 4) (literal (code "P") None 10 (ascii "\"(a)\""))
     (unspanned (record { number = 0; offset = 0; first = 0; second = 0; count = 1 }))
-    ∷ case (only 4) (literal (code "P") none 10 (ascii "\"(\\097\""))
+    ∷ case (only 4) (literal (code "P") None 10 (ascii "\"(\\097\""))
     skipped
-    ∷ case (only 4) (literal (code "P") none 10 (ascii "[[(a]]"))
+    ∷ case (only 4) (literal (code "P") None 10 (ascii "[[(a]]"))
     skipped
-    ∷ case (only 4) (literal (code "P") none 10 (ascii "\"(a" ++ (0xFF ∷ []) ++ ascii "\""))
+    ∷ case (only 4) (literal (code "P") None 10 (ascii "\"(a" ++ (0xFF ∷ []) ++ ascii "\""))
     (unspanned (record { number = 23; offset = 3; first = 0; second = 0; count = 0 }))
-    ∷ case (only 7) (literal (code "P") none 10 (0xFF ∷ []))
+    ∷ case (only 7) (literal (code "P") None 10 (0xFF ∷ []))
     (unspanned (record { number = 25; offset = 0; first = 0; second = 0; count = 0 }))
-    ∷ case (only 7) (literal (code "Q") none 10 (0xFF ∷ []))
+    ∷ case (only 7) (literal (code "Q") None 10 (0xFF ∷ []))
     (unspanned (record { number = 30; offset = 0; first = 0; second = 0; count = 0 }))
     ∷ []
 
@@ -147,7 +146,8 @@ escapes =
     ∷ case (only 1) (decode (ascii "'\\x4a\\z a'") (ascii "......")) (decoded_value (ascii "x4az a") [])
     ∷ case after51 (decode (ascii "'\\x4a\\x4A\\z a'") (ascii "......")) (decoded_value (ascii "JJa") (ascii "..."))
     ∷ case after51 (decode (ascii "'\\x4'") five_bytes) (not_decoded 24 0 five_bytes)
-    ∷ case (3 ∷ 4 ∷ 5 ∷ 6 ∷ []) (decode (ascii "'\\u{e9}'") five_bytes) (decoded_value (0xC3 ∷ 0xA9 ∷ []) (ascii "..."))
+    ∷ case (3 ∷ 4 ∷ 5 ∷ 6 ∷ []) (decode (ascii "'\\u{e9}'") five_bytes)
+    (decoded_value (0xC3 ∷ 0xA9 ∷ []) (ascii "..."))
     ∷ case (1 ∷ 6 ∷ []) (decode (ascii "'\\q'") five_bytes) (decoded_value (ascii "q") (ascii "...."))
     ∷ case (2 ∷ 3 ∷ 4 ∷ 5 ∷ []) (decode (ascii "'\\q'") five_bytes) (not_decoded 24 0 five_bytes)
     ∷ case lua (decode escaped_breaks five_bytes) (decoded_value (lf ++ lf) (ascii "..."))

@@ -1,8 +1,7 @@
 -- Cases of document 02's requests, and of document 03 on them, whole answers by computation.
 -- Assumes nothing.
-use Rattle.std.specs.Prelude.{ℕ, ◌≡◌, refl, List, [], ◌∷◌, ◌++◌, length, drop}
+use Rattle.std.specs.Prelude.{ℕ, ◌≡◌, refl, List, [], ◌∷◌, ◌++◌, length, drop, None, Some}
 use Prim.Native.Char.{code}
-use Rattle.std.proofs.Math.Option.{none, some}
 use Rattle.luck_text.specs.Bytes.{ascii}
 use Rattle.luck_linter.specs.Computed.{computed}
 use Rattle.lstr_gsub.specs.Computed.{computed as trial_computed}
@@ -89,7 +88,7 @@ abbrev with_ff : List ℕ
 with_ff = ascii "a" ++ (0xFF ∷ [])
 
 abbrev checks : List ℕ → List Asked
-checks text = format text ∷ pattern text ∷ pack text ∷ packsize text ∷ date text ∷ replacement none text ∷ []
+checks text = format text ∷ pattern text ∷ pack text ∷ packsize text ∷ date text ∷ replacement None text ∷ []
 
 abbrev not_utf8 : Asked → Case
 not_utf8 asked = case every asked (checked (record { number = 23; offset = 1; first = 0; second = 0; count = 0 }))
@@ -107,21 +106,21 @@ values_checked_hold = refl
 
 abbrev pub once_utf8 : List Case
 once_utf8 =
-    case (only 1) (replacement none (ascii "%9%x%"))
+    case (only 1) (replacement None (ascii "%9%x%"))
     (checked (record { number = 0; offset = 0; first = 0; second = 0; count = 0 }))
-    ∷ case (only 1) (replacement (some 9) (ascii "%9%x%"))
+    ∷ case (only 1) (replacement (Some 9) (ascii "%9%x%"))
     (checked (record { number = 0; offset = 0; first = 0; second = 0; count = 0 }))
-    ∷ case (only 1) (replacement (some 8) (ascii "%9%x%"))
+    ∷ case (only 1) (replacement (Some 8) (ascii "%9%x%"))
     (checked (record { number = 21; offset = 1; first = 0; second = 0; count = 0 }))
-    ∷ case after51 (replacement none (ascii "%9%x%"))
+    ∷ case after51 (replacement None (ascii "%9%x%"))
     (checked (record { number = 20; offset = 3; first = 0; second = 0; count = 0 }))
-    ∷ case (only 1) (replacement none (ascii "%9" ++ (0xFF ∷ [])))
+    ∷ case (only 1) (replacement None (ascii "%9" ++ (0xFF ∷ [])))
     (checked (record { number = 23; offset = 2; first = 0; second = 0; count = 0 }))
-    ∷ case (only 1) (literal (code "G") none 0 (ascii "'%9%x%'"))
+    ∷ case (only 1) (literal (code "G") None 0 (ascii "'%9%x%'"))
     (unspanned (record { number = 0; offset = 0; first = 0; second = 0; count = 0 }))
-    ∷ case (only 1) (literal (code "G") (some 8) 0 (ascii "'%9%x%'"))
+    ∷ case (only 1) (literal (code "G") (Some 8) 0 (ascii "'%9%x%'"))
     (spanned (record { number = 21; offset = 1; first = 0; second = 0; count = 0 }) 2 3)
-    ∷ case (only 1) (literal (code "G") none 0 (ascii "'%9\\65'"))
+    ∷ case (only 1) (literal (code "G") None 0 (ascii "'%9\\65'"))
     skipped
     ∷ []
 
@@ -195,19 +194,19 @@ reversed_at offset start end =
 
 abbrev pub ranges_elsewhere : List Case
 ranges_elsewhere =
-    case every (literal (code "P") none 10 (ascii "'[z-a]'")) (reversed_at 1 12 13)
-    ∷ case every (literal (code "P") none 10 (ascii "'[" ++ é ++ ascii "-a]'")) (reversed_at 2 13 14)
-    ∷ case every (literal (code "P") none 0xFFFF_FFFE (ascii "'[z-a]'")) (reversed_at 1 0xFFFF_FFFF 0xFFFF_FFFF)
-    ∷ case every (literal (code "P") none 10 (ascii "\"[z-%a]\"")) (reversed_at 1 12 13)
-    ∷ case every (literal (code "P") none 10 (ascii "'[\"z-a]'")) (reversed_at 2 13 14)
-    ∷ case every (literal (code "P") none 10 (ascii "'[z-a]\\'"))
+    case every (literal (code "P") None 10 (ascii "'[z-a]'")) (reversed_at 1 12 13)
+    ∷ case every (literal (code "P") None 10 (ascii "'[" ++ é ++ ascii "-a]'")) (reversed_at 2 13 14)
+    ∷ case every (literal (code "P") None 0xFFFF_FFFE (ascii "'[z-a]'")) (reversed_at 1 0xFFFF_FFFF 0xFFFF_FFFF)
+    ∷ case every (literal (code "P") None 10 (ascii "\"[z-%a]\"")) (reversed_at 1 12 13)
+    ∷ case every (literal (code "P") None 10 (ascii "'[\"z-a]'")) (reversed_at 2 13 14)
+    ∷ case every (literal (code "P") None 10 (ascii "'[z-a]\\'"))
     (unspanned (record { number = 0; offset = 0; first = 0; second = 0; count = 0 }))
-    ∷ case every (literal (code "P") none 10 (ascii "'[z-a]\\n'"))
+    ∷ case every (literal (code "P") None 10 (ascii "'[z-a]\\n'"))
     (unspanned (record { number = 0; offset = 0; first = 0; second = 0; count = 0 }))
-    ∷ case every (literal (code "P") none 10 (ascii "'\\n([z-a]'"))
+    ∷ case every (literal (code "P") None 10 (ascii "'\\n([z-a]'"))
     (spanned (record { number = 11; offset = 8; first = 0; second = 0; count = 0 }) 19 20)
-    ∷ case every (literal (code "P") none 10 (ascii "'[z-a]\\65'")) skipped
-    ∷ case every (literal (code "F") none 10 (ascii "'[z-a]'"))
+    ∷ case every (literal (code "P") None 10 (ascii "'[z-a]\\65'")) skipped
+    ∷ case every (literal (code "F") None 10 (ascii "'[z-a]'"))
     (unspanned (record { number = 0; offset = 0; first = 0; second = 0; count = 0 }))
     ∷ case every (trial (ascii "az") (ascii "[z-a]") (ascii "x") 1000 (ascii "..."))
     (tried (record { number = 0; kind = 0; written = 2; replacements = 0; steps = 3 }) (ascii "az."))

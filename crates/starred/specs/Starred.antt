@@ -1,9 +1,8 @@
 -- The starred cases of document 01, as a list, and one lemma for all of it, by computation. A case that document 01
 -- gives without a version is computed under all six.
 -- Assumes nothing.
-use Rattle.std.specs.Prelude.{ℕ, ◌≡◌, refl, List, [], ◌∷◌}
+use Rattle.std.specs.Prelude.{ℕ, ◌≡◌, refl, List, [], ◌∷◌, Some}
 use Prim.Native.Char.{code}
-use Rattle.std.proofs.Math.Option.{some}
 use Rattle.luck_text.specs.Bytes.{ascii}
 use Rattle.luck_linter.specs.Computed.{computed as checks_computed}
 use Rattle.lstr_gsub.specs.Computed.{computed as trial_computed}
@@ -29,9 +28,9 @@ starred =
     ∷ case every (pattern (ascii "()%1"))
     (checked (record { number = 0; offset = 0; first = 0; second = 0; count = 1 }))
     ∷ case every (pack (ascii "!8i3")) (checked (record { number = 17; offset = 2; first = 0; second = 0; count = 0 }))
-    ∷ case every (replacement (some 1) (ascii "%2"))
+    ∷ case every (replacement (Some 1) (ascii "%2"))
     (checked (record { number = 21; offset = 1; first = 0; second = 0; count = 0 }))
-    ∷ case every (replacement (some 0) (ascii "%1"))
+    ∷ case every (replacement (Some 0) (ascii "%1"))
     (checked (record { number = 0; offset = 0; first = 0; second = 0; count = 0 }))
     ∷ case every (trial (ascii "a") (ascii "a") (ascii "x") 2 (ascii "....."))
     (tried (record { number = 27; kind = 0; written = 1; replacements = 1; steps = 2 }) (ascii "x...."))

@@ -1,52 +1,46 @@
 // Stored answers of the checks. A record: a question, and the answer: its number in one byte, the offset in two, the two characters in
 // four each, and the count in two.
 ghost use Rattle.std.specs.Prelude.{◌+◌, ◌≤◌, length};
-ghost use Rattle.stored_questions.specs.Places.{AnswerLies};
 
-use luck_answer::answer;
 use luck_answer::answer::Answer;
 use luck_linter::checks;
-use luck_linter::checks::Named;
 use stored_questions::question;
-use stored_questions::question::Question;
+use stored_questions::question::{Answers, Question};
 use stored_records::bytes;
+use stored_records::records::{BadRecord, Records, Turn};
 
-pub fn agrees(file: &[u8], question: Question) -> bool
-    requires { AnswerLies 13 (length file.now) question }
-{
-    let captures = question.captures;
-    let named = checks::check_of(question.kind, captures);
-    let Named::Check(check) = named else {
-        return false;
-    };
-    let given = answer::of_checked(question::ask(file, question, check, question.version));
-    is_same(given, answer_at(file, question.answer))
+/// Answers of the checks.
+#[derive(Clone, Copy, Debug, PartialEq, Eq)]
+pub struct Checks;
+
+impl Records for Checks {
+    fn turn(file: &[u8], at: usize) -> Result<Turn, BadRecord> {
+        question::turn::<Checks>(file, at)
+    }
 }
 
-pub fn answer_at(file: &[u8], at: usize) -> Answer
-    requires { at + 13 ≤ length file.now }
+impl Answers for Checks {
+    ghost WIDTH = { 13 };
+
+    const WIDTH: usize = 13;
+
+    fn agrees(question: &Question) -> bool {
+        let Some(check) = checks::check_of(question.kind, question.captures) else {
+            return false;
+        };
+        let given = question.ask(check, question.version);
+        Answer::from(given) == answer_at(question.answer, 0)
+    }
+}
+
+pub fn answer_at(stored: &[u8], at: usize) -> Answer
+    requires { at + 13 ≤ length stored.now }
 {
     Answer {
-        number: bytes::byte_at(file, at),
-        first: bytes::word_at(file, at + 3),
-        second: bytes::word_at(file, at + 7),
-        offset: bytes::short_at(file, at + 1),
-        count: bytes::short_at(file, at + 11),
+        number: bytes::byte_at(stored, at),
+        first: bytes::word_at(stored, at + 3),
+        second: bytes::word_at(stored, at + 7),
+        offset: bytes::short_at(stored, at + 1),
+        count: bytes::short_at(stored, at + 11),
     }
-}
-
-pub fn is_same(given: Answer, stored: Answer) -> bool {
-    if given.number != stored.number {
-        return false;
-    }
-    if given.offset != stored.offset {
-        return false;
-    }
-    if given.first != stored.first {
-        return false;
-    }
-    if given.second != stored.second {
-        return false;
-    }
-    given.count == stored.count
 }

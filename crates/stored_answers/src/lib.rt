@@ -1,7 +1,6 @@
 // Stored answers, replayed: a file is read record by record, the library is asked, and the records that differ are counted.
 #![tactic(auto)]
 
-mod asked;
-mod checks;
-mod literal_checks;
+pub mod checks;
+pub mod literal_checks;
 pub mod replay;

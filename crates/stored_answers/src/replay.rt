@@ -1,68 +1,77 @@
 // The replay of a stored file, record by record.
-ghost use Rattle.std.specs.Prelude.{◌≤◌, length};
-ghost use Rattle.stored_records.specs.Tally.{Passes};
-
-use crate::asked;
-use crate::asked::Answers;
+use std::error::Error;
 use std::io::Print;
 use std::rt::Files;
-use stored_files::reader::Loaded;
-use stored_files::{reader, report};
-use stored_literals::literals;
-use stored_records::tally;
-use stored_records::tally::{Replay, Turn};
-use stored_trials::trials;
+use std::{fmt, io};
+use stored_files::reader;
+use stored_files::reader::LoadError;
+use stored_records::records::{BadRecord, Records};
+use stored_records::tally::Tally;
 
-// What the records of a file are.
-#[derive(Clone, Copy)]
-pub enum Format {
-    Literals,
-    Checks,
-    LiteralChecks,
-    RealLua,
-    Trials,
+/// Why a file was not replayed.
+#[derive(Clone, Copy, Debug, PartialEq, Eq)]
+pub enum ReplayError {
+    Load(LoadError),
+    Record(BadRecord),
 }
 
-pub fn run<R: Files + Print>(rt: &R, name: &[u8], path: &[u8], format: Format) {
-    let mut file = [0u8; 262144];
-    run_in(rt, name, path, format, &mut file);
+impl fmt::Display for ReplayError {
+    fn fmt<W: fmt::Write>(&self, f: &mut fmt::Formatter<W>) -> fmt::Result {
+        match self {
+            ReplayError::Load(error) => write!(f, "{error}"),
+            ReplayError::Record(error) => write!(f, "{error}"),
+        }
+    }
+}
+
+impl Error for ReplayError {}
+
+impl From<LoadError> for ReplayError {
+    fn from(error: LoadError) -> Self {
+        ReplayError::Load(error)
+    }
+}
+
+impl From<BadRecord> for ReplayError {
+    fn from(error: BadRecord) -> Self {
+        ReplayError::Record(error)
+    }
+}
+
+/// Replays a file, and prints its name and what was found.
+pub fn run<R: Records>(rt: &(impl Files + Print), name: &[u8], path: &[u8]) {
+    let mut buffer = [0u8; 262144];
+    let found = replay_file::<R>(rt, path, &mut buffer);
+    // A line that can't be written is missed in what the program prints, and nothing else can be said of it.
+    let _ = print_line(rt, name, found);
+}
+
+fn print_line(out: &impl Print, name: &[u8], found: Result<Tally, ReplayError>) -> io::Result<()> {
+    out.write_all(name)?;
+    match found {
+        Ok(tally) => println!(out; ": {tally}"),
+        Err(error) => println!(out; ": {error}"),
+    }
 }
 
 // With a buffer that has to be larger than the file.
-fn run_in<R: Files + Print>(rt: &R, name: &[u8], path: &[u8], format: Format, file: &mut [u8]) {
-    let loaded = reader::load(rt, path, file);
-    match loaded {
-        Loaded::Length(n) => report::replayed(rt, name, replay(format, &file[0..n])),
-        _ => report::not_read(rt, name, loaded),
-    }
+fn replay_file<R: Records>(
+    files: &impl Files,
+    path: &[u8],
+    buffer: &mut [u8],
+) -> Result<Tally, ReplayError> {
+    let length = reader::load(files, path, buffer)?;
+    Ok(replay::<R>(&buffer[..length])?)
 }
 
-fn replay(format: Format, file: &[u8]) -> Replay {
-    let mut tally = tally::none();
+fn replay<R: Records>(file: &[u8]) -> Result<Tally, BadRecord> {
+    let mut tally = Tally::default();
     let mut at = 0;
+    // How far a turn goes is known only when its record is read.
     while at < file.len() {
-        let passed = turn(format, file, at);
-        match passed {
-            Turn::Bad => return Replay::BadFile,
-            Turn::Record { agrees, next } => {
-                tally = tally::count(tally, agrees);
-                at = next;
-            }
-        }
+        let turn = R::turn(file, at)?;
+        tally.count(turn.agrees);
+        at = turn.next;
     }
-    Replay::Whole(tally)
-}
-
-// The record that stands at a place.
-fn turn(format: Format, file: &[u8], at: usize) -> Turn
-    requires { at ≤ length file.now }
-    ensures { Passes at (length file.now) result }
-{
-    match format {
-        Format::Literals => literals::turn(file, at),
-        Format::Checks => asked::turn(Answers::Checks, file, at),
-        Format::LiteralChecks => asked::turn(Answers::LiteralChecks, file, at),
-        Format::RealLua => asked::turn(Answers::RealLua, file, at),
-        Format::Trials => trials::turn(file, at),
-    }
+    Ok(tally)
 }

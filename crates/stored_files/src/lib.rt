@@ -1,5 +1,4 @@
-// Stored files: read into a lent buffer, and a line of what was found in each.
+// Stored files, read into a lent buffer.
 #![tactic(auto)]
 
 pub mod reader;
-pub mod report;

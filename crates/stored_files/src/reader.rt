@@ -1,51 +1,55 @@
 // Reading a stored file into a lent buffer.
-ghost use Rattle.std.specs.Prelude.{length};
-ghost use Rattle.stored_files.specs.Loads.{Loads};
+ghost use Rattle.std.specs.Prelude.{◌<◌, length, IfOk};
 
+use std::error::Error;
 use std::fs::File;
 use std::io::Read;
 use std::rt::Files;
-use std::str;
+use std::{fmt, str};
 
-#[derive(Clone, Copy)]
-pub enum Loaded {
-    Length(usize),
+/// Why a file was not read whole.
+#[derive(Clone, Copy, Debug, PartialEq, Eq)]
+pub enum LoadError {
     Missing,
     Unreadable,
-    // as large as the buffer, so its end was not seen
+    /// As large as the buffer, so its end was not seen.
     TooLarge,
 }
 
-// A path is text: bytes that are no UTF-8 name no file.
-pub fn load(files: &impl Files, path: &[u8], buffer: &mut [u8]) -> Loaded
-    ensures { Loads (length buffer.old) result }
-{
-    match str::from_utf8(path) {
-        Ok(name) => load_named(files, name, buffer),
-        Err(_) => Loaded::Missing,
+impl fmt::Display for LoadError {
+    fn fmt<W: fmt::Write>(&self, f: &mut fmt::Formatter<W>) -> fmt::Result {
+        f.write_str(match self {
+            LoadError::Missing => "no file",
+            LoadError::Unreadable => "cannot be read",
+            LoadError::TooLarge => "too large",
+        })
     }
 }
 
-fn load_named(files: &impl Files, name: &str, buffer: &mut [u8]) -> Loaded
-    ensures { Loads (length buffer.old) result }
+impl Error for LoadError {}
+
+/// Reads a file whole, and returns how many bytes it has. A path is text: bytes that are no UTF-8 name no file.
+pub fn load(files: &impl Files, path: &[u8], buffer: &mut [u8]) -> Result<usize, LoadError>
+    ensures { IfOk result (λ n. n < length buffer.old) }
 {
-    match File::open(files, name) {
-        Ok(mut file) => read_all(&mut file, buffer),
-        Err(_) => Loaded::Missing,
-    }
+    let path = str::from_utf8(path).map_err(|_| LoadError::Missing)?;
+    let mut file = File::open(files, path).map_err(|_| LoadError::Missing)?;
+    read_all(&mut file, buffer)
 }
 
-// A read may give less than what is left, so it goes on to one that gives nothing.
-fn read_all(file: &mut impl Read, buffer: &mut [u8]) -> Loaded
-    ensures { Loads (length buffer.old) result }
+// A read may give less than what is left, so this goes on to one that gives nothing: how far a turn goes is known only then.
+fn read_all(file: &mut impl Read, buffer: &mut [u8]) -> Result<usize, LoadError>
+    ensures { IfOk result (λ n. n < length buffer.old) }
 {
     let mut done = 0;
     while done < buffer.len() {
-        match file.read(&mut buffer[done..]) {
-            Err(_) => return Loaded::Unreadable,
-            Ok(0) => return Loaded::Length(done),
-            Ok(more) => done += more,
+        let more = file
+            .read(&mut buffer[done..])
+            .map_err(|_| LoadError::Unreadable)?;
+        if more == 0 {
+            return Ok(done);
         }
+        done += more;
     }
-    Loaded::TooLarge
+    Err(LoadError::TooLarge)
 }

@@ -1,88 +1,96 @@
 // Questions to the checks and what the library answers. A record begins with its question: the kind letter and the version in one byte each, whether the
-// count of captures is known in one and the count in four, the text's length in two, and the text.
-ghost use Rattle.std.specs.Prelude.{◌+◌, ◌<◌, ◌≤◌, length};
-ghost use Rattle.stored_questions.specs.Places.{Asks, AnswerLies};
+// count of captures is known in one and the count in four, the text's length in two, and the text. The answer stands behind it.
+ghost use Rattle.std.specs.Prelude.{◌≡◌, ℕ, ◌+◌, ◌<◌, ◌≤◌, length, IfOk};
+ghost use Rattle.stored_questions.specs.Questions.{Asks};
+ghost use Rattle.stored_records.specs.Records.{Passes};
 
-use luck_answer::format_pattern::Checked;
+use luck_answer::format_pattern::CheckError;
 use luck_linter::checks;
 use luck_linter::checks::Check;
 use luck_linter::rules::format_string;
 use luck_linter::rules::format_string::Literal;
-use luck_replacement::replacement::Captures;
 use stored_records::bytes;
+use stored_records::records::{BadRecord, Turn};
 
-#[derive(Clone, Copy)]
-pub struct Question {
+#[derive(Clone, Copy, Debug)]
+pub struct Question<'a> {
     pub kind: u8,
     pub version: u32,
-    pub captures: Captures,
-    // the text's place, that of the answer behind it, and that of the next record
-    pub text: usize,
-    pub answer: usize,
+    pub captures: Option<usize>,
+    pub text: &'a [u8],
+    pub answer: &'a [u8],
+    /// The place of the next record.
     pub next: usize,
 }
 
-#[derive(Clone, Copy)]
-pub enum Asked {
-    Whole(Question),
-    Bad,
+/// What answers stand behind the questions of a file.
+pub trait Answers {
+    ghost WIDTH: { ℕ };
+
+    /// How many bytes an answer has.
+    const WIDTH: usize;
+
+    /// Whether the library agrees with the answer.
+    fn agrees(question: &Question) -> bool
+        requires { length question.now.answer.now ≡ WIDTH };
 }
 
-// The question of a record whose answer has `width` bytes.
-pub fn question_at(file: &[u8], at: usize, width: usize) -> Asked
-    requires { (at ≤ length file.now) × (width < 256) }
-    ensures { Asks at width (length file.now) result }
+/// Replays the question that stands at a place.
+pub fn turn<A: Answers>(file: &[u8], at: usize) -> Result<Turn, BadRecord>
+    requires { at ≤ length file.now }
+    ensures { IfOk result (Passes at (length file.now)) }
+{
+    let question = question_at(file, at, A::WIDTH)?;
+    Ok(Turn {
+        agrees: A::agrees(&question),
+        next: question.next,
+    })
+}
+
+/// The question of a record whose answer has `width` bytes.
+pub fn question_at(file: &[u8], at: usize, width: usize) -> Result<Question<'_>, BadRecord>
+    requires { at ≤ length file.now }
+    ensures { IfOk result (Asks at width (length file.now)) }
 {
     if file.len() - at < 9 {
-        return Asked::Bad;
+        return Err(BadRecord);
     }
     let text = at + 9;
     let answer = text + bytes::short_at(file, at + 7);
-    let next = answer + width;
-    if file.len() < next {
-        return Asked::Bad;
+    if file.len() < answer {
+        return Err(BadRecord);
     }
-    Asked::Whole(Question {
+    if file.len() - answer < width {
+        return Err(BadRecord);
+    }
+    let next = answer + width;
+    Ok(Question {
         kind: file[at],
         version: bytes::byte_at(file, at + 1),
         captures: captures_at(file, at + 2),
-        text,
-        answer,
+        text: &file[text..answer],
+        answer: &file[answer..next],
         next,
     })
 }
 
-fn captures_at(file: &[u8], at: usize) -> Captures
+fn captures_at(file: &[u8], at: usize) -> Option<usize>
     requires { at + 4 < length file.now }
 {
     if file[at] == 0 {
-        return Captures::Unknown;
+        return None;
     }
-    let count = bytes::word_at(file, at + 1);
-    Captures::Known(count as usize)
+    Some(bytes::word_at(file, at + 1) as usize)
 }
 
-// The library's answer by the check that the question's letter names, in a version that need not be the question's.
-pub fn ask(file: &[u8], question: Question, check: Check, version: u32) -> Checked
-    requires { AnswerLies 0 (length file.now) question }
-{
-    let from = question.text;
-    let to = question.answer;
-    checks::validate(check, version, &file[from..to])
-}
+impl Question<'_> {
+    /// The library's answer by a check, in a version that need not be the question's.
+    pub fn ask(&self, check: Check, version: u32) -> Result<usize, CheckError> {
+        checks::validate(check, version, self.text)
+    }
 
-// The library's answer for a literal that starts at this place of its source.
-pub fn ask_literal(file: &[u8], question: Question, start: u32) -> Literal
-    requires { AnswerLies 0 (length file.now) question }
-{
-    let from = question.text;
-    let to = question.answer;
-    let captures = question.captures;
-    format_string::check_literal(
-        question.kind,
-        question.version,
-        captures,
-        start,
-        &file[from..to],
-    )
+    /// The library's answer for a literal that starts at this place of its source.
+    pub fn ask_literal(&self, start: u32) -> Literal {
+        format_string::check_literal(self.kind, self.version, self.captures, start, self.text)
+    }
 }

@@ -1,3 +1,4 @@
 pub mod Numbers
 pub mod Output
+pub mod Records
 pub mod Tally

@@ -1,131 +1,92 @@
-// Stored trials of gsub. A record: the versions that were asked in one byte, bit 0 for version 1 to bit 7 for 8; what is known in another, bit 0 that the
-// steps are, bit 1 that kinds 7 and 10 were not told apart, bit 2 that only number and kind are; the budget in four bytes; the output's length and those of pattern, replacement and subject in
-// two each; the three texts; the answer's number and kind in one byte each, its replacements in two, its steps in four, the length of what was written
-// in two; and what was written.
-ghost use Rattle.std.specs.Prelude.{◌+◌, ◌<◌, ◌≤◌, length};
-ghost use Rattle.stored_records.specs.Tally.{Passes};
-ghost use Rattle.stored_trials.specs.Trials.{TrialLies, TrialLiesBehind, TextsLie};
+// Stored trials of gsub. A record: the versions that were asked in one byte; what is known of the answer in another; the budget in four bytes; the
+// output's length and those of pattern, replacement and subject in two each; the three texts; the answer's number and kind in one byte each, its
+// replacements in two, its steps in four, the length of what was written in two; and what was written.
+ghost use Rattle.std.specs.Prelude.{◌+◌, ◌<◌, ◌≤◌, length, IfOk};
 
 use lstr_gsub::gsub;
 use lstr_gsub::gsub::Trial;
-use stored_records::tally::Turn;
+use stored_records::records::{BadRecord, Records, Turn};
+use stored_records::versions::Versions;
 use stored_records::{bytes, output};
 
-// The places of the three texts; the third ends at the answer.
-#[derive(Clone, Copy)]
-struct Texts {
-    pattern: usize,
-    replacement: usize,
-    subject: usize,
-    answer: usize,
-}
-
-#[derive(Clone, Copy)]
-struct Answer {
-    number: u32,
-    kind: u32,
-    replacements: usize,
-    steps: u32,
-    written: usize,
-}
-
-#[derive(Clone, Copy)]
-struct Record {
-    versions: u32,
-    known: u32,
-    budget: u32,
-    room: usize,
-    texts: Texts,
-    stored: Answer,
-    // the place of what was written, and that of the next record
-    value: usize,
-    next: usize,
-}
-
-#[derive(Clone, Copy)]
-enum Read {
-    Whole(Record),
-    Bad,
-}
+/// Stored trials of gsub.
+#[derive(Clone, Copy, Debug, PartialEq, Eq)]
+pub struct Trials;
 
 const MOST_ROOM: usize = 4096;
 
-pub fn turn(file: &[u8], at: usize) -> Turn
-    requires { at ≤ length file.now }
-    ensures { Passes at (length file.now) result }
-{
-    let read = record_at(file, at);
-    match read {
-        Read::Whole(record) => {
-            let mut output = [0u8; 4112];
-            Turn::Record {
-                agrees: agrees(file, record, &mut output),
-                next: record.next,
-            }
-        }
-        Read::Bad => Turn::Bad,
+#[derive(Clone, Copy)]
+struct Record<'a> {
+    versions: Versions,
+    known: Known,
+    budget: u32,
+    room: usize,
+    pattern: &'a [u8],
+    replacement: &'a [u8],
+    subject: &'a [u8],
+    answer: Trial,
+    written: &'a [u8],
+    next: usize,
+    ghost fits: { length written.now ≤ room },
+    ghost short: { room ≤ 4096 },
+}
+
+impl Records for Trials {
+    fn turn(file: &[u8], at: usize) -> Result<Turn, BadRecord> {
+        let read = record_at(file, at)?;
+        Ok(Turn {
+            agrees: agrees(&read),
+            next: read.next,
+        })
     }
 }
 
-fn record_at(file: &[u8], at: usize) -> Read
+fn record_at(file: &[u8], at: usize) -> Result<Record<'_>, BadRecord>
     requires { at ≤ length file.now }
-    ensures { TrialLiesBehind at (length file.now) result }
+    ensures { IfOk result (λ r. (at < r.next) × (r.next ≤ length file.now)) }
 {
     if file.len() - at < 14 {
-        return Read::Bad;
+        return Err(BadRecord);
     }
-    let versions = bytes::byte_at(file, at);
-    let known = bytes::byte_at(file, at + 1);
-    let budget = bytes::word_at(file, at + 2);
     let room = bytes::short_at(file, at + 6);
-    let texts = texts_at(file, at);
-    let value = texts.answer + 10;
+    let pattern = at + 14;
+    let replacement = pattern + bytes::short_at(file, at + 8);
+    let subject = replacement + bytes::short_at(file, at + 10);
+    let answer = subject + bytes::short_at(file, at + 12);
+    let value = answer + 10;
     if file.len() < value {
-        return Read::Bad;
+        return Err(BadRecord);
     }
-    let stored = answer_at(file, texts.answer);
+    let stored = answer_at(file, answer);
     let next = value + stored.written;
     if file.len() < next {
-        return Read::Bad;
+        return Err(BadRecord);
     }
     if room < stored.written {
-        return Read::Bad;
+        return Err(BadRecord);
     }
     if MOST_ROOM < room {
-        return Read::Bad;
+        return Err(BadRecord);
     }
-    Read::Whole(Record {
-        versions,
-        known,
-        budget,
+    Ok(Record {
+        versions: Versions(file[at]),
+        known: Known::from(file[at + 1]),
+        budget: bytes::word_at(file, at + 2),
         room,
-        texts,
-        stored,
-        value,
+        pattern: &file[pattern..replacement],
+        replacement: &file[replacement..subject],
+        subject: &file[subject..answer],
+        answer: stored,
+        written: &file[value..next],
         next,
     })
 }
 
-fn texts_at(file: &[u8], at: usize) -> Texts
-    requires { at + 14 ≤ length file.now }
-    ensures { TextsLie at result }
-{
-    let pattern = at + 14;
-    let replacement = pattern + bytes::short_at(file, at + 8);
-    let subject = replacement + bytes::short_at(file, at + 10);
-    Texts {
-        pattern,
-        replacement,
-        subject,
-        answer: subject + bytes::short_at(file, at + 12),
-    }
-}
-
-fn answer_at(file: &[u8], at: usize) -> Answer
+fn answer_at(file: &[u8], at: usize) -> Trial
     requires { at + 10 ≤ length file.now }
     ensures { result.written < 65536 }
 {
-    Answer {
+    Trial {
         number: bytes::byte_at(file, at),
         kind: bytes::byte_at(file, at + 1),
         replacements: bytes::short_at(file, at + 2),
@@ -135,93 +96,73 @@ fn answer_at(file: &[u8], at: usize) -> Answer
 }
 
 // Whether the trial under each version that was asked gives the stored answer.
-fn agrees(file: &[u8], record: Record, output: &mut [u8]) -> bool
-    requires { TrialLies (length file.now) «record» × (4111 < length output.old) }
-{
-    let mut version: u32 = 1;
-    'versions: while version < 9 {
-        if (record.versions >> (version - 1)) % 2 == 0 {
-            version += 1;
-            continue 'versions;
-        }
-        if !agrees_under(file, record, version, output) {
+fn agrees(stored: &Record) -> bool {
+    for version in 1..9 {
+        if stored.versions.contains(version) && !agrees_under(stored, version) {
             return false;
         }
-        version += 1;
     }
     true
 }
 
 // Whether as much of the answer as is known is the stored one, and what was written is what was stored.
-fn agrees_under(file: &[u8], record: Record, version: u32, output: &mut [u8]) -> bool
-    requires { TrialLies (length file.now) «record» × (4111 < length output.old) }
-{
-    let room = record.room;
-    output::clear(output, room);
-    let trial = trial_of(file, record, version, output);
-    let stored = record.stored;
-    let known = record.known;
-    if !is_same_kind(trial, stored, known) {
-        return false;
-    }
-    if known / 4 % 2 == 1 {
-        return true;
-    }
-    if !is_same_work(trial, stored, known) {
-        return false;
-    }
-    let value = record.value;
-    let next = record.next;
-    output::holds(output, room, file, value, next)
-}
-
-fn trial_of(file: &[u8], record: Record, version: u32, output: &mut [u8]) -> Trial
-    requires { TrialLies (length file.now) «record» × (4111 < length output.old) }
-{
-    let room = record.room;
-    let texts = record.texts;
-    let pattern = texts.pattern;
-    let replacement = texts.replacement;
-    let subject = texts.subject;
-    let answer = texts.answer;
-    gsub::gsub(
+fn agrees_under(stored: &Record, version: u32) -> bool {
+    let room = stored.room;
+    let mut output = [0u8; 4112];
+    output::clear(&mut output, room);
+    let given = gsub::gsub(
         version,
-        &file[pattern..replacement],
-        &file[replacement..subject],
-        &file[subject..answer],
-        record.budget,
-        &mut output[0..room],
-    )
+        stored.pattern,
+        stored.replacement,
+        stored.subject,
+        stored.budget,
+        &mut output[..room],
+    );
+    let known = stored.known;
+    known.agrees(given, stored.answer)
+        && (!known.work || output::holds(&output, room, stored.written))
 }
 
-// Whether number and kind are the stored ones.
-fn is_same_kind(given: Trial, stored: Answer, known: u32) -> bool {
-    if given.number != stored.number {
-        return false;
-    }
-    if known / 2 % 2 == 1 {
-        return told_as_7(given.kind) == stored.kind;
-    }
-    given.kind == stored.kind
+// What is known of a stored answer.
+#[derive(Clone, Copy, Debug, PartialEq, Eq)]
+struct Known {
+    steps: bool,
+    // Kind 10 is stored as 7: real Lua has one message for both, but for 5.2.
+    tens_as_sevens: bool,
+    // More than number and kind: the replacements and what was written.
+    work: bool,
 }
 
-// Whether the replacements, the steps where they are known, and the length of what was written are the stored ones.
-fn is_same_work(given: Trial, stored: Answer, known: u32) -> bool {
-    if given.replacements != stored.replacements {
-        return false;
-    }
-    if known % 2 == 1 {
-        if given.steps != stored.steps {
-            return false;
+// Bit 0: the steps are known; bit 1: kinds 7 and 10 were not told apart; bit 2: only number and kind are known.
+impl From<u8> for Known {
+    fn from(bits: u8) -> Self {
+        Known {
+            steps: bits & 1 != 0,
+            tens_as_sevens: bits & 2 != 0,
+            work: bits & 4 == 0,
         }
     }
-    given.written == stored.written
 }
 
-// Real Lua has one message for kinds 7 and 10, but for 5.2.
-fn told_as_7(kind: u32) -> u32 {
-    if kind == 10 {
-        return 7;
+impl Known {
+    // field by field, since what is not known is not compared
+    fn agrees(self, given: Trial, stored: Trial) -> bool {
+        given.number == stored.number
+            && self.told(given.kind) == stored.kind
+            && (!self.work || self.agrees_in_work(given, stored))
     }
-    kind
+
+    fn agrees_in_work(self, given: Trial, stored: Trial) -> bool {
+        given.replacements == stored.replacements
+            && given.written == stored.written
+            && (!self.steps || given.steps == stored.steps)
+    }
+
+    fn told(self, kind: u32) -> u32 {
+        if self.tens_as_sevens && kind == 10 {
+            7
+        } else {
+            kind
+        }
+    }
 }

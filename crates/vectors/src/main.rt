@@ -4,8 +4,13 @@
 
 use std::io::Print;
 use std::rt::Files;
+use stored_answers::checks::Checks;
+use stored_answers::literal_checks::LiteralChecks;
 use stored_answers::replay;
-use stored_answers::replay::Format;
+use stored_literals::literals::Literals;
+use stored_questions::real_lua::RealLua;
+use stored_records::records::Records;
+use stored_trials::trials::Trials;
 
 fn main(rt: HostRuntime) {
     luck_answers(&rt);
@@ -15,84 +20,84 @@ fn main(rt: HostRuntime) {
     no_answers(&rt);
 }
 
+// Files whose records are of one kind, each with its name.
+fn run_all<R: Records>(rt: &(impl Files + Print), files: &[(&str, &str)]) {
+    for &(name, path) in files {
+        replay::run::<R>(rt, name.as_bytes(), path.as_bytes());
+    }
+}
+
 // Answers of luck.
-fn luck_answers<R: Files + Print>(rt: &R) {
-    replay::run(rt, b"literals", b"literals.bin", Format::Literals);
-    replay::run(rt, b"formats", b"formats.bin", Format::Checks);
-    replay::run(rt, b"patterns", b"patterns.bin", Format::Checks);
-    replay::run(rt, b"packs", b"packs.bin", Format::Checks);
-    replay::run(rt, b"packsizes", b"packsizes.bin", Format::Checks);
-    replay::run(rt, b"replacements", b"replacements.bin", Format::Checks);
-    replay::run(rt, b"dates", b"dates.bin", Format::Checks);
-    replay::run(
+fn luck_answers(rt: &(impl Files + Print)) {
+    run_all::<Literals>(rt, &[("literals", "literals.bin")]);
+    run_all::<Checks>(
         rt,
-        b"checked literals",
-        b"checked_literals.bin",
-        Format::LiteralChecks,
+        &[
+            ("formats", "formats.bin"),
+            ("patterns", "patterns.bin"),
+            ("packs", "packs.bin"),
+            ("packsizes", "packsizes.bin"),
+            ("replacements", "replacements.bin"),
+            ("dates", "dates.bin"),
+        ],
     );
+    run_all::<LiteralChecks>(rt, &[("checked literals", "checked_literals.bin")]);
 }
 
 // Answers that were written by hand from document 01.
-fn document_answers<R: Files + Print>(rt: &R) {
-    replay::run(rt, b"rows of document 01", b"rows.bin", Format::Checks);
-    replay::run(
-        rt,
-        b"its literals",
-        b"literal_rows.bin",
-        Format::LiteralChecks,
-    );
-    replay::run(rt, b"its trials", b"trial_rows.bin", Format::Trials);
+fn document_answers(rt: &(impl Files + Print)) {
+    run_all::<Checks>(rt, &[("rows of document 01", "rows.bin")]);
+    run_all::<LiteralChecks>(rt, &[("its literals", "literal_rows.bin")]);
+    run_all::<Trials>(rt, &[("its trials", "trial_rows.bin")]);
 }
 
 // Answers of Lua 5.1 to 5.4. All that is known to differ stands in a file of its own, whose records must all differ.
-fn real_lua_answers<R: Files + Print>(rt: &R) {
-    replay::run(rt, b"real formats", b"real_formats.bin", Format::RealLua);
-    replay::run(rt, b"real patterns", b"real_patterns.bin", Format::RealLua);
-    replay::run(rt, b"real packs", b"real_packs.bin", Format::RealLua);
-    replay::run(
+fn real_lua_answers(rt: &(impl Files + Print)) {
+    run_all::<RealLua>(
         rt,
-        b"real packsizes",
-        b"real_packsizes.bin",
-        Format::RealLua,
+        &[
+            ("real formats", "real_formats.bin"),
+            ("real patterns", "real_patterns.bin"),
+            ("real packs", "real_packs.bin"),
+            ("real packsizes", "real_packsizes.bin"),
+            ("real replacements", "real_replacements.bin"),
+            ("real dates", "real_dates.bin"),
+        ],
     );
-    replay::run(
+    run_all::<Trials>(
         rt,
-        b"real replacements",
-        b"real_replacements.bin",
-        Format::RealLua,
+        &[
+            ("real gsub, 1", "real_gsub_1.bin"),
+            ("real gsub, 2", "real_gsub_2.bin"),
+            ("real gsub, 3", "real_gsub_3.bin"),
+            ("real gsub, 4", "real_gsub_4.bin"),
+            ("real gsub, 5", "real_gsub_5.bin"),
+        ],
     );
-    replay::run(rt, b"real dates", b"real_dates.bin", Format::RealLua);
-    replay::run(rt, b"real gsub, 1", b"real_gsub_1.bin", Format::Trials);
-    replay::run(rt, b"real gsub, 2", b"real_gsub_2.bin", Format::Trials);
-    replay::run(rt, b"real gsub, 3", b"real_gsub_3.bin", Format::Trials);
-    replay::run(rt, b"real gsub, 4", b"real_gsub_4.bin", Format::Trials);
-    replay::run(rt, b"real gsub, 5", b"real_gsub_5.bin", Format::Trials);
-    replay::run(
-        rt,
-        b"real, known to differ",
-        b"real_known.bin",
-        Format::RealLua,
-    );
+    run_all::<RealLua>(rt, &[("real, known to differ", "real_known.bin")]);
 }
 
 // A few records that are right, and others that are wrong in one field each: the lines show that a difference is told.
-fn wrong_answers<R: Files + Print>(rt: &R) {
-    replay::run(rt, b"wrong literals", b"wrong.bin", Format::Literals);
-    replay::run(rt, b"wrong checks", b"wrong_checks.bin", Format::Checks);
-    replay::run(
+fn wrong_answers(rt: &(impl Files + Print)) {
+    run_all::<Literals>(rt, &[("wrong literals", "wrong.bin")]);
+    run_all::<Checks>(rt, &[("wrong checks", "wrong_checks.bin")]);
+    run_all::<LiteralChecks>(
         rt,
-        b"wrong checked literals",
-        b"wrong_checked_literals.bin",
-        Format::LiteralChecks,
+        &[("wrong checked literals", "wrong_checked_literals.bin")],
     );
-    replay::run(rt, b"wrong real", b"wrong_real.bin", Format::RealLua);
-    replay::run(rt, b"wrong trials", b"wrong_trials.bin", Format::Trials);
+    run_all::<RealLua>(rt, &[("wrong real", "wrong_real.bin")]);
+    run_all::<Trials>(rt, &[("wrong trials", "wrong_trials.bin")]);
 }
 
 // What can't be replayed: the lines say why.
-fn no_answers<R: Files + Print>(rt: &R) {
-    replay::run(rt, b"cut off", b"cut_off.bin", Format::Checks);
-    replay::run(rt, b"missing", b"missing.bin", Format::Checks);
-    replay::run(rt, b"a folder", b".", Format::Checks);
-    replay::run(rt, b"without end", b"/dev/zero", Format::Checks);
+fn no_answers(rt: &(impl Files + Print)) {
+    run_all::<Checks>(
+        rt,
+        &[
+            ("cut off", "cut_off.bin"),
+            ("missing", "missing.bin"),
+            ("a folder", "."),
+            ("without end", "/dev/zero"),
+        ],
+    );
 }

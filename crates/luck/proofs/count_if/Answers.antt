@@ -1,12 +1,13 @@
 -- `luck::count_if` meets its contract. Assumes nothing.
-use mathlib.Core.Path.{sym, ap}
+use Rattle.std.proofs.Common.{◌≡◌, ℕ, Bool, true, false, refl, ◌∙◌}
+use Rattle.std.specs.Bool.{then_some}
 use Rattle.luck_structs.specs.Answers.{count_if}
 use Rattle.luck.proofs.count_if.Goals as goal
 
-pub returns-then-known : goal.returns-then-known
+same : (known : Bool) (captures : ℕ) → then_some known captures ≡ count_if known captures
 unfolding count_if
-returns-then-known c = ap (λ known. count_if known c.args.captures) (sym c.if-known.true)
+same true captures = refl
+same false captures = refl
 
 pub returns : goal.returns
-unfolding count_if
-returns c = ap (λ known. count_if known c.args.captures) (sym c.if-known.false)
+returns c = c.then_some.ensures ∙ same c.args.known c.args.captures

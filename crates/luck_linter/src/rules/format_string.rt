@@ -1,10 +1,7 @@
 // The check of a literal in a source, by the kind of its text.
-ghost use Rattle.std.specs.Prelude.{◌≡◌, true, ◌+◌, min};
-ghost use Rattle.luck_token.specs.Span.{u32_max};
+ghost use Rattle.std.specs.Prelude.{◌≡◌, true};
 ghost use Rattle.luck_answer.specs.Answer.{check_answer};
-ghost use Rattle.luck_replacement.specs.Replacement.{count_of};
-ghost use Rattle.std.proofs.Math.Option.{some};
-ghost use Rattle.luck_linter.specs.Checks.{walk_of, check_meant, check_named};
+ghost use Rattle.luck_linter.specs.Checks.{walk_of, check_meant};
 ghost use Rattle.luck_linter.specs.StringLiteral.{
   is_numeric_escape,
   has_numeric_escape,
@@ -23,22 +20,18 @@ ghost use Rattle.luck_linter.specs.StringLiteral.{
 ghost use Rattle.luck_linter.specs.Inner.{is_some, is_numeric};
 
 use crate::checks;
-use crate::checks::{Check, Named};
+use crate::checks::{Check, UnknownKind};
 use luck_answer::answer::Answer;
-use luck_answer::format_pattern::Text;
-use luck_answer::{answer, format_pattern};
-use luck_replacement::replacement::Captures;
-use luck_text::scan::Class;
-use luck_text::{blocks, scan};
+use luck_text::blocks;
+use luck_text::scan::{Class, Digit};
 use luck_token::span::Span;
-use luck_token::string::ShortString;
 use luck_token::version::Rules;
-use luck_token::{string, version};
+use luck_token::{string, text};
 use luck_utf8::utf8;
 
-// luck_literal of include/luck.h.
+// luck_literal of include/luck.h, which has flags where Rust would have an Option.
 #[repr(C)]
-#[derive(Clone, Copy)]
+#[derive(Clone, Copy, Debug, PartialEq, Eq)]
 pub struct Literal {
     pub number: u32,
     pub first: u32,
@@ -52,119 +45,81 @@ pub struct Literal {
     pub count: usize,
 }
 
-fn skipped() -> Literal
-    ensures { literal_answer result ≡ skipped_answer }
-{
-    Literal {
-        number: 0,
-        first: 0,
-        second: 0,
-        skipped: true,
-        spanned: false,
-        start: 0,
-        end: 0,
-        offset: 0,
-        count: 0,
+impl Literal {
+    fn skipped() -> Self
+        ensures { literal_answer result ≡ skipped_answer }
+    {
+        Literal {
+            skipped: true,
+            ..Literal::unspanned(Answer::accepted(0))
+        }
     }
-}
 
-fn unspanned(answer: Answer) -> Literal
-    ensures { literal_answer result ≡ unspanned (check_answer answer) }
-{
-    Literal {
-        number: answer.number,
-        first: answer.first,
-        second: answer.second,
-        skipped: false,
-        spanned: false,
-        start: 0,
-        end: 0,
-        offset: answer.offset,
-        count: answer.count,
+    fn unspanned(answer: Answer) -> Self
+        ensures { literal_answer result ≡ unspanned (check_answer answer) }
+    {
+        Literal {
+            number: answer.number,
+            first: answer.first,
+            second: answer.second,
+            skipped: false,
+            spanned: false,
+            start: 0,
+            end: 0,
+            offset: answer.offset,
+            count: answer.count,
+        }
     }
-}
 
-fn spanned(answer: Answer, span: Span) -> Literal
-    ensures { literal_answer result ≡ spanned_answer (check_answer answer) span }
-{
-    Literal {
-        number: answer.number,
-        first: answer.first,
-        second: answer.second,
-        skipped: false,
-        spanned: true,
-        start: span.start,
-        end: span.end,
-        offset: answer.offset,
-        count: answer.count,
+    fn spanned(answer: Answer, span: Span) -> Self
+        ensures { literal_answer result ≡ spanned_answer (check_answer answer) span }
+    {
+        Literal {
+            spanned: true,
+            start: span.start,
+            end: span.end,
+            ..Literal::unspanned(answer)
+        }
     }
 }
 
 // Whether a backslash before this byte begins an escape that spells a byte by its number.
+#[tactic(auto, unfolding(crate::specs::StringLiteral::is_numeric_escape))]
 fn is_numeric_escape(byte: u8) -> bool
     ensures { result ≡ is_numeric_escape byte }
 {
-    if scan::is_in(Class::Digit, byte) {
-        return true;
-    }
-    if byte == b'x' {
-        return true;
-    }
-    byte == b'u'
+    Digit.has(byte) || byte == b'x' || byte == b'u'
 }
 
 // A body's backslashes: none; some, but no escape that spells a byte by its number; such an escape.
-#[derive(Clone, Copy)]
+#[derive(Clone, Copy, Debug, PartialEq, Eq)]
 pub enum Escapes {
     Nothing,
     Plain,
     Numeric,
 }
 
-// Escapes are rare: what stands between them is passed over by blocks.
+// Escapes are rare: what stands between them is passed over by blocks, so that the steps of the loop vary.
 fn escapes_in(body: &[u8]) -> Escapes
     ensures { (is_numeric result ≡ has_numeric_escape body.now) × (is_some result ≡ has_backslash body.now) }
 {
-    let mut backslash = false;
+    let mut found = Escapes::Nothing;
     let mut at = blocks::blocks_end(body, 0, b'\\');
     while at < body.len() {
         if body[at] != b'\\' {
             at += 1;
             continue;
         }
-        backslash = true;
+        found = Escapes::Plain;
         if body.len() - at == 1 {
-            return Escapes::Plain;
+            return found;
         }
-        let next = at + 1;
-        if is_numeric_escape(body[next]) {
+        if is_numeric_escape(body[at + 1]) {
             return Escapes::Numeric;
         }
         at = blocks::blocks_end(body, at + 2, b'\\');
     }
-    if backslash {
-        return Escapes::Plain;
-    }
-    Escapes::Nothing
-}
-
-// A sum that stays at the largest number.
-fn saturating_add(a: usize, b: usize) -> usize
-    ensures { result ≡ min (a + b) 0xFFFF_FFFF_FFFF_FFFF }
-{
-    if 0xFFFF_FFFF_FFFF_FFFF - a < b {
-        return 0xFFFF_FFFF_FFFF_FFFF;
-    }
-    a + b
-}
-
-fn one_later(start: u32) -> u32
-    ensures { result ≡ min (start + 1) u32_max }
-{
-    if start == 0xFFFF_FFFF {
-        return 0xFFFF_FFFF;
-    }
-    start + 1
+    found
 }
 
 // The span of the character at an offset of the body, whose literal starts at `start`.
@@ -172,65 +127,65 @@ fn span_at(start: u32, body: &[u8], offset: usize) -> Span
     ensures { result ≡ span_at start body.now offset }
 {
     let character = utf8::char_at(body, offset);
-    let end = saturating_add(offset, character.width);
-    Span::from_indices(offset, end).shifted(one_later(start))
+    let end = offset.saturating_add(character.width);
+    Span::from_indices(offset, end).shifted(start.saturating_add(1))
 }
 
 fn walk_body(check: Check, rules: Rules, start: u32, body: &[u8]) -> Literal
     ensures { literal_answer result ≡ with_span start body.now (walk_of (check_meant check) rules body.now) }
 {
-    let answer = answer::of_walked(checks::walk(check, rules, body));
-    if answer.number == 0 {
-        return unspanned(answer);
+    match checks::walk(check, rules, body) {
+        Ok(count) => Literal::unspanned(Answer::accepted(count)),
+        Err(fault) => {
+            let answer = Answer::from(fault);
+            Literal::spanned(answer, span_at(start, body, answer.offset))
+        }
     }
-    let offset = answer.offset;
-    spanned(answer, span_at(start, body, offset))
 }
 
 // An escape may stand for an end of a range: where a backslash stands, ranges are not tested.
 fn check_body(check: Check, rules: Rules, start: u32, body: &[u8]) -> Literal
     ensures { literal_answer result ≡ check_body (check_meant check) rules start body.now }
 {
-    let escapes = escapes_in(body);
-    match escapes {
+    match escapes_in(body) {
         Escapes::Nothing => walk_body(check, rules, start, body),
         Escapes::Plain => walk_body(checks::without_ranges(check), rules, start, body),
-        Escapes::Numeric => skipped(),
+        Escapes::Numeric => Literal::skipped(),
     }
 }
 
 fn check_short(check: Check, rules: Rules, start: u32, text: &[u8]) -> Literal
     ensures { literal_answer result ≡ check_short (check_meant check) rules start text.now }
 {
-    let found = string::short_string_body(text);
-    match found {
-        ShortString::Body {
-            start: from,
-            end: to,
-        } => check_body(check, rules, start, &text[from..to]),
-        ShortString::Other => skipped(),
+    match string::short_string_body(text) {
+        Some(body) => check_body(check, rules, start, &text[body]),
+        None => Literal::skipped(),
     }
 }
 
 // By the check that the kind letter names.
+#[tactic(auto, using(crate::proofs::StringLiterals::named))]
 fn check_named(check: Check, version: u32, start: u32, text: &[u8]) -> Literal
-    ensures { literal_answer result ≡ check_named_literal (some (check_meant check)) version start text.now }
+    ensures { literal_answer result ≡ check_named_literal (Some (check_meant check)) version start text.now }
 {
-    let tested = format_pattern::read_text(version, text);
-    match tested {
-        Text::Fine => check_short(check, version::rules_of(version), start, text),
-        Text::NotUtf8(place) => unspanned(answer::refused(23, place)),
-        Text::UnknownVersion => unspanned(answer::refused(25, 0)),
+    match text::read_text(version, text) {
+        Ok(rules) => check_short(check, rules, start, text),
+        Err(error) => Literal::unspanned(Answer::from(error)),
     }
 }
 
 // The check of a literal's text: a kind letter, for G with a count of captures, a version, and the literal's start in its source.
-pub fn check_literal(kind: u8, version: u32, captures: Captures, start: u32, text: &[u8]) -> Literal
-    ensures { literal_answer result ≡ check_literal kind version (count_of captures) start text.now }
+pub fn check_literal(
+    kind: u8,
+    version: u32,
+    captures: Option<usize>,
+    start: u32,
+    text: &[u8],
+) -> Literal
+    ensures { literal_answer result ≡ check_literal kind version captures start text.now }
 {
-    let named = checks::check_of(kind, captures);
-    match named {
-        Named::Check(check) => check_named(check, version, start, text),
-        Named::Nothing => unspanned(answer::refused(30, 0)),
+    match checks::check_of(kind, captures) {
+        Some(check) => check_named(check, version, start, text),
+        None => Literal::unspanned(Answer::from(UnknownKind)),
     }
 }

@@ -8,8 +8,8 @@ use Rattle.lstr_attempt.proofs.attempt.attempt.Given as goal
 
 abbrev pub invariant-items : goal.invariant-items
 invariant-items l =
-    (turns.on (class_in l.classes) l.subject l.pattern l.budget l.at l.place 1 [] l.steps ≡ match (class_in l.classes) l.subject l.budget (items l.pattern l.fn.at) l.fn.place 1 [] l.fn.steps)
-    × (l.at ≤ length l.pattern) × (l.place ≤ length l.subject)
+    (turns.on (class_in l.state.classes.now) l.state.subject.now l.state.pattern.now l.state.budget l.at l.place 1 [] l.steps ≡ match (class_in l.state.classes.now) l.state.subject.now l.state.budget (items l.state.pattern.now l.fn.at) l.fn.place 1 [] l.fn.steps)
+    × (l.at ≤ length l.state.pattern.now) × (l.place ≤ length l.state.subject.now)
 
 abbrev pub decreases-items : goal.decreases-items
-decreases-items l = length l.pattern - l.at
+decreases-items l = length l.state.pattern.now - l.at

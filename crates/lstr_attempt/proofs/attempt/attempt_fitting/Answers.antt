@@ -1,46 +1,39 @@
 -- `lstr_attempt::attempt::attempt_fitting` meets its contract.
 use native.Mathlib.Omega.{arith}
 use mathlib.Core.Path.{refl}
-use Rattle.lstr_class.specs.Inner.{class_in}
 use Rattle.lstr_item.proofs.Captures.{is_open}
 use Rattle.lstr_item.proofs.Singles.{fits_inside}
 use Rattle.lstr_item.proofs.Turns as turns
-use Rattle.lstr_match.proofs.Repeats as repeats
+use Rattle.lstr_match.proofs.Attempts as attempts
 use Rattle.lstr_attempt.proofs.attempt.attempt_fitting.Goals as goal
 
-pub last_repeat-r-requires : goal.last_repeat-r-requires
-last_repeat-r-requires c =
-    let q = c.requires in
-    (q.0.single q.1, fits_inside _ _ _ _ q.3)
-
-pub returns-then-lead : goal.returns-then-lead
-returns-then-lead c =
-    let a = c.args in
-    let q = c.requires in
-    let w = q.0.last c.if-lead.true (class_in a.classes.now) a.subject.now a.budget a.place a.steps q.2 q.3 in
-    repeats.answered _ _ _ _ _ _ c.answer.ensures (c.last_repeat-r.ensures _ w.0 w.1) w.2
-
 pub overflow_add-place : goal.overflow_add-place
-overflow_add-place c = omega (arith, fits_inside _ _ _ _ c.requires.3)
+overflow_add-place c = omega (arith, fits_inside _ _ _ _ c.requires.2)
 
-pub attempt_from-r-requires : goal.attempt_from-r-requires
-attempt_from-r-requires c =
-    let q = c.requires in
-    ((q.0.goes c.if-lead-2.true).inside, omega (arith, fits_inside _ _ _ _ q.3))
+pub attempt_from-requires : goal.attempt_from-requires
+attempt_from-requires c =
+    let on = rw c.in-GoesOn.is at c.requires.0.fitted in
+    (on.inside, omega (arith, fits_inside _ _ _ _ c.requires.2))
 
-pub first_capture-r-requires : goal.first_capture-r-requires
-first_capture-r-requires c =
-    let q = c.requires in
-    ((q.0.captured q.1 c.if-lead-3.true).inside, omega (arith, fits_inside _ _ _ _ q.3), omega arith)
+pub last_repeat-requires : goal.last_repeat-requires
+last_repeat-requires c = (c.requires.0.single, fits_inside _ _ _ _ c.requires.2)
 
-pub returns-then-lead-3 : goal.returns-then-lead-3
-returns-then-lead-3 c =
-    let a = c.args in
+pub returns-in-IsLast : goal.returns-in-IsLast
+returns-in-IsLast c =
     let q = c.requires in
-    repeats.answered _ _ _ _ _ _ c.answer-then-lead-3.ensures c.first_capture-r.ensures
-    (turns.at_start (class_in a.classes.now) a.subject.now a.pattern.now a.budget 0 a.place 1 _ a.steps q.2 _ _ (is_open _ _ refl) (q.0.captured q.1 c.if-lead-3.true))
+    let w = (rw c.in-IsLast.is at q.0.fitted) _ _ _ _ _ q.1 q.2 in
+    attempts.answered _ _ _ _ _ _ c.answer-in-IsLast.ensures (c.last_repeat.ensures _ w.0 w.1) w.2
 
-pub attempt-r-requires : goal.attempt-r-requires
-attempt-r-requires c =
+pub first_capture-requires : goal.first_capture-requires
+first_capture-requires c =
+    let t = rw c.in-IsCaptured.is at c.requires.0.fitted in
+    (t.inside, omega (arith, fits_inside _ _ _ _ c.requires.2), omega arith)
+
+pub returns-in-IsCaptured : goal.returns-in-IsCaptured
+returns-in-IsCaptured c =
     let q = c.requires in
-    (omega arith, omega (arith, fits_inside _ _ _ _ q.3))
+    let t = rw c.in-IsCaptured.is at q.0.fitted in
+    attempts.answered _ _ _ _ _ _ c.answer-in-IsCaptured.ensures c.first_capture.ensures (turns.at_start _ _ _ _ _ _ _ _ _ q.1 _ _ (is_open _ _ refl) t)
+
+pub attempt-requires : goal.attempt-requires
+attempt-requires c = (omega arith, omega (arith, fits_inside _ _ _ _ c.requires.2))

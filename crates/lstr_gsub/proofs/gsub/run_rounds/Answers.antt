@@ -1,119 +1,75 @@
--- `lstr_gsub::gsub::run_rounds` meets its contract. The invariant: the rounds from here are the whole answer. Assumes nothing.
+-- `lstr_gsub::gsub::run_rounds` meets its contract.
 use native.Mathlib.Omega.{arith}
-use mathlib.Core.Logic.{inl, inr}
+use Rattle.std.specs.Prelude.{Ok, Err}
 use Rattle.luck_pattern.specs.Items.{items}
 use Rattle.lstr_class.specs.Inner.{class_in}
+use Rattle.lstr_item.proofs.Captures.{captures_part, kept_part}
 use Rattle.lstr_gsub.proofs.Rounds as rounds
 use borrow.Author.Rules.{rules}
 use Rattle.lstr_gsub.proofs.gsub.run_rounds.Goals as goal
-use Rattle.lstr_gsub.proofs.gsub.run_rounds.Goals.{then-attempt-eq0+else-end-after_last, else-attempt-eq0}
+use Rattle.lstr_gsub.proofs.gsub.run_rounds.Goals.{Joined-attempt, in-Matched+else-ne, in-Failed}
 
-pub rounds-init : goal.rounds-init
-rounds-init c =
-    let a = c.args in
-    rounds.starts (class_in a.classes.now) a.subject.now a.budget a.is_strict a.replacement.now (items a.pattern.now 0) a.output.now
-
-pub attempt_at-attempt-requires : goal.attempt_at-attempt-requires
-attempt_at-attempt-requires c =
+pub returns-in-Stopped : goal.returns-in-Stopped
+returns-in-Stopped c =
     let l = c.rounds in
-    (c.lead_of-lead.ensures, l.invariant.inside, l.invariant.steps)
+    let o = rw c.in-Stopped.is at c.attempt_at-attempt.ensures.0 in
+    rounds.reported_stop _ _ _ _ _ _ _ _ c.stopped.ensures l.invariant.upto (rounds.stopping _ _ _ _ _ _ _ _ _ _ _ _ _ l.invariant _ _ _ o)
 
-pub shape_of-output-then-attempt-gt1 : goal.shape_of-output-then-attempt-gt1
-shape_of-output-then-attempt-gt1 c = c.rounds.invariant.upto.same
+pub invariant_of-found : goal.invariant_of-found
+invariant_of-found c =
+    let o = rw c.in-Matched.is at c.attempt_at-attempt.ensures.0 in
+    let h = rw c.in-Matched.is at c.attempt_at-attempt.ensures.1 in
+    record { inside = (rounds.ends_later _ _ _ _ _ _ _ _ _ _ _ _ _ c.rounds.invariant _ _ _ o, h.0); kept = kept_part _ _ _ h.1 }
 
-pub returns-then-attempt-gt1 : goal.returns-then-attempt-gt1
-returns-then-attempt-gt1 c =
-    let l = c.rounds in
-    let a = c.args in
-    let o = c.attempt_at-attempt.ensures.0 in
-    rounds.reported a.output.now l.written l.output _ _ _ _ _ l.invariant.upto (rounds.stopping (class_in a.classes.now) a.subject.now a.budget a.is_strict a.replacement.now (items a.pattern.now 0) a.output.now l.place l.after_last l.written l.replacements l.steps l.output l.invariant c.attempt_at-attempt.result _ o c.if-attempt-gt1.true)
+pub returns-in-Err : goal.returns-in-Err
+returns-in-Err c =
+    let o = rw c.in-Matched.is at c.attempt_at-attempt.ensures.0 in
+    let more = rw (captures_part c.in-Matched.count c.attempt_at-attempt.new.kept) at c.in-Err.ensures in
+    let ends = rounds.replaced_ends _ _ _ _ _ _ _ _ _ _ _ _ _ c.rounds.invariant _ _ _ o (rounds.other_end _ _ c.if-ne.ensures) _ (search rules) _ more in
+    rounds.reported_writing _ (Err c.in-Err.stopped) _ _ _ _ _ c.wrote.ensures ends.0 ends.1
 
-pub overflow_add-end : goal.overflow_add-end
-overflow_add-end c = omega (arith, c.attempt_at-attempt.ensures.1.end c.if-attempt-eq0.true)
-
-pub overflow_add-replacements : goal.overflow_add-replacements
-overflow_add-replacements c = omega (arith, c.rounds.invariant.few, c.rounds.invariant.steps)
-
-pub add_pieces-wrote-requires : goal.add_pieces-wrote-requires
-add_pieces-wrote-requires c =
-    let l = c.rounds in
-    let a = c.args in
-    let o = c.attempt_at-attempt.ensures.0 in
-    let z = c.if-attempt-eq0.true in
-    let u = l.invariant.upto in
-    (omega (arith, u.inside, u.same), rounds.ends_later (class_in a.classes.now) a.subject.now a.budget a.is_strict a.replacement.now (items a.pattern.now 0) a.output.now l.place l.after_last l.written l.replacements l.steps l.output l.invariant c.attempt_at-attempt.result _ o z, c.attempt_at-attempt.ensures.1.end z, c.attempt_at-attempt.ensures.1.captures z)
-
-pub shape_of-output-then-wrote-ne0 : goal.shape_of-output-then-wrote-ne0
-shape_of-output-then-wrote-ne0 c = search (rules, c.rounds.invariant.upto.same)
-
-pub returns-then-wrote-ne0 : goal.returns-then-wrote-ne0
-returns-then-wrote-ne0 c =
-    let l = c.rounds in
-    let a = c.args in
-    let o = c.attempt_at-attempt.ensures.0 in
-    rounds.reported a.output.now _ _ _ _ _ _ _ (rounds.goes_upto (class_in a.classes.now) a.subject.now a.budget a.is_strict a.replacement.now (items a.pattern.now 0) a.output.now l.place l.after_last l.written l.replacements l.steps l.output l.invariant c.attempt_at-attempt.result _ o c.if-attempt-eq0.true c.if-end-after_last.true _ _ c.add_pieces-wrote.ensures (search rules)) (rounds.replaced_ends (class_in a.classes.now) a.subject.now a.budget a.is_strict a.replacement.now (items a.pattern.now 0) a.output.now l.place l.after_last l.written l.replacements l.steps l.output l.invariant c.attempt_at-attempt.result _ o c.if-attempt-eq0.true c.if-end-after_last.true _ _ c.add_pieces-wrote.ensures (search rules) c.if-wrote-ne0.true)
-
-pub overflow_add-after_last : goal.overflow_add-after_last
-overflow_add-after_last c = omega (arith, c.attempt_at-attempt.ensures.1.end c.if-attempt-eq0.true)
-
-pub rounds-smaller-then-end-after_last : goal.rounds-smaller-then-end-after_last
-rounds-smaller-then-end-after_last c =
-    let l = c.rounds in
-    let a = c.args in
-    let o = c.attempt_at-attempt.ensures.0 in
-    let t = rounds.takes_step (class_in a.classes.now) a.subject.now a.budget a.is_strict a.replacement.now (items a.pattern.now 0) a.output.now l.place l.after_last l.written l.replacements l.steps l.output l.invariant c.attempt_at-attempt.result _ o c.if-attempt-gt1.false in
+pub rounds-smaller-in-Matched : goal.rounds-smaller-in-Matched
+rounds-smaller-in-Matched c =
+    let o = rw c.in-Matched.is at c.attempt_at-attempt.ensures.0 in
+    let t = rounds.match_steps _ _ _ _ _ _ _ _ _ _ _ _ _ c.rounds.invariant _ _ _ o in
     omega (arith, t.0, t.1)
 
-pub rounds-preserved-then-end-after_last : goal.rounds-preserved-then-end-after_last
-rounds-preserved-then-end-after_last c =
-    let l = c.rounds in
-    let a = c.args in
-    let o = c.attempt_at-attempt.ensures.0 in
-    rounds.replaced_goes (class_in a.classes.now) a.subject.now a.budget a.is_strict a.replacement.now (items a.pattern.now 0) a.output.now l.place l.after_last l.written l.replacements l.steps l.output l.invariant c.attempt_at-attempt.result _ o c.if-attempt-eq0.true c.if-end-after_last.true _ _ c.add_pieces-wrote.ensures (search rules) c.if-wrote-ne0.false (c.attempt_at-attempt.ensures.1.end c.if-attempt-eq0.true)
+pub rounds-preserved-in-Matched : goal.rounds-preserved-in-Matched
+rounds-preserved-in-Matched c =
+    let o = rw c.in-Matched.is at c.attempt_at-attempt.ensures.0 in
+    let h = rw c.in-Matched.is at c.attempt_at-attempt.ensures.1 in
+    let more = rw (captures_part c.in-Matched.count c.attempt_at-attempt.new.kept) at c.in-Ok.ensures in
+    rounds.replaced_goes _ _ _ _ _ _ _ _ _ _ _ _ _ c.rounds.invariant _ _ _ o (rounds.other_end _ _ c.if-ne.ensures) _ (search rules) _ more h.0
 
-pub shape_of-output-then-subject-place : goal.shape_of-output-then-subject-place
-shape_of-output-then-subject-place c = c.rounds.invariant.upto.same
+-- no replacement: the attempt has failed, or it ends where the last match did
+copied : (c : Joined-attempt) → rounds.Copies (class_in c.args.state.now.classes.now) c.args.state.now.subject.now c.args.state.now.budget c.args.is_strict c.args.replacement.now (items c.args.state.now.pattern.now 0) c.args.output.now c.rounds.place c.rounds.last c.rounds.written c.rounds.replacements c.rounds.steps c.rounds.output c.rounds.invariant c.attempt_at-attempt.result.steps
+copied c =
+    elim c.match-attempt.branch [
+      | in-Matched+else-ne w ↦
+          let o = rw w.in-Matched.is at c.attempt_at-attempt.ensures.0 in
+          rounds.matched_copies _ _ _ _ _ _ _ _ _ _ _ _ _ c.rounds.invariant _ _ _ o (rounds.same_end _ _ w.if-ne.ensures)
+      | in-Failed w ↦
+          let o = rw w.in-Failed.is at c.attempt_at-attempt.ensures.0 in
+          rounds.failed_copies _ _ _ _ _ _ _ _ _ _ _ _ _ c.rounds.invariant _ o
+    ]
 
-pub returns-then-subject-place : goal.returns-then-subject-place
-returns-then-subject-place c =
-    let l = c.rounds in
-    let a = c.args in
-    let o = c.attempt_at-attempt.ensures.0 in
-    rounds.reported a.output.now l.written l.output 0 0 _ _ _ l.invariant.upto (rounds.all_copied (class_in a.classes.now) a.subject.now a.budget a.is_strict a.replacement.now (items a.pattern.now 0) a.output.now l.place l.after_last l.written l.replacements l.steps l.output l.invariant c.attempt_at-attempt.result _ o c.if-attempt-gt1.false
-    (elim c.if-attempt-eq0.branch [ then-attempt-eq0+else-end-after_last w ↦ inr w.if-end-after_last.false | else-attempt-eq0 w ↦ inl w.if-attempt-eq0.false ])
-    c.if-subject-place.true)
+pub returns-then-state-place : goal.returns-then-state-place
+returns-then-state-place c =
+    let copies = copied (goal.at.returns-then-state-place c).Joined-attempt in
+    rounds.reported_writing _ (Ok c.rounds.written) _ _ _ _ _ c.wrote-then-state-place.ensures c.rounds.invariant.upto (rounds.all_copied _ _ _ _ _ _ _ _ _ _ _ _ _ c.rounds.invariant _ copies c.if-state-place.true)
 
-pub shape_of-output-then-output-written : goal.shape_of-output-then-output-written
-shape_of-output-then-output-written c = c.rounds.invariant.upto.same
-
-pub returns-then-output-written : goal.returns-then-output-written
-returns-then-output-written c =
-    let l = c.rounds in
-    let a = c.args in
-    let o = c.attempt_at-attempt.ensures.0 in
-    rounds.reported a.output.now l.written l.output 26 0 _ _ _ l.invariant.upto (rounds.copy_full (class_in a.classes.now) a.subject.now a.budget a.is_strict a.replacement.now (items a.pattern.now 0) a.output.now l.place l.after_last l.written l.replacements l.steps l.output l.invariant c.attempt_at-attempt.result _ o c.if-attempt-gt1.false
-    (elim c.if-attempt-eq0.branch [ then-attempt-eq0+else-end-after_last w ↦ inr w.if-end-after_last.false | else-attempt-eq0 w ↦ inl w.if-attempt-eq0.false ])
-    c.if-subject-place.false (omega (arith, c.if-output-written.true, l.invariant.upto.same)))
-
-pub overflow_add-written : goal.overflow_add-written
-overflow_add-written c = omega (arith, c.rounds.invariant.upto.same, c.if-output-written.false)
-
-pub overflow_add-place : goal.overflow_add-place
-overflow_add-place c = omega (arith, c.if-subject-place.false)
+pub returns-in-Err-append_byte : goal.returns-in-Err-append_byte
+returns-in-Err-append_byte c =
+    let copies = copied (goal.at.returns-in-Err-append_byte c).Joined-attempt in
+    let ends = rounds.copy_ends _ _ _ _ _ _ _ _ _ _ _ _ _ c.rounds.invariant _ copies c.if-state-place.false _ (search rules) _ c.in-Err-append_byte.ensures in
+    rounds.reported_writing _ (Err c.in-Err-append_byte.stopped) _ _ _ _ _ c.wrote-in-Err-append_byte.ensures ends.0 ends.1
 
 pub rounds-smaller : goal.rounds-smaller
 rounds-smaller c =
-    let l = c.rounds in
-    let a = c.args in
-    let o = c.attempt_at-attempt.ensures.0 in
-    let t = rounds.takes_step (class_in a.classes.now) a.subject.now a.budget a.is_strict a.replacement.now (items a.pattern.now 0) a.output.now l.place l.after_last l.written l.replacements l.steps l.output l.invariant c.attempt_at-attempt.result _ o c.if-attempt-gt1.false in
-    omega (arith, t.0, t.1)
+    let copies = copied (goal.at.rounds-smaller c).Joined-attempt in
+    omega (arith, copies.taken.0, copies.taken.1)
 
 pub rounds-preserved : goal.rounds-preserved
 rounds-preserved c =
-    let l = c.rounds in
-    let a = c.args in
-    let o = c.attempt_at-attempt.ensures.0 in
-    rounds.copy_goes (class_in a.classes.now) a.subject.now a.budget a.is_strict a.replacement.now (items a.pattern.now 0) a.output.now l.place l.after_last l.written l.replacements l.steps l.output l.invariant c.attempt_at-attempt.result _ o c.if-attempt-gt1.false
-    (elim c.if-attempt-eq0.branch [ then-attempt-eq0+else-end-after_last w ↦ inr w.if-end-after_last.false | else-attempt-eq0 w ↦ inl w.if-attempt-eq0.false ])
-    c.if-subject-place.false (omega (arith, c.if-output-written.false, l.invariant.upto.same))
+    let copies = copied (goal.at.rounds-preserved c).Joined-attempt in
+    rounds.copy_goes _ _ _ _ _ _ _ _ _ _ _ _ _ c.rounds.invariant _ copies c.if-state-place.false _ (search rules) _ c.in-Ok-append_byte.ensures

@@ -1,34 +1,20 @@
 -- `lstr_item::item::read_frontier` meets its contract. Assumes nothing.
-use mathlib.Core.Path.{subst}
-use Prim.Native.Nat.{◌+◌}
-use native.Mathlib.Omega.{arith}
-use lib.ListN.{length}
-use Rattle.lstr_item.specs.Inner.{ClosesIn}
-use Rattle.lstr_class.specs.declared.subject.Found.{Found}
+use Rattle.std.proofs.Common.{arith}
 use Rattle.lstr_item.proofs.Reading.{frontier_at, frontier_unclosed, frontier_no_set, frontier_last}
-use borrow.Author.Rules.{rules}
 use Rattle.lstr_item.proofs.item.read_frontier.Goals as goal
 
-pub overflow_add-result : goal.overflow_add-result
-overflow_add-result c =
-    let a = c.args in
-    let i = subst (λ (x : Found). ClosesIn x (a.at + 2) (length a.pattern.now)) c.in-At.is c.set_end-found.ensures.1 in
-    search (rules, i.1)
-
-pub returns-in-At : goal.returns-in-At
-returns-in-At c =
+pub returns-in-Some : goal.returns-in-Some
+returns-in-Some c =
     let a = c.args in
     let pre = c.requires in
-    let set = c.set_end-found in
-    frontier_at a.pattern.now a.at (omega arith) pre.1 pre.0 pre.2 c.if-pattern-opening-eq91.true set.result set.ensures.0 set.ensures.1
-    c.in-At.closing c.in-At.is
+    let set = c.in-Some.ensures in
+    frontier_at a.pattern.now a.at (omega arith) pre.1 pre.0 pre.2 c.if-pattern-opening-eq91.true c.in-Some.closing set.0 set.1.0 set.1.1
 
-pub returns-in-Nothing : goal.returns-in-Nothing
-returns-in-Nothing c =
+pub returns-in-None : goal.returns-in-None
+returns-in-None c =
     let a = c.args in
     let pre = c.requires in
-    let set = c.set_end-found in
-    frontier_unclosed a.pattern.now a.at (omega arith) pre.1 pre.0 pre.2 c.if-pattern-opening-eq91.true set.result set.ensures.0 c.in-Nothing.is
+    frontier_unclosed a.pattern.now a.at (omega arith) pre.1 pre.0 pre.2 c.if-pattern-opening-eq91.true c.in-None.ensures.0
 
 pub returns-else-pattern-opening-eq91 : goal.returns-else-pattern-opening-eq91
 returns-else-pattern-opening-eq91 c =

@@ -11,8 +11,8 @@ use Rattle.lstr_item.proofs.Reading.{after_caret, after_bracket, after_last, clo
 use Rattle.lstr_item.proofs.item.set_end.Goals as goal
 use Rattle.lstr_item.proofs.item.set_end.Goals.{then-at-pattern+then-pattern-at-eq94, then-at-pattern+else-pattern-at-eq94, else-at-pattern}
 
-pub members-init : goal.members-init
-members-init c =
+pub loop-at-init : goal.loop-at-init
+loop-at-init c =
     let a = c.args in
     let pattern = a.pattern.now in
     let first = c.if-at-pattern.at in
@@ -31,53 +31,44 @@ members-init c =
     let behind : a.opening < first = omega (arith, is, first_behind pattern a.opening) in
     (omega arith, inside, behind, set_begins pattern a.opening first is)
 
-pub returns-then-pattern-at : goal.returns-then-pattern-at
-returns-then-pattern-at c =
-    let l = c.members in
+pub returns-then-first-at : goal.returns-then-first-at
+returns-then-first-at c =
+    let l = c.loop-at in
     let a = c.args in
     let first = c.if-at-pattern.at in
-    (closes_nowhere a.pattern.now a.opening first l.at l.invariant.3 c.if-pattern-at.true, tt)
-
-pub members-smaller-in-93 : goal.members-smaller-in-93
-members-smaller-in-93 c = omega arith
-
-pub members-preserved-in-93 : goal.members-preserved-in-93
-members-preserved-in-93 c =
-    let l = c.members in
-    let a = c.args in
-    let first = c.if-at-pattern.at in
-    (omega arith, omega arith, l.invariant.2, set_first a.pattern.now a.opening first l.at l.invariant.3 c.if-pattern-at.false l.invariant.0 c.in-93.is (omega (arith, c.if-first-at.false)))
+    (closes_here a.pattern.now a.opening first l.at l.invariant.3 c.loop-at-test.true c.in-93.is c.if-first-at.true, omega arith)
 
 pub returns-then-pattern-at-eq1 : goal.returns-then-pattern-at-eq1
 returns-then-pattern-at-eq1 c =
-    let l = c.members in
+    let l = c.loop-at in
     let a = c.args in
     let first = c.if-at-pattern.at in
-    (closes_cut a.pattern.now a.opening first l.at l.invariant.3 c.if-pattern-at.false c.in-37.is c.if-pattern-at-eq1.true, tt)
+    (closes_cut a.pattern.now a.opening first l.at l.invariant.3 c.loop-at-test.true c.in-37.is c.if-pattern-at-eq1.true, tt)
 
-pub members-smaller-in-37 : goal.members-smaller-in-37
-members-smaller-in-37 c = omega arith
-
-pub members-preserved-in-37 : goal.members-preserved-in-37
-members-preserved-in-37 c =
-    let l = c.members in
+pub loop-at-preserved-in-93 : goal.loop-at-preserved-in-93
+loop-at-preserved-in-93 c =
+    let l = c.loop-at in
     let a = c.args in
     let first = c.if-at-pattern.at in
-    (omega arith, omega arith, l.invariant.2, set_escaped a.pattern.now a.opening first l.at l.invariant.3 c.if-pattern-at.false l.invariant.0 c.in-37.is c.if-pattern-at-eq1.false)
+    (omega arith, omega arith, l.invariant.2, set_first a.pattern.now a.opening first l.at l.invariant.3 c.loop-at-test.true l.invariant.0 c.in-93.is (omega (arith, c.if-first-at.false)))
 
-pub members-smaller : goal.members-smaller
-members-smaller c = omega arith
-
-pub members-preserved : goal.members-preserved
-members-preserved c =
-    let l = c.members in
+pub loop-at-preserved-in-37 : goal.loop-at-preserved-in-37
+loop-at-preserved-in-37 c =
+    let l = c.loop-at in
     let a = c.args in
     let first = c.if-at-pattern.at in
-    (omega arith, omega arith, l.invariant.2, set_plain a.pattern.now a.opening first l.at l.invariant.3 c.if-pattern-at.false l.invariant.0 (λ e. omega arith) (λ e. omega arith))
+    (omega arith, omega arith, l.invariant.2, set_escaped a.pattern.now a.opening first l.at l.invariant.3 c.loop-at-test.true l.invariant.0 c.in-37.is c.if-pattern-at-eq1.false)
+
+pub loop-at-preserved : goal.loop-at-preserved
+loop-at-preserved c =
+    let l = c.loop-at in
+    let a = c.args in
+    let first = c.if-at-pattern.at in
+    (omega arith, omega arith, l.invariant.2, set_plain a.pattern.now a.opening first l.at l.invariant.3 c.loop-at-test.true l.invariant.0 (λ e. omega arith) (λ e. omega arith))
 
 pub returns : goal.returns
 returns c =
-    let l = c.members in
+    let l = c.loop-at in
     let a = c.args in
     let first = c.if-at-pattern.at in
-    (closes_here a.pattern.now a.opening first l.at l.invariant.3 c.if-pattern-at.false c.in-93.is c.if-first-at.true, (omega (arith, l.invariant.2, l.invariant.0), c.if-pattern-at.false))
+    (closes_nowhere a.pattern.now a.opening first l.at l.invariant.3 c.loop-at-test.false, tt)

@@ -1,51 +1,53 @@
--- `lstr_item::single::reach` meets its contract. The loop's invariant: the reach from here is the whole answer. Assumes nothing.
-use Prim.Native.Nat.{◌-◌, ◌<◌}
-use native.Mathlib.Omega.{arith}
-use mathlib.Core.Path.{refl, sym, ap, ◌∙◌}
-use lib.ListN.{length}
+-- `lstr_item::single::reach` meets its contract. Assumes nothing.
+use Rattle.std.proofs.Common.{◌≡◌, ◌+◌, ◌-◌, ◌∙◌, true, not, arith, rules}
+use lib.Dec.{eqb}
+use Rattle.luck_text.specs.Bytes.{byte_at}
 use Rattle.lstr_class.specs.Inner.{class_in}
-use Rattle.lstr_item.specs.Match.{reach}
-use Rattle.lstr_item.specs.Inner.{single_of}
-use Rattle.lstr_item.proofs.Singles.{of_class, fits_inside, reach_spent, reach_stop, reach_more}
+use Rattle.lstr_item.specs.Single.{is_any_of}
+use Rattle.luck_pattern.specs.Elements.{elements_of}
+use Rattle.lstr_item.proofs.Sets.{set_complement, set_plain}
+use Rattle.lstr_item.proofs.Singles.{any_takes, class_takes, set_takes, byte_takes}
 use Rattle.lstr_item.proofs.single.reach.Goals as goal
 
--- where the single fits, a byte is left
-inside : (c : goal.Else-not-fits) → c.loop-steps.tested < length c.args.subject.now
-inside c =
+pub returns-in-46 : goal.returns-in-46
+returns-in-46 c =
     let a = c.args in
-    fits_inside (class_in a.classes.now) a.subject.now (single_of a.pattern.now a.at a.suffix) c.loop-steps.tested (sym c.fits.ensures ∙ c.if-not-fits.false)
+    let state = a.state.now in
+    let h = c.reach_by.ensures in
+    (h.reaches _ (λ byte r l post. let e : r ≡ true = search rules in e ∙ any_takes _ state.pattern.now a.at a.suffix byte c.in-46.is), h.within)
 
-pub bounds-pattern-at-then-pattern-at-eq37 : goal.bounds-pattern-at-then-pattern-at-eq37
-bounds-pattern-at-then-pattern-at-eq37 c = omega (arith, c.requires.0.escape c.if-pattern-at-eq37.true, c.requires.0.inside)
-
-pub returns-then-pattern-at-eq37 : goal.returns-then-pattern-at-eq37
-returns-then-pattern-at-eq37 c =
+pub returns-in-37 : goal.returns-in-37
+returns-in-37 c =
     let a = c.args in
-    (c.reach_class-r.ensures.0 ∙ ap (λ x. reach (class_in a.classes.now) a.subject.now a.budget x (length a.subject.now - a.place) a.place a.steps) (of_class a.pattern.now a.at a.suffix c.if-pattern-at-eq37.true), c.reach_class-r.ensures.1)
+    let state = a.state.now in
+    let h = c.reach_by-in-37.ensures in
+    (h.reaches _ (λ byte r l post. let e : r ≡ class_in state.classes.now (byte_at state.pattern.now (a.at + 1)) byte = search rules in e ∙ class_takes _ state.pattern.now a.at a.suffix byte c.in-37.is), h.within)
 
-pub loop-steps-init : goal.loop-steps-init
-loop-steps-init c = (refl, omega arith, omega arith)
-
-pub returns-then-budget-steps : goal.returns-then-budget-steps
-returns-then-budget-steps c =
+pub returns-then-state-next-eq94 : goal.returns-then-state-next-eq94
+returns-then-state-next-eq94 c =
     let a = c.args in
-    let l = c.loop-steps in
-    (sym (l.invariant.0 ∙ reach_spent (class_in a.classes.now) a.subject.now (single_of a.pattern.now a.at a.suffix) l.tested a.budget l.steps c.if-budget-steps.true), (l.invariant.1, l.invariant.2))
+    let state = a.state.now in
+    let h = c.reach_by-then-state-next-eq94.ensures in (
+      h.reaches _ (λ byte r l post.
+          let e : r ≡ not (is_any_of (class_in state.classes.now) (elements_of state.pattern.now (a.suffix - 1) (a.at + 2)) byte) = search rules in
+          e ∙ set_complement state.pattern.now (a.suffix - 1) (class_in state.classes.now) byte a.at c.if-state-next-eq94.true ∙ set_takes _ state.pattern.now a.at a.suffix byte c.in-91.is),
+      h.within,
+    )
 
-pub returns-then-not-fits : goal.returns-then-not-fits
-returns-then-not-fits c =
+pub returns-else-state-next-eq94 : goal.returns-else-state-next-eq94
+returns-else-state-next-eq94 c =
     let a = c.args in
-    let l = c.loop-steps in
-    (sym (l.invariant.0 ∙ reach_stop (class_in a.classes.now) a.subject.now (single_of a.pattern.now a.at a.suffix) l.tested a.budget l.steps c.if-budget-steps.false (sym c.fits.ensures ∙ c.if-not-fits.true)), (l.invariant.1, l.invariant.2))
+    let state = a.state.now in
+    let h = c.reach_by-in-91.ensures in (
+      h.reaches _ (λ byte r l post.
+          let e : r ≡ is_any_of (class_in state.classes.now) (elements_of state.pattern.now (a.suffix - 1) (a.at + 1)) byte = search rules in
+          e ∙ set_plain state.pattern.now (a.suffix - 1) (class_in state.classes.now) byte a.at c.if-state-next-eq94.false ∙ set_takes _ state.pattern.now a.at a.suffix byte c.in-91.is),
+      h.within,
+    )
 
-pub overflow_add-tested : goal.overflow_add-tested
-overflow_add-tested c = omega (arith, inside c)
-
-pub loop-steps-smaller : goal.loop-steps-smaller
-loop-steps-smaller c = omega (arith, inside c)
-
-pub loop-steps-preserved : goal.loop-steps-preserved
-loop-steps-preserved c =
+pub returns-in_default : goal.returns-in_default
+returns-in_default c =
     let a = c.args in
-    let l = c.loop-steps in
-    (l.invariant.0 ∙ reach_more (class_in a.classes.now) a.subject.now (single_of a.pattern.now a.at a.suffix) l.tested a.budget l.steps c.if-budget-steps.false (sym c.fits.ensures ∙ c.if-not-fits.false), omega (arith, l.invariant.1), omega (arith, inside c))
+    let state = a.state.now in
+    let h = c.reach_by-in_default.ensures in
+    (h.reaches _ (λ byte r l post. let e : r ≡ eqb (byte_at state.pattern.now a.at) byte = search rules in e ∙ byte_takes _ state.pattern.now a.at a.suffix byte (λ f. omega arith) (λ f. omega arith) (λ f. omega arith)), h.within)

@@ -1,47 +1,21 @@
 -- `lstr_write::replace::add_capture` meets its contract. Assumes nothing.
-use Prim.Native.Nat.{◌<◌}
-use native.Mathlib.Omega.{arith}
-use lib.ListN.{length, take}
-use Rattle.lstr_item.specs.Inner.{positional}
+use Rattle.std.proofs.Common.{arith}
+use Rattle.lstr_item.specs.declared.error.LuaError.TheVariants as error
+use Rattle.lstr_write.specs.declared.stop.Stop.TheVariants as stop
 use Rattle.lstr_write.proofs.Outputs as outputs
 use Rattle.lstr_write.proofs.Replaced as replaced
 use Rattle.lstr_write.proofs.replace.add_capture.Goals as goal
 
-pub returns-then-len-eq-UNFINISHED : goal.returns-then-len-eq-UNFINISHED
-returns-then-len-eq-UNFINISHED c =
-    let a = c.args in
-    outputs.raises a.at a.output.now 29 6 _ c.requires.0 (λ e. omega arith)
-    (replaced.is_opened a.subject.now (length a.output.now) a.start a.len (take a.at a.output.now) c.if-len-eq-UNFINISHED.true)
+pub returns-in-18446744073709551615 : goal.returns-in-18446744073709551615
+returns-in-18446744073709551615 c =
+    outputs.raises c.args.at c.args.output.now (stop.Raised error.UnfinishedCapture) _ c.requires.0 (replaced.is_opened _ _ c.args.pair.start c.args.pair.len _ c.in-18446744073709551615.is)
 
-pub overflow_add-start : goal.overflow_add-start
-overflow_add-start c = omega (arith, c.requires.1.0)
-
-pub append_decimal-requires : goal.append_decimal-requires
-append_decimal-requires c = c.requires.0
-
-pub returns-then-len-eq-POSITION : goal.returns-then-len-eq-POSITION
-returns-then-len-eq-POSITION c =
-    let a = c.args in
+pub returns-in-18446744073709551614 : goal.returns-in-18446744073709551614
+returns-in-18446744073709551614 c =
     outputs.known_as _ _ _ _ _ _ c.append_decimal.ensures
-    (replaced.is_position a.subject.now (length a.output.now) a.start a.len (take a.at a.output.now) c.if-len-eq-UNFINISHED.false c.if-len-eq-POSITION.true)
+    (replaced.is_position _ _ c.args.pair.start c.args.pair.len _ (λ e. omega arith) c.in-18446744073709551614.is)
 
-pub overflow_add-end : goal.overflow_add-end
-overflow_add-end c =
-    let a = c.args in
-    let l : a.len < positional = omega arith in
-    omega (arith, c.requires.1.1 l)
-
-pub slice_bounds-append-end : goal.slice_bounds-append-end
-slice_bounds-append-end c =
-    let a = c.args in
-    let l : a.len < positional = omega arith in
-    omega (arith, c.requires.1.1 l)
-
-pub append-requires : goal.append-requires
-append-requires c = c.requires.0
-
-pub returns : goal.returns
-returns c =
-    let a = c.args in
+pub returns-in_default : goal.returns-in_default
+returns-in_default c =
     outputs.known_as _ _ _ _ _ _ c.append.ensures
-    (replaced.is_closed a.subject.now (length a.output.now) a.start a.len (take a.at a.output.now) c.if-len-eq-UNFINISHED.false c.if-len-eq-POSITION.false)
+    (replaced.is_closed _ _ c.args.pair.start c.args.pair.len _ (λ e. omega arith) (λ e. omega arith))

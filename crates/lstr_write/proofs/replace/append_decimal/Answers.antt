@@ -12,30 +12,10 @@ use Rattle.lstr_write.proofs.replace.append_decimal.Goals as goal
 pub loop-left-init : goal.loop-left-init
 loop-left-init c = decimals.no_digit c.args.number _ refl (omega arith)
 
-pub overflow_sub-first : goal.overflow_sub-first
-overflow_sub-first c = c.loop-left.invariant.low
-
-pub bounds-digits-first : goal.bounds-digits-first
-bounds-digits-first c = omega (arith, c.loop-left.invariant.high, c.loop-left.invariant.low)
-
-pub loop-left-smaller : goal.loop-left-smaller
-loop-left-smaller c = omega (arith, c.loop-left.invariant.low)
-
 pub loop-left-preserved : goal.loop-left-preserved
 loop-left-preserved c =
     let l = c.loop-left in
     decimals.one_digit c.args.number l.digits l.first l.left l.invariant c.if-left-eq0.false
-
-pub slice_bounds-append-count : goal.slice_bounds-append-count
-slice_bounds-append-count c = omega (arith, c.loop-left.invariant.high)
-
-pub slice_bounds-append-end : goal.slice_bounds-append-end
-slice_bounds-append-end c =
-    let l = c.loop-left in
-    decimals.put_fits c.args.number l.digits l.first l.left l.invariant
-
-pub append-requires : goal.append-requires
-append-requires c = c.requires
 
 pub returns : goal.returns
 returns c =

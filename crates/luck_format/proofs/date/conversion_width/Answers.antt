@@ -1,21 +1,25 @@
--- `luck_format::date::conversion_width` meets its contract.
-use mathlib.Core.Path.{sym, ◌∙◌}
-use native.Mathlib.Omega.{arith}
-use Rattle.luck_format.specs.Date.{is_pair}
+-- `luck_format::date::conversion_width` meets its contract. Assumes nothing.
+use mathlib.Core.Path.{sym, ap₂, ◌∙◌}
+use Rattle.luck_text.specs.Bytes.{among}
+use Rattle.luck_format.specs.Date.{pair_width, single_width}
 use Rattle.luck_format.proofs.Dates as laws
 use Rattle.luck_format.proofs.date.conversion_width.Goals as goal
 
-pub returns-then-is_second : goal.returns-then-is_second
-unfolding is_pair
-returns-then-is_second c = (laws.width_pair c.args.has_options c.args.text.now c.args.at c.if-has_options.true (sym c.contains.ensures ∙ c.if-contains.true) (sym c.is_second.ensures.0 ∙ c.if-is_second.true), omega (arith, c.is_second.ensures.1 c.if-is_second.true))
+pub returns-then-is_first-clause-reads : goal.returns-then-is_first-clause-reads
+unfolding pair_width
+returns-then-is_first-clause-reads c =
+    let a = c.args in
+    rw (c.then_some.ensures, c.has.ensures, c.byte_at.ensures, c.second_bytes.ensures)
+    (laws.width_by 3 _ ∙ laws.by_pair a.has_options a.text.now a.at (sym c.is_first.ensures ∙ c.if-is_first.true))
 
-pub returns-then-contains : goal.returns-then-contains
-unfolding is_pair
-returns-then-contains c = (laws.width_no_pair c.args.has_options c.args.text.now c.args.at c.if-has_options.true (sym c.contains.ensures ∙ c.if-contains.true) (sym c.is_second.ensures.0 ∙ c.if-is_second.false), omega arith)
+pub returns-then-is_first-clause-inside : goal.returns-then-is_first-clause-inside
+returns-then-is_first-clause-inside c =
+    let a = c.args in
+    rw c.then_some.ensures (laws.second_in _ a.text.now a.at c.has.result (c.has.ensures ∙ ap₂ among c.byte_at.ensures c.second_bytes.ensures))
 
-pub returns-then-has_options : goal.returns-then-has_options
-unfolding is_pair
-returns-then-has_options c = (c.single_width.ensures.0 ∙ laws.width_single_options c.args.has_options c.args.text.now c.args.at c.if-has_options.true (sym c.contains.ensures ∙ c.if-contains.false), omega (arith, c.single_width.ensures.1))
-
-pub returns : goal.returns
-returns c = (c.single_width-2.ensures.0 ∙ laws.width_single c.args.has_options c.args.text.now c.args.at c.if-has_options.false, omega (arith, c.single_width-2.ensures.1))
+pub returns-clause-reads : goal.returns-clause-reads
+unfolding single_width
+returns-clause-reads c =
+    let a = c.args in
+    rw (c.then_some-2.ensures, c.is_single.ensures)
+    (laws.width_by 2 _ ∙ laws.by_single a.has_options a.text.now a.at (sym c.is_first.ensures ∙ c.if-is_first.false))

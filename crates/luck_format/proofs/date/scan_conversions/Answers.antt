@@ -1,4 +1,4 @@
--- `luck_format::date::scan_conversions` meets its contract. The invariant: the walk from here is the whole answer.
+-- `luck_format::date::scan_conversions` meets its contract. Assumes nothing.
 use mathlib.Core.Path.{◌≡◌, sym, ◌∙◌}
 use Prim.Native.Nat.{ℕ, ◌<◌}
 use native.Mathlib.Omega.{arith}
@@ -25,22 +25,14 @@ returns-then-has_options c = laws.lone_strict (here c.loop-at-test.true c.loop-a
 pub returns-then-text-at-eq1 : goal.returns-then-text-at-eq1
 returns-then-text-at-eq1 c = laws.lone_lenient (here c.loop-at-test.true c.loop-at.invariant.1) c.if-text-at-ne37.false (omega arith) c.if-has_options.false
 
-pub conversion_width-width-requires : goal.conversion_width-width-requires
-conversion_width-width-requires c = omega arith
-
-pub returns-then-width-eq0 : goal.returns-then-width-eq0
-returns-then-width-eq0 c = laws.no_conversion (here c.loop-at-test.true c.loop-at.invariant.1) c.if-text-at-ne37.false (omega arith) (sym c.conversion_width-width.ensures.0 ∙ c.if-width-eq0.true)
-
-pub overflow_add-at-in-loop-at : goal.overflow_add-at-in-loop-at
-overflow_add-at-in-loop-at c = omega (arith, c.conversion_width-width.ensures.1)
-
-pub loop-at-smaller : goal.loop-at-smaller
-loop-at-smaller c = omega (arith, c.conversion_width-width.ensures.1)
+pub returns-in-None : goal.returns-in-None
+returns-in-None c = laws.no_conversion (here c.loop-at-test.true c.loop-at.invariant.1) c.if-text-at-ne37.false (omega arith) (sym c.in-None.ensures.reads)
 
 pub loop-at-preserved : goal.loop-at-preserved
 loop-at-preserved c =
-    let w = c.conversion_width-width in
-    (w.ensures.1, laws.passes_conversion (here c.loop-at-test.true c.loop-at.invariant.1) c.if-text-at-ne37.false (omega arith) w.result w.ensures.0 c.if-width-eq0.false w.ensures.1)
+    let w = c.in-Some in
+    let i = w.ensures.inside in
+    (i.1, laws.passes_conversion (here c.loop-at-test.true c.loop-at.invariant.1) c.if-text-at-ne37.false (omega arith) w.width w.ensures.reads i.0 i.1)
 
 pub returns : goal.returns
 returns c = laws.at_end _ _ c.loop-at.at c.loop-at-test.false ∙ c.loop-at.invariant.1

@@ -1,8 +1,13 @@
--- `luck_format::format::scan_format_string` meets its contract. The invariant: from here the walk gives the whole answer.
+-- `luck_format::format::scan_format_string` meets its contract. Assumes nothing.
+use mathlib.Core.Path.{◌≡◌, sym, ap, ◌∙◌}
 use native.Mathlib.Omega.{arith}
-use Rattle.luck_format.specs.declared.format.Specifier.TheVariants.{Counted, Literal, Fault}
+use Prim.Native.Nat.{◌+◌}
+use mathlib.Core.Logic.{inl, inr}
+use Rattle.std.proofs.lemmas.Result.{err_from_is_err_and}
+use Rattle.luck_format.specs.Inner.{with_specifier}
 use Rattle.luck_format.proofs.Formats as formats
 use Rattle.luck_format.proofs.format.scan_format_string.Goals as goal
+use Rattle.luck_format.proofs.format.scan_format_string.Goals.{then-specifier, else-specifier}
 
 pub loop-at-init : goal.loop-at-init
 loop-at-init c = (omega arith, omega arith, formats.start c.args.rules c.args.text.now)
@@ -13,40 +18,27 @@ loop-at-preserved-then-text-at-ne37 c =
     let l = c.loop-at in
     (omega arith, omega arith, formats.plain_turn a.rules a.text.now l.at l.count _ l.invariant.2 c.loop-at-test.true c.if-text-at-ne37.true)
 
-pub overflow_add-count : goal.overflow_add-count
-overflow_add-count c = omega arith
-
-pub overflow_add-at-in-Counted : goal.overflow_add-at-in-Counted
-overflow_add-at-in-Counted c = omega (arith, c.in-Counted.ensures.1)
-
-pub loop-at-smaller-in-Counted : goal.loop-at-smaller-in-Counted
-loop-at-smaller-in-Counted c = omega (arith, c.in-Counted.ensures.1)
-
-pub loop-at-preserved-in-Counted : goal.loop-at-preserved-in-Counted
-loop-at-preserved-in-Counted c =
-    let a = c.args in
-    let l = c.loop-at in
-    let on = formats.after a.rules a.text.now l.at l.count _ l.invariant.2 c.loop-at-test.true c.if-text-at-ne37.false (Counted c.in-Counted.width) c.in-Counted.ensures in
-    (omega (arith, c.in-Counted.ensures.1), on.inside, on.walked)
-
-pub overflow_add-at-in-Literal : goal.overflow_add-at-in-Literal
-overflow_add-at-in-Literal c = omega (arith, c.in-Literal.ensures.1)
-
-pub loop-at-smaller : goal.loop-at-smaller
-loop-at-smaller c = omega (arith, c.in-Literal.ensures.1)
-
 pub loop-at-preserved : goal.loop-at-preserved
 loop-at-preserved c =
     let a = c.args in
     let l = c.loop-at in
-    let on = formats.after a.rules a.text.now l.at l.count _ l.invariant.2 c.loop-at-test.true c.if-text-at-ne37.false (Literal c.in-Literal.width) c.in-Literal.ensures in
-    (omega (arith, c.in-Literal.ensures.1), on.inside, on.walked)
+    let s = c.in_ok-specifier.specifier in
+    let i = c.in_ok-specifier.ensures.inside in
+    let walked = formats.goes_on a.rules a.text.now l.at l.count _ l.invariant.2 c.loop-at-test.true c.if-text-at-ne37.false s.width _ (c.in_ok-specifier.ensures.turns l.count) i.0 i.1 in
+    let same : with_specifier s.counts l.count ≡ c.if-specifier.count =
+    formats.counted s.counts l.count c.if-specifier.count
+    (elim c.if-specifier.branch [ then-specifier w ↦ inl (w.if-specifier.true, w.count-is) | else-specifier w ↦ inr (w.if-specifier.false, w.count-is) ]) in (
+      elim c.if-specifier.branch [ then-specifier w ↦ omega (arith, i.0) | else-specifier w ↦ omega (arith, i.0) ],
+      i.1,
+      ap (formats.on a.rules a.text.now (l.at + s.width)) (sym same) ∙ walked,
+    )
 
-pub returns-in-Fault : goal.returns-in-Fault
-returns-in-Fault c =
+pub returns-in_err-specifier : goal.returns-in_err-specifier
+returns-in_err-specifier c =
     let a = c.args in
     let l = c.loop-at in
-    formats.after a.rules a.text.now l.at l.count _ l.invariant.2 c.loop-at-test.true c.if-text-at-ne37.false (Fault c.in-Fault.fault) c.in-Fault.ensures
+    let p = err_from_is_err_and c.from_residual.result c.from_residual.ensures.1 in
+    rw (p.1, p.2) (formats.stops a.rules a.text.now l.at l.count _ l.invariant.2 c.loop-at-test.true c.if-text-at-ne37.false _ (c.in_err-specifier.ensures.turns l.count))
 
 pub returns : goal.returns
 returns c =

@@ -1,51 +1,30 @@
--- `luck_format::format::scan_specifier` meets its contract.
-use mathlib.Core.Path.{◌≡◌, ◌∙◌}
-use native.Mathlib.Omega.{arith}
-use Prim.Native.Nat.{◌+◌}
-use mathlib.Core.Bool.{false, ◌&&◌}
-use lib.Dec.{eqb}
-use borrow.Author.Tests.{ne_eqb}
-use Rattle.luck_text.specs.Bytes.{byte_at}
-use Rattle.luck_text.proofs.Cases.{first_false, second_false}
-use Rattle.luck_answer.specs.Answer.{refusal}
+-- `luck_format::format::scan_specifier` meets its contract. Assumes nothing.
+use mathlib.Core.Path.{sym, ◌∙◌}
+use Rattle.std.proofs.lemmas.Result.{err_from_is_err_and}
 use Rattle.luck_format.proofs.Formats as formats
 use Rattle.luck_format.proofs.format.scan_specifier.Goals as goal
-use Rattle.luck_format.proofs.format.scan_specifier.Goals.{then-byte-eq42+else-rules, else-byte-eq42}
 
-pub returns-then-text-next : goal.returns-then-text-next
-returns-then-text-next c =
+pub returns-then-text-next-clause-turns : goal.returns-then-text-next-clause-turns
+returns-then-text-next-clause-turns c = let a = c.args in λ count. formats.lone_percent a.rules a.text.now a.at count c.if-text-next.true
+
+pub returns-then-byte-eq37-clause-turns : goal.returns-then-byte-eq37-clause-turns
+returns-then-byte-eq37-clause-turns c =
     let a = c.args in
-    (λ count. formats.lone_percent a.rules a.text.now a.at count c.if-text-next.true, tt)
+    λ count. formats.two_percents a.rules a.text.now a.at count c.if-text-next.false c.if-byte-eq37.true
 
-pub returns-then-byte-eq37 : goal.returns-then-byte-eq37
-returns-then-byte-eq37 c =
+pub returns-then-is_star-clause-turns : goal.returns-then-is_star-clause-turns
+returns-then-is_star-clause-turns c =
     let a = c.args in
-    (λ count. formats.two_percents a.rules a.text.now a.at count c.if-text-next.false c.if-byte-eq37.true, (omega arith, omega arith))
+    λ count. formats.star a.rules a.text.now a.at count c.if-text-next.false c.if-byte-eq37.false (sym c.is_star.ensures ∙ c.if-is_star.true)
 
-pub returns-then-rules : goal.returns-then-rules
-returns-then-rules c =
+pub returns-in_err-end-clause-turns : goal.returns-in_err-end-clause-turns
+returns-in_err-end-clause-turns c =
     let a = c.args in
-    (λ count. formats.star a.rules a.text.now a.at count c.if-text-next.false c.if-byte-eq37.false c.if-byte-eq42.true c.if-rules.true, (omega arith, omega arith))
+    let p = err_from_is_err_and c.from_residual.result c.from_residual.ensures.1 in
+    rw (p.1, p.2) (λ count. formats.faulty_modifiers a.rules a.text.now a.at count c.if-text-next.false c.if-byte-eq37.false (sym c.is_star.ensures ∙ c.if-is_star.false) _ c.in_err-end.ensures.reads)
 
-pub scan_format_conversion-requires : goal.scan_format_conversion-requires
-scan_format_conversion-requires c = let s = c.in-EndAt.ensures.1 in (omega (arith, s.0), s.1)
-
-pub returns-in-EndAt : goal.returns-in-EndAt
-returns-in-EndAt c =
+pub returns-clause-turns : goal.returns-clause-turns
+returns-clause-turns c =
     let a = c.args in
-    let x = byte_at a.text.now (a.at + 1) in
-    let m : (eqb x 42 && a.rules.star_format) ≡ false =
-    elim c.if-byte-eq42.branch [ then-byte-eq42+else-rules w ↦ second_false (eqb x 42) a.rules.star_format w.if-rules.false | else-byte-eq42 w ↦ first_false (eqb x 42) a.rules.star_format (ne_eqb x 42 w.if-byte-eq42.false) ] in (
-      λ count.
-          c.scan_format_conversion.ensures.0 count
-          ∙ formats.after_modifiers a.rules a.text.now a.at count c.if-text-next.false c.if-byte-eq37.false m c.in-EndAt.end c.in-EndAt.ensures.0,
-      c.scan_format_conversion.ensures.1,
-    )
-
-pub returns-in-Fault : goal.returns-in-Fault
-returns-in-Fault c =
-    let a = c.args in
-    let x = byte_at a.text.now (a.at + 1) in
-    let m : (eqb x 42 && a.rules.star_format) ≡ false =
-    elim c.if-byte-eq42.branch [ then-byte-eq42+else-rules w ↦ second_false (eqb x 42) a.rules.star_format w.if-rules.false | else-byte-eq42 w ↦ first_false (eqb x 42) a.rules.star_format (ne_eqb x 42 w.if-byte-eq42.false) ] in
-    (λ count. formats.faulty_modifiers a.rules a.text.now a.at count c.if-text-next.false c.if-byte-eq37.false m (refusal c.in-Fault.fault) c.in-Fault.ensures.0, tt)
+    λ count. c.scan_format_conversion.ensures.turns count
+    ∙ formats.after_modifiers a.rules a.text.now a.at count c.if-text-next.false c.if-byte-eq37.false (sym c.is_star.ensures ∙ c.if-is_star.false) _ c.in_ok-end.ensures.reads

@@ -1,37 +1,19 @@
 -- `luck_format::format::scan_width` meets its contract. Assumes nothing.
-use mathlib.Core.Path.{◌∙◌}
-use native.Mathlib.Omega.{arith}
-use Prim.Native.Nat.{◌+◌}
-use Rattle.luck_text.specs.Bytes.{is_digit}
+use mathlib.Core.Path.{sym, ◌∙◌}
+use Rattle.std.proofs.lemmas.Result.{err_from_is_err_and}
 use Rattle.luck_format.proofs.Formats as formats
 use Rattle.luck_format.proofs.format.scan_width.Goals as goal
 
-pub returns-then-count-gt2 : goal.returns-then-count-gt2
-returns-then-count-gt2 c = (formats.long_width c.args.text.now c.args.at c.run-count.result c.run-count.ensures c.if-count-gt2.true, tt)
+pub returns-in_err-end-clause-reads : goal.returns-in_err-end-clause-reads
+returns-in_err-end-clause-reads c =
+    let p = err_from_is_err_and c.from_residual.result c.from_residual.ensures.1 in
+    rw (p.1, p.2) (formats.bad_width c.args.text.now c.args.at c.in_err-end.ensures.reads)
 
-pub overflow_add-end : goal.overflow_add-end
-overflow_add-end c = omega (arith, formats.inside c.args.text.now c.args.at c.run-count.result is_digit c.run-count.ensures (omega arith))
+pub returns-then-byte_at-eq46-clause-reads : goal.returns-then-byte_at-eq46-clause-reads
+returns-then-byte_at-eq46-clause-reads c =
+    let text = c.args.text.now in
+    c.two_digits-then-byte_at-eq46.ensures.reads ∙ formats.precision text c.in_ok-end.end
+    ∙ formats.width_and_dot text c.args.at c.in_ok-end.ensures.reads (sym c.byte_at.ensures ∙ c.if-byte_at-eq46.true)
 
-pub returns-then-text-end-eq46 : goal.returns-then-text-end-eq46
-returns-then-text-end-eq46 c =
-    let a = c.args in
-    let n = c.run-count in (
-      c.scan_precision.ensures.0 ∙ formats.width_and_dot a.text.now a.at n.result n.ensures c.if-count-gt2.false c.if-text-end-eq46.true,
-      formats.from_earlier c.scan_precision.result a.at (a.at + n.result) _ (omega arith) c.scan_precision.ensures.1,
-    )
-
-pub returns-else-text-end-eq46 : goal.returns-else-text-end-eq46
-returns-else-text-end-eq46 c =
-    let a = c.args in
-    let n = c.run-count in (
-      formats.width_alone a.text.now a.at n.result n.ensures c.if-count-gt2.false c.if-text-end-eq46.false,
-      (omega arith, omega arith),
-    )
-
-pub returns-else-end-text : goal.returns-else-end-text
-returns-else-end-text c =
-    let a = c.args in
-    let n = c.run-count in (
-      formats.width_alone a.text.now a.at n.result n.ensures c.if-count-gt2.false (formats.none_there a.text.now (a.at + n.result) 46 (omega arith) c.if-end-text.false),
-      (omega arith, formats.inside a.text.now a.at n.result is_digit n.ensures (omega arith)),
-    )
+pub returns-clause-reads : goal.returns-clause-reads
+returns-clause-reads c = formats.width_alone c.args.text.now c.args.at c.in_ok-end.ensures.reads (λ e. c.if-byte_at-eq46.false (c.byte_at.ensures ∙ e))

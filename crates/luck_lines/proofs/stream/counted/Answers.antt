@@ -6,13 +6,8 @@ use Rattle.luck_lines.proofs.stream.counted.Goals as goal
 
 pub returns-then-number-eq0 : goal.returns-then-number-eq0
 unfolding counted when◌then◌else◌
-returns-then-number-eq0 c = rw (c.one_more-read.ensures, eq-eqb c.args.number 0 c.if-number-eq0.true)
+returns-then-number-eq0 c = rw (c.one_more.ensures, eq-eqb c.args.number 0 c.if-number-eq0.true)
 
 pub returns : goal.returns
 unfolding counted when◌then◌else◌
-returns c =
-    rw (
-      c.one_more-read.ensures,
-      c.one_more.ensures,
-      ne_eqb c.args.number 0 c.if-number-eq0.false,
-    )
+returns c = rw (c.one_more.ensures, c.one_more-2.ensures, ne_eqb c.args.number 0 c.if-number-eq0.false)

@@ -1,27 +1,23 @@
 -- `luck_linter::checks::without_ranges` meets its contract. Assumes nothing.
-use mathlib.Core.Path.{◌≡◌, sym, ap, ◌∙◌}
-use Rattle.luck_linter.specs.Checks.{Check, without_ranges, check_meant}
-use Rattle.luck_linter.specs.declared.checks.Check.{Check as CheckEnum}
+use Rattle.std.proofs.Common.{◌≡◌, Bool, refl}
+use Rattle.luck_linter.specs.Checks.{without_ranges, check_meant}
+use Rattle.luck_linter.specs.declared.checks.Check.{Check}
+use Rattle.luck_linter.specs.declared.checks.Check.TheVariants as variant
 use Rattle.luck_linter.proofs.checks.without_ranges.Goals as goal
 
--- an arm gives the check that it is for
-of_arm : (check variant : CheckEnum) (a : Check) → check ≡ variant → a ≡ without_ranges (check_meant variant) → a ≡ without_ranges (check_meant check)
-of_arm check variant a is e = e ∙ ap (λ x. without_ranges (check_meant x)) (sym is)
-
-pub returns-in-Format : goal.returns-in-Format
-returns-in-Format c = unfold without_ranges in search of_arm
+-- every other check stays
+others : (check : Check) → ((ranges : Bool) → check ≡ variant.Pattern ranges → ⊥) → check_meant check ≡ without_ranges (check_meant check)
+unfolding without_ranges
+others variant.Format h = refl
+others (variant.Pattern ranges) h = absurd (h ranges refl)
+others variant.Date h = refl
+others (variant.Replacement captures) h = refl
+others variant.Pack h = refl
+others variant.Packsize h = refl
 
 pub returns-in-Pattern : goal.returns-in-Pattern
-returns-in-Pattern c = unfold without_ranges in search of_arm
+unfolding without_ranges
+returns-in-Pattern c = rw c.in-Pattern.is
 
-pub returns-in-Date : goal.returns-in-Date
-returns-in-Date c = unfold without_ranges in search of_arm
-
-pub returns-in-Replacement : goal.returns-in-Replacement
-returns-in-Replacement c = unfold without_ranges in search of_arm
-
-pub returns-in-Pack : goal.returns-in-Pack
-returns-in-Pack c = unfold without_ranges in search of_arm
-
-pub returns-in-Packsize : goal.returns-in-Packsize
-returns-in-Packsize c = unfold without_ranges in search of_arm
+pub returns-in_default : goal.returns-in_default
+returns-in_default c = others c.args.check c.in_default.not-Pattern

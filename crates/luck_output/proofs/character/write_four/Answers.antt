@@ -2,20 +2,9 @@
 use mathlib.Core.Path.{refl}
 use Prim.Native.Nat.{◌/◌}
 use native.Mathlib.Nat.{div-div-eq-div-mul}
-use native.Mathlib.Omega.{arith}
-use lib.ListN.{length-set}
 use Rattle.luck_utf8.specs.Utf8.{six_bits}
 use Rattle.luck_output.proofs.Characters.{sets_more}
 use Rattle.luck_output.proofs.character.write_four.Goals as goal
-
-pub bounds-output-at-2 : goal.bounds-output-at-2
-bounds-output-at-2 c = simp length-set (omega arith)
-
-pub bounds-output-at-3 : goal.bounds-output-at-3
-bounds-output-at-3 c = simp length-set (omega arith)
-
-pub bounds-output-at-4 : goal.bounds-output-at-4
-bounds-output-at-4 c = simp length-set (omega arith)
 
 pub returns : goal.returns
 unfolding six_bits

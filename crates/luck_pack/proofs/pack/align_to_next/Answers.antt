@@ -1,43 +1,32 @@
--- `luck_pack::pack::align_to_next` meets its contract.
-use mathlib.Core.Path.{refl, ap}
-use Prim.Native.Nat.{◌+◌}
-use native.Mathlib.Omega.{arith}
-use lib.ListN.{length}
+-- `luck_pack::pack::align_to_next` meets its contract. Assumes nothing.
+use mathlib.Core.Path.{ap, ◌∙◌}
+use Rattle.std.proofs.lemmas.Result.{err_from_is_err_and}
 use Rattle.luck_text.specs.Walk.Turn.{stop}
-use Rattle.luck_utf8.specs.declared.utf8.Char.{Char}
-use Rattle.luck_answer.specs.Answer.{refused_with, refusal}
-use Rattle.luck_pack.specs.Pack.{pack_state}
-use Rattle.luck_pack.specs.Inner.{pack_turn_of}
-use Rattle.luck_pack.proofs.Packs.{align_to, align_refused, align_fault, goes_in}
+use Rattle.luck_answer.specs.Answer.{refusal}
+use Rattle.luck_answer.specs.declared.format_pattern.PatternError.{PatternError}
+use Rattle.luck_pack.specs.Pack.{pack_state, align_by}
+use Rattle.luck_pack.proofs.Packs.{kept_next, by_next}
 use Rattle.luck_pack.proofs.pack.align_to_next.Goals as goal
 
-pub overflow_add-width : goal.overflow_add-width
-overflow_add-width c = omega (arith, c.in-Option.ensures.1)
+pub returns-in_err-next-clause-turns : goal.returns-in_err-next-clause-turns
+unfolding kept_next
+returns-in_err-next-clause-turns c =
+    let p = err_from_is_err_and c.from_residual.result c.from_residual.ensures.1 in
+    rw (p.1, p.2) (λ values. by_next c.args.text.now c.args.at (pack_state values c.args.alignment) c.in_err-next.ensures.reads)
 
-pub returns-in-To : goal.returns-in-To
-returns-in-To c =
-    let a = c.args in
-    let o = c.in-Option in
-    let r = c.aligned in (
-      λ values.
-          align_to a.text.now a.at (pack_state values a.alignment) (pack_turn_of values r.result) o.option o.width o.ensures.0 c.in-To.size
-          c.in-To.ensures (r.ensures.0 values),
-      goes_in r.result (1 + o.width) a.at (length a.text.now) r.ensures.1 (omega arith) (omega (arith, o.ensures.1)),
-    )
+pub returns-in-Some-clause-turns : goal.returns-in-Some-clause-turns
+unfolding kept_next align_by
+returns-in-Some-clause-turns c =
+    λ values.
+    let state = pack_state values c.args.alignment in
+    c.aligned.ensures.turns values ∙ ap (align_by c.args.text.now c.args.at state c.in_ok-next.next.width) c.in-Some.ensures
+    ∙ by_next c.args.text.now c.args.at state c.in_ok-next.ensures.reads
 
-pub returns-in-Refused : goal.returns-in-Refused
-returns-in-Refused c =
-    let a = c.args in
-    let o = c.in-Option in (
-      λ values.
-          align_refused a.text.now a.at (pack_state values a.alignment) (stop (refused_with 14 (a.at + 1) c.char_at-character.result.code)) o.option o.width o.ensures.0
-          c.in-Refused.ensures
-          (ap (λ (x : Char). stop (refused_with 14 (a.at + 1) x.code)) c.char_at-character.ensures),
-      tt,
-    )
-
-pub returns-in-Fault : goal.returns-in-Fault
-returns-in-Fault c =
-    let a = c.args in
-    let e = c.in-Fault in
-    (λ values. align_fault a.text.now a.at (pack_state values a.alignment) (stop (refusal e.fault)) (refusal e.fault) e.ensures.0 refl, tt)
+pub returns-in-None-clause-turns : goal.returns-in-None-clause-turns
+unfolding kept_next align_by
+returns-in-None-clause-turns c =
+    λ values.
+    let state = pack_state values c.args.alignment in
+    ap (λ (e : PatternError). stop (refusal e)) c.invalid_option.ensures
+    ∙ ap (align_by c.args.text.now c.args.at state c.in_ok-next.next.width) c.in-None.ensures
+    ∙ by_next c.args.text.now c.args.at state c.in_ok-next.ensures.reads

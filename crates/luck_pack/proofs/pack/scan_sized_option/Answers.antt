@@ -1,61 +1,37 @@
 -- `luck_pack::pack::scan_sized_option` meets its contract. Assumes nothing.
-use mathlib.Core.Path.{sym, ap, subst, ◌∙◌}
-use Prim.Native.Nat.{ℕ}
-use lib.ListN.{length}
-use Rattle.luck_pack.specs.Inner.{OptionIn, faults}
-use Rattle.luck_answer.specs.Answer.{refused_with}
-use Rattle.luck_utf8.specs.declared.utf8.Char.{Char}
-use Rattle.luck_pack.proofs.Packs.{number_letter, string_letter, alignment_letter, with_size, fixed_string_lem, unknown_option, back}
+use mathlib.Core.Path.{sym, ap, ◌∙◌}
+use Rattle.std.proofs.lemmas.Result.{err_from_is_err_and}
+use Rattle.luck_text.specs.Bytes.{byte_at}
+use Rattle.luck_answer.specs.Answer.{refusal}
+use Rattle.luck_answer.specs.declared.format_pattern.PatternError.{PatternError}
+use Rattle.luck_pack.specs.Inner.{keeps, faults, kept_read}
+use Rattle.luck_pack.specs.declared.pack.PackOption.{PackOption}
+use Rattle.luck_pack.proofs.Packs.{limited, fixed_string_lem, unknown_option}
 use Rattle.luck_pack.proofs.pack.scan_sized_option.Goals as goal
 
-pub returns-in-Of : goal.returns-in-Of
-returns-in-Of c =
+pub returns-in_err-size-clause-reads : goal.returns-in_err-size-clause-reads
+unfolding kept_read
+returns-in_err-size-clause-reads c =
     let text = c.args.text.now in
     let at = c.args.at in
-    with_size text at (number_letter text at (sym c.contains.ensures ∙ c.if-contains.true)) c.scan_limited_size.ensures c.in-Of.is
+    let p = err_from_is_err_and c.from_residual.result c.from_residual.ensures.1 in
+    let l = limited text at (sym c.has.ensures ∙ c.if-has.true) in
+    rw (p.1, p.2) (ap kept_read (c.in_err-size.ensures.reads (byte_at text at) ∙ l))
 
-pub returns-in-Fault : goal.returns-in-Fault
-returns-in-Fault c =
+pub returns-then-has-clause-reads : goal.returns-then-has-clause-reads
+unfolding kept_read
+returns-then-has-clause-reads c =
     let text = c.args.text.now in
     let at = c.args.at in
-    with_size text at (number_letter text at (sym c.contains.ensures ∙ c.if-contains.true)) c.scan_limited_size.ensures c.in-Fault.is
+    let l = limited text at (sym c.has.ensures ∙ c.if-has.true) in
+    ap (λ (o : PackOption). keeps o c.in_ok-size.size.width) c.limited_option.ensures
+    ∙ ap kept_read (c.in_ok-size.ensures.reads (byte_at text at) ∙ l)
 
-pub returns-in-Of-scan_limited_size : goal.returns-in-Of-scan_limited_size
-returns-in-Of-scan_limited_size c =
-    let text = c.args.text.now in
-    let at = c.args.at in
-    with_size text at (string_letter text at c.if-byte-eq115.true) c.scan_limited_size-then-byte-eq115.ensures c.in-Of-scan_limited_size.is
+pub returns-then-byte-eq99-clause-reads : goal.returns-then-byte-eq99-clause-reads
+returns-then-byte-eq99-clause-reads c =
+    c.scan_fixed_string.ensures.reads ∙ fixed_string_lem c.args.text.now c.args.at (sym c.has.ensures ∙ c.if-has.false) c.if-byte-eq99.true
 
-pub returns-in-Fault-scan_limited_size : goal.returns-in-Fault-scan_limited_size
-returns-in-Fault-scan_limited_size c =
-    let text = c.args.text.now in
-    let at = c.args.at in
-    with_size text at (string_letter text at c.if-byte-eq115.true) c.scan_limited_size-then-byte-eq115.ensures c.in-Fault-scan_limited_size.is
-
-pub returns-in-Of-scan_limited_size-2 : goal.returns-in-Of-scan_limited_size-2
-returns-in-Of-scan_limited_size-2 c =
-    let text = c.args.text.now in
-    let at = c.args.at in
-    with_size text at (alignment_letter text at c.if-byte-eq33.true) c.scan_limited_size-then-byte-eq33.ensures c.in-Of-scan_limited_size-2.is
-
-pub returns-in-Fault-scan_limited_size-2 : goal.returns-in-Fault-scan_limited_size-2
-returns-in-Fault-scan_limited_size-2 c =
-    let text = c.args.text.now in
-    let at = c.args.at in
-    with_size text at (alignment_letter text at c.if-byte-eq33.true) c.scan_limited_size-then-byte-eq33.ensures c.in-Fault-scan_limited_size-2.is
-
-pub returns-then-byte-eq99 : goal.returns-then-byte-eq99
-returns-then-byte-eq99 c =
-    let text = c.args.text.now in
-    let at = c.args.at in
-    let none = sym c.contains.ensures ∙ c.if-contains.false in (
-      c.scan_fixed_string.ensures.0 ∙ fixed_string_lem text at none c.if-byte-eq115.false c.if-byte-eq33.false c.if-byte-eq99.true,
-      subst (λ (p : ℕ). OptionIn c.scan_fixed_string.result p (length text)) (back at) c.scan_fixed_string.ensures.1,
-    )
-
-pub returns : goal.returns
-returns c =
-    let text = c.args.text.now in
-    let at = c.args.at in
-    let none = sym c.contains.ensures ∙ c.if-contains.false in
-    (ap (λ (x : Char). faults (refused_with 14 at x.code)) c.char_at-character.ensures ∙ unknown_option text at none c.if-byte-eq115.false c.if-byte-eq33.false c.if-byte-eq99.false, tt)
+pub returns-clause-reads : goal.returns-clause-reads
+returns-clause-reads c =
+    ap (λ (e : PatternError). faults (refusal e)) c.invalid_option.ensures
+    ∙ unknown_option c.args.text.now c.args.at (sym c.has.ensures ∙ c.if-has.false) c.if-byte-eq99.false

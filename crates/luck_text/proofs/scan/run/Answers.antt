@@ -1,17 +1,16 @@
 -- `luck_text::scan::run` meets its contract. Assumes nothing.
-use Rattle.luck_text.proofs.Bytes.{run_begins, run_stopped, run_goes_on, run_ended}
-use mathlib.Core.Path.{ap}
-use mathlib.Core.Bool.{not}
+use Rattle.std.proofs.Common.{◌∙◌, rules, tests, drop}
+use Rattle.std.proofs.lemmas.Iterator.{YieldsList-from_slice}
+use Rattle.std.proofs.lemmas.Iterator.Consumers.{count_from_yields_List}
+use Rattle.std.proofs.lemmas.Iterator.Search.{YieldsList-from_take_while}
+use Rattle.std.proofs.lemmas.List.Folds.{length-prefix_len}
+use Rattle.luck_text.proofs.Bytes.{run_prefix}
 use Rattle.luck_text.proofs.scan.run.Goals as goal
 
-pub loop-end-init : goal.loop-end-init
-loop-end-init c = run_begins _ _ _
-
-pub returns-then-not-is_in : goal.returns-then-not-is_in
-returns-then-not-is_in c = run_stopped c.loop-end.invariant c.loop-end-test.true c.is_in.ensures (ap not c.if-not-is_in.true)
-
-pub loop-end-preserved : goal.loop-end-preserved
-loop-end-preserved c = run_goes_on c.loop-end.invariant c.loop-end-test.true c.is_in.ensures (ap not c.if-not-is_in.false)
-
 pub returns : goal.returns
-returns c = run_ended c.loop-end.invariant c.loop-end-test.false
+returns g c =
+    let s = drop c.args.at c.args.text.now in
+    let test = g.C.Class.holds c.args.class.now in
+    count_from_yields_List c.take_while.result c.count.result c.count.ensures.ran
+    (YieldsList-from_take_while _ test (YieldsList-from_slice s cc) c.take_while.ensures.closure c.take_while.ensures.done (λ x b q k. search (rules, tests)))
+    ∙ length-prefix_len test s ∙ run_prefix test s

@@ -12,25 +12,16 @@ overflow_add-width c = omega (arith, c.run-level.ensures, run_short (eqb 61) c.a
 
 pub returns-then-len-width : goal.returns-then-len-width
 unfolding equals
-returns-then-len-width c = no_room c.args.raw.now c.run-level.result c.run-level.ensures (omega arith)
-
-pub is_bracket-requires : goal.is_bracket-requires
-is_bracket-requires c = omega arith
-
-pub overflow_sub-len : goal.overflow_sub-len
-overflow_sub-len c = omega arith
-
-pub is_bracket-requires-then-is_bracket : goal.is_bracket-requires-then-is_bracket
-is_bracket-requires-then-is_bracket c = omega arith
+returns-then-len-width c = sym (no_room c.args.raw.now c.run-level.result c.run-level.ensures (omega arith))
 
 pub returns-then-is_bracket-2 : goal.returns-then-is_bracket-2
 unfolding equals
-returns-then-is_bracket-2 c = brackets c.args.raw.now c.run-level.result c.run-level.ensures (omega arith) (sym c.is_bracket.ensures ∙ c.if-is_bracket.true) (sym c.is_bracket-then-is_bracket.ensures ∙ c.if-is_bracket-2.true)
+returns-then-is_bracket-2 c = (brackets c.args.raw.now c.run-level.result c.run-level.ensures (omega arith) (sym c.is_bracket.ensures ∙ c.if-is_bracket.true) (sym c.is_bracket-then-is_bracket.ensures ∙ c.if-is_bracket-2.true), omega arith)
 
 pub returns-else-is_bracket-2 : goal.returns-else-is_bracket-2
 unfolding equals
-returns-else-is_bracket-2 c = no_closing c.args.raw.now c.run-level.result c.run-level.ensures (sym c.is_bracket-then-is_bracket.ensures ∙ c.if-is_bracket-2.false)
+returns-else-is_bracket-2 c = sym (no_closing c.args.raw.now c.run-level.result c.run-level.ensures (sym c.is_bracket-then-is_bracket.ensures ∙ c.if-is_bracket-2.false))
 
 pub returns-else-is_bracket : goal.returns-else-is_bracket
 unfolding equals
-returns-else-is_bracket c = no_opening c.args.raw.now c.run-level.result c.run-level.ensures (sym c.is_bracket.ensures ∙ c.if-is_bracket.false)
+returns-else-is_bracket c = sym (no_opening c.args.raw.now c.run-level.result c.run-level.ensures (sym c.is_bracket.ensures ∙ c.if-is_bracket.false))

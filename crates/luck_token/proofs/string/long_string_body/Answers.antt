@@ -7,18 +7,6 @@ use Rattle.luck_token.proofs.Breaks.{break_inside}
 use Rattle.luck_token.proofs.Literals.{stripped}
 use Rattle.luck_token.proofs.string.long_string_body.Goals as goal
 
-pub overflow_sub-end : goal.overflow_sub-end
-overflow_sub-end c = omega arith
-
-pub slice_bounds-content-count : goal.slice_bounds-content-count
-slice_bounds-content-count c = omega arith
-
-pub slice_bounds-content-start : goal.slice_bounds-content-start
-slice_bounds-content-start c = omega arith
-
-pub slice_bounds-content-end : goal.slice_bounds-content-end
-slice_bounds-content-end c = omega arith
-
 pub slice_bounds-result-count : goal.slice_bounds-result-count
 slice_bounds-result-count c = omega (arith, c.line_break-first.ensures, break_inside c.args.lfcr (part c.args.raw.now c.args.width (length c.args.raw.now - c.args.width)) 0 (omega arith))
 

@@ -1,33 +1,23 @@
 -- `luck_utf8::utf8::ascii_end` meets its contract. Assumes nothing.
 use Prim.Native.Nat.{ℕ, ◌+◌, ◌<◌}
 use native.Mathlib.Omega.{arith}
+use borrow.Author.Tests.{leb-false}
 use Rattle.luck_text.specs.Bytes.{byte_at}
 use Rattle.luck_text.proofs.Bytes.{all_between}
 use Rattle.luck_utf8.proofs.Sequences.{part_low}
 use Rattle.luck_utf8.proofs.utf8.ascii_end.Goals as goal
 
-pub ascii_blocks-requires : goal.ascii_blocks-requires
-ascii_blocks-requires c = omega arith
-
-pub returns-then-highest-lt128 : goal.returns-then-highest-lt128
-returns-then-highest-lt128 c =
-    let a = c.args in
-    let high = c.highest in
-    let on = c.ascii_blocks in
-    let block = part_low a.text.now a.at 32 high.result (omega arith) high.ensures c.if-highest-lt128.true in
-    (omega arith, on.ensures.1, all_between (λ (k : ℕ). byte_at a.text.now k < 0x80) a.at (a.at + 32) on.result block on.ensures.2)
-
 pub returns-then-text-at-ge32 : goal.returns-then-text-at-ge32
-returns-then-text-at-ge32 c = (omega arith, omega arith, λ k l h. absurd (omega arith))
+returns-then-text-at-ge32 c =
+    let text = c.args.text.now in
+    let at = c.args.at in
+    let on = c.blocks_without in
+    let block = part_low text at 32 (omega arith) (c.is_in.ensures c.if-is_in.false) in (
+      omega (arith, on.ensures.after),
+      on.ensures.within,
+      all_between (λ (k : ℕ). byte_at text k < 0x80) at (at + 32) on.result block (λ k l m. leb-false 0x80 _ (on.ensures.without k l m)),
+    )
 
-pub returns-then-highest-lt128-2 : goal.returns-then-highest-lt128-2
-returns-then-highest-lt128-2 c =
-    let a = c.args in
-    let high = c.highest-then-text-at-ge8 in
-    (omega arith, omega arith, part_low a.text.now a.at 8 high.result (omega arith) high.ensures c.if-highest-lt128-2.true)
-
-pub returns-else-highest-lt128-2 : goal.returns-else-highest-lt128-2
-returns-else-highest-lt128-2 c = (omega arith, omega arith, λ k l h. absurd (omega arith))
-
-pub returns-else-text-at-ge8 : goal.returns-else-text-at-ge8
-returns-else-text-at-ge8 c = (omega arith, omega arith, λ k l h. absurd (omega arith))
+pub returns-then-not-is_in : goal.returns-then-not-is_in
+returns-then-not-is_in c =
+    (omega arith, omega arith, part_low c.args.text.now c.args.at 8 (omega arith) (c.is_in-then-text-at-ge8.ensures c.if-not-is_in.true))

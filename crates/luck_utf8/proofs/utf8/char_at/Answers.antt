@@ -1,7 +1,8 @@
 -- `luck_utf8::utf8::char_at` meets its contract, a law of `Sequences` for each width.
 use mathlib.Core.Path.{refl}
 use native.Mathlib.Omega.{arith}
-use Rattle.luck_utf8.proofs.Sequences.{formed, first_of, first_of_four, char_missing, char_one, char_two, char_three, char_four}
+use Rattle.luck_utf8.proofs.Sequences.{formed, first_of, first_of_four, char_missing, char_one, char_two}
+use Rattle.luck_utf8.proofs.Sequences.{char_three, char_four}
 use Rattle.luck_utf8.proofs.utf8.char_at.Goals as goal
 
 pub returns-then-width-eq0 : goal.returns-then-width-eq0
@@ -10,9 +11,6 @@ returns-then-width-eq0 c =
 
 pub bounds-text-at : goal.bounds-text-at
 bounds-text-at c = omega (arith, formed _ _ _ c.sequence-width.ensures c.if-width-eq0.false)
-
-pub overflow_cast-lead : goal.overflow_cast-lead
-overflow_cast-lead c = omega (arith, c.type_inv.text c.args.at)
 
 pub returns-then-width-eq1 : goal.returns-then-width-eq1
 returns-then-width-eq1 c =

@@ -4,24 +4,22 @@ use mathlib.Core.Bool.{not}
 use native.Mathlib.Omega.{arith}
 use Rattle.luck_utf8.proofs.Sequences.{left_row, left_short, left_out, left_in, left_end}
 use Rattle.luck_utf8.proofs.utf8.three.Goals as goal
+use Rattle.luck_utf8.proofs.utf8.three.Goals.{then-not-has-via-then-not-has, then-not-has-via-else-not-has+then-not-is_tail}
 
 pub returns-then-text-at-lt3 : goal.returns-then-text-at-lt3
 returns-then-text-at-lt3 c = left_short (left_row c.requires.0 c.second_of_three-range.ensures) (omega arith)
 
-pub returns-then-not-is_between : goal.returns-then-not-is_between
-returns-then-not-is_between c =
+pub returns-then-not-has : goal.returns-then-not-has
+returns-then-not-has c =
     let second = left_row c.requires.0 c.second_of_three-range.ensures in
-    left_out second c.is_between.ensures (ap not c.if-not-is_between.true)
-
-pub returns-then-not-is_between-2 : goal.returns-then-not-is_between-2
-returns-then-not-is_between-2 c =
-    let second = left_row c.requires.0 c.second_of_three-range.ensures in
-    let third = left_in second c.is_between.ensures (ap not c.if-not-is_between.false) (omega arith) in
-    left_out third c.is_between-2.ensures (ap not c.if-not-is_between-2.true)
+    elim c.then-not-has.branch [
+      | then-not-has-via-then-not-has w ↦ left_out second c.has.ensures (ap not w.if-not-has.true)
+      | then-not-has-via-else-not-has+then-not-is_tail w ↦
+          left_out (left_in second c.has.ensures (ap not w.if-not-has.false) (omega arith)) w.is_tail.ensures (ap not w.if-not-is_tail.true)
+    ]
 
 pub returns : goal.returns
 returns c =
     let second = left_row c.requires.0 c.second_of_three-range.ensures in
     left_end
-    (left_in (left_in second c.is_between.ensures (ap not c.if-not-is_between.false) (omega arith))
-    c.is_between-2.ensures (ap not c.if-not-is_between-2.false) (omega arith))
+    (left_in (left_in second c.has.ensures (ap not c.if-not-has.false) (omega arith)) c.is_tail.ensures (ap not c.if-not-is_tail.false) (omega arith))

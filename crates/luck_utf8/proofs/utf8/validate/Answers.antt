@@ -18,21 +18,12 @@ loop-at-preserved-then-at-end c =
     let end = c.ascii_end-end in
     (end.ensures.1, sym (walk_ascii text l.at end.result end.ensures.0 end.ensures.1 end.ensures.2) ∙ l.invariant.1)
 
-pub sequences-at-requires : goal.sequences-at-requires
-sequences-at-requires c = omega arith
-
 pub returns-then-at-stop : goal.returns-then-at-stop
 returns-then-at-stop c =
     let s = c.sequences-at in
     let text = c.args.text.now in
     let ill = sym (s.ensures.2 c.if-at-stop.true) in
     sym (walk_ill_formed text s.result 0 ill (omega arith) refl) ∙ s.ensures.1 ∙ c.loop-at.invariant.1
-
-pub loop-at-smaller : goal.loop-at-smaller
-loop-at-smaller c = omega (arith, c.block_end-stop.ensures, c.sequences-at.ensures.0, c.loop-at-test.true)
-
-pub loop-at-preserved : goal.loop-at-preserved
-loop-at-preserved c = let s = c.sequences-at in (s.ensures.0, s.ensures.1 ∙ c.loop-at.invariant.1)
 
 pub returns : goal.returns
 unfolding none_ill_formed

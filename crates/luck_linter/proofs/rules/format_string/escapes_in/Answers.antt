@@ -1,8 +1,6 @@
--- `luck_linter::rules::format_string::escapes_in` meets its contract. The invariant: whether an escape that spells a byte by its number stands from here
--- on is the whole answer, and the body has a backslash where one was met or stands from here on. Assumes nothing.
-use mathlib.Core.Path.{sym, ◌∙◌}
-use Prim.Native.Nat.{◌+◌}
-use native.Mathlib.Omega.{arith}
+-- `luck_linter::rules::format_string::escapes_in` meets its contract. Assumes nothing.
+use Rattle.std.proofs.Common.{◌+◌, sym, refl, ◌∙◌, arith}
+use Rattle.luck_linter.specs.Inner.{is_some}
 use Rattle.luck_linter.proofs.StringLiterals as laws
 use Rattle.luck_linter.proofs.rules.format_string.escapes_in.Goals as goal
 
@@ -11,33 +9,44 @@ loop-at-init c =
     let e = c.blocks_end-at.ensures in
     let body = c.args.body.now in
     let r = c.blocks_end-at.result in
-    (e.1, laws.passes_plain body 0 r e.0 e.1 e.2, laws.none_between body 0 r e.0 e.1 e.2)
+    record {
+      inside = e.1;
+      numeric = laws.passes_plain body 0 r e.0 e.1 e.2;
+      met = laws.none_between body 0 r e.0 e.1 e.2;
+      plain = refl;
+    }
 
 pub loop-at-preserved-then-body-at-ne92 : goal.loop-at-preserved-then-body-at-ne92
 loop-at-preserved-then-body-at-ne92 c =
     let l = c.loop-at in
     let body = c.args.body.now in
-    let inside = c.loop-at-test.true in (
-      omega arith,
-      laws.passes_byte body l.at inside c.if-body-at-ne92.true ∙ l.invariant.1,
-      laws.passed_over body l.backslash l.at (l.at + 1) (laws.not_here body l.at inside c.if-body-at-ne92.true) l.invariant.2,
-    )
+    let in_body = c.loop-at-test.true in
+    let other = c.if-body-at-ne92.true in
+    record {
+      inside = omega arith;
+      numeric = laws.passes_byte body l.at in_body other ∙ l.invariant.numeric;
+      met = laws.passed_over body (is_some l.found) l.at (l.at + 1) (laws.not_here body l.at in_body other) l.invariant.met;
+      plain = l.invariant.plain;
+    }
 
 pub returns-then-body-at-eq1 : goal.returns-then-body-at-eq1
 returns-then-body-at-eq1 c =
     let l = c.loop-at in
     let body = c.args.body.now in
-    let inside = c.loop-at-test.true in
-    (laws.last_byte body l.at inside (omega arith) ∙ l.invariant.1, laws.met_here body l.backslash l.at inside c.if-body-at-ne92.false l.invariant.2)
+    let in_body = c.loop-at-test.true in (
+      laws.last_byte body l.at in_body (omega arith) ∙ l.invariant.numeric,
+      laws.met_here body (is_some l.found) l.at in_body c.if-body-at-ne92.false l.invariant.met,
+    )
 
 pub returns-then-is_numeric_escape : goal.returns-then-is_numeric_escape
 returns-then-is_numeric_escape c =
     let l = c.loop-at in
     let body = c.args.body.now in
-    let inside = c.loop-at-test.true in
+    let in_body = c.loop-at-test.true in
     let here = c.if-body-at-ne92.false in (
-      laws.numeric body l.at inside here (omega arith) (sym c.is_numeric_escape.ensures ∙ c.if-is_numeric_escape.true) ∙ l.invariant.1,
-      laws.met_here body l.backslash l.at inside here l.invariant.2,
+      laws.numeric body l.at in_body here (omega arith) (sym c.is_numeric_escape.ensures ∙ c.if-is_numeric_escape.true)
+          ∙ l.invariant.numeric,
+      laws.met_here body (is_some l.found) l.at in_body here l.invariant.met,
     )
 
 pub loop-at-smaller : goal.loop-at-smaller
@@ -48,24 +57,24 @@ loop-at-preserved c =
     let e = c.blocks_end-at-in-loop-at.ensures in
     let l = c.loop-at in
     let body = c.args.body.now in
-    let inside = c.loop-at-test.true in
-    let here = c.if-body-at-ne92.false in (
-      e.1,
-      laws.passes_plain body (l.at + 2) c.blocks_end-at-in-loop-at.result e.0 e.1 e.2
-          ∙ laws.passes_escape body l.at inside here (omega arith) (sym c.is_numeric_escape.ensures ∙ c.if-is_numeric_escape.false)
-          ∙ l.invariant.1,
-      laws.met_here body l.backslash l.at inside here l.invariant.2,
-    )
-
-pub returns-then-backslash : goal.returns-then-backslash
-returns-then-backslash c =
-    let l = c.loop-at in
-    let body = c.args.body.now in
-    (laws.at_end body l.at c.loop-at-test.false ∙ l.invariant.1, laws.one_met body l.backslash l.at c.if-backslash.true l.invariant.2)
+    let in_body = c.loop-at-test.true in
+    let here = c.if-body-at-ne92.false in
+    record {
+      inside = e.1;
+      numeric =
+          laws.passes_plain body (l.at + 2) c.blocks_end-at-in-loop-at.result e.0 e.1 e.2
+          ∙ laws.passes_escape body l.at in_body here (omega arith)
+          (sym c.is_numeric_escape.ensures ∙ c.if-is_numeric_escape.false)
+          ∙ l.invariant.numeric;
+      met = laws.met_here body (is_some l.found) l.at in_body here l.invariant.met;
+      plain = refl;
+    }
 
 pub returns : goal.returns
 returns c =
     let l = c.loop-at in
     let body = c.args.body.now in
-    let past = c.loop-at-test.false in
-    (laws.at_end body l.at past ∙ l.invariant.1, laws.none_met body l.backslash l.at c.if-backslash.false past l.invariant.2)
+    let past = c.loop-at-test.false in (
+      l.invariant.plain ∙ laws.at_end body l.at past ∙ l.invariant.numeric,
+      laws.all_met body (is_some l.found) l.at past l.invariant.met,
+    )

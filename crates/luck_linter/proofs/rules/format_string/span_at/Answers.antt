@@ -1,6 +1,5 @@
 -- `luck_linter::rules::format_string::span_at` meets its contract. Assumes nothing.
-use mathlib.Core.Path.{ap, ◌∙◌}
-use Prim.Native.Nat.{◌+◌}
+use Rattle.std.proofs.Common.{◌+◌, ap, ◌∙◌}
 use Rattle.luck_token.specs.Span.{span_of, shifted_by}
 use Rattle.luck_utf8.specs.Utf8.{char_at}
 use Rattle.luck_token.specs.declared.span.Span.{Span}
@@ -13,5 +12,9 @@ pub returns : goal.returns
 unfolding span_at
 returns c =
     let o = c.args.offset in
-    let span = c.from_indices.ensures ∙ ap (span_of o) c.saturating_add-end.ensures ∙ same_span o _ ∙ ap (λ (x : Char). span_of o (o + x.width)) c.char_at-character.ensures in
-    c.shifted.ensures ∙ ap (λ (s : Span). shifted_by s c.one_later.result) span ∙ ap (shifted_by (span_of o (o + (char_at c.args.body.now o).width))) c.one_later.ensures ∙ moved_span c.args.start o _
+    let width_of = λ (x : Char). span_of o (o + x.width) in
+    let end = c.from_indices.ensures ∙ ap (span_of o) c.saturating_add-end.ensures ∙ same_span o _ in
+    let span = end ∙ ap width_of c.char_at-character.ensures in
+    c.shifted.ensures ∙ ap (λ (s : Span). shifted_by s c.saturating_add.result) span
+    ∙ ap (shifted_by (span_of o (o + (char_at c.args.body.now o).width))) c.saturating_add.ensures
+    ∙ moved_span c.args.start o _

@@ -1,7 +1,0 @@
--- `luck_text::scan::byte_at` meets its contract. Assumes nothing.
-use mathlib.Core.Path.{sym}
-use lib.ListN.{get_or-eq_default}
-use Rattle.luck_text.proofs.scan.byte_at.Goals as goal
-
-pub returns : goal.returns
-returns c = sym (get_or-eq_default c.args.text.now 0 {n = c.args.at} c.if-at-text.false)

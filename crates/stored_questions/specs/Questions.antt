@@ -1,0 +1,10 @@
+-- What the reader of a stored question promises to those who use it. Assumes nothing.
+use Rattle.std.specs.Prelude.{ℕ, ◌≡◌, ◌<◌, ◌≤◌, length}
+use Rattle.stored_questions.specs.declared.question.Question.{Question}
+
+-- the answer behind the question has this width, and the next record stands behind the question's place and not behind
+-- a file of this length
+pub record Asks (p width len : ℕ) (q : Question) : Type 0 where
+  pub answer : length q.answer.now ≡ width
+  pub behind : p < q.next
+  pub within : q.next ≤ len
