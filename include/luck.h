@@ -22,7 +22,7 @@
  * - A `bool` is false or true: what C and C++ do by themselves, and what another language has to see to.
  * - The functions keep no state, allocate nothing, and write nothing but the output that decoding and the trial are
  *   lent. They may run in any number of threads at once, also on the same text. Each takes less than 1 KiB of stack, as
- *   measured, but for luck_gsub_trial, whose 200 levels take up to 476 KiB: give it 512. The first call of memcpy in a
+ *   measured, but for luck_gsub_trial, whose 200 levels take up to 140 KiB: give it 512. The first call of memcpy in a
  *   program takes some 3 KiB more where the loader looks functions up when they are first called.
  *
  * The refusals, by `number`, with their names after LUCK_. 0 is none: accepted, decoded, done, or skipped. No function

@@ -1,5 +1,5 @@
 /*
- * The trial of the command `luck` (luck.c), on a thread with a stack of its own: it takes up to 476 KiB (include/luck.h), more than a
+ * The trial of the command `luck` (luck.c), on a thread with a stack of its own: it takes up to 140 KiB (include/luck.h), more than a
  * small `ulimit -s` gives the program itself.
  */
 #ifndef LUCK_OWN_STACK_H

@@ -32,7 +32,7 @@ ValueError. A number that the C type can't hold raises OverflowError here, since
 A literal's value is bytes, and need not be UTF-8: `\\255` is a byte FF, and in Lua 5.4 and 5.5 a `\\u{}` of a surrogate or above 10FFFF has
 its bytes by the original UTF-8 (RFC 2279). `decode()` raises UnicodeDecodeError on such a value, and a check refuses it (23).
 
-A trial of gsub takes up to 476 KiB of stack: a thread that calls it needs 512 KiB (threading.stack_size), or the process dies.
+A trial of gsub takes up to 140 KiB of stack: a thread that calls it needs 512 KiB (threading.stack_size), or the process dies.
 
 Python 3.8 or later, and nothing but its standard library.
 """
@@ -569,7 +569,7 @@ class Luck:
         It goes by the rules of 5.4 in every version; but for replacements that only 5.1 takes, its answer does not depend on the version. Lua
         5.1 and 5.2 themselves also replace an empty match right after a match, and in 5.1 `%g` is the letter g (docs/DIFFERENCES.md).
 
-        It takes up to 476 KiB of stack: a thread with less than 512 KiB (threading.stack_size) must not call it.
+        It takes up to 140 KiB of stack: a thread with less than 512 KiB (threading.stack_size) must not call it.
         """
         size = _number("room", room, SIZE_MAX)
         # Pages that are not written to take no memory, however large the room is; none is no size for it.

@@ -173,7 +173,7 @@ impl From<raw::Trial> for Trial {
 ///
 /// The budget bounds the steps and not the time: a step may read the whole pattern or the whole subject.
 ///
-/// It takes up to 476 KiB of stack: give a thread that calls it 512 KiB or more (`std::thread::Builder::stack_size`; Rust's own default, 2 MiB,
+/// It takes up to 140 KiB of stack: give a thread that calls it 512 KiB or more (`std::thread::Builder::stack_size`; Rust's own default, 2 MiB,
 /// is enough), or the process dies.
 ///
 /// ```
