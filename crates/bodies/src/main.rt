@@ -11,7 +11,6 @@ ghost use Rattle.bodies.specs.Held.{HeldWithin, Unended, held_in, HeldGoesOn};
 use luck_lines::stream::State;
 use luck_lines::{buffer, stream};
 use std::env::{Env, FillError};
-use std::fmt;
 use std::io::{Eprint, Error, Print, Read, Stdin, Stdout};
 
 // Where the lines come from, and where the rows go.
@@ -28,12 +27,16 @@ enum Failure {
     Output(Error),
 }
 
-impl fmt::Display for Failure {
-    fn fmt<W: fmt::Write>(&self, f: &mut fmt::Formatter<W>) -> fmt::Result {
-        match self {
-            Failure::Input(why) => write!(f, "bodies: standard input: {why}"),
-            Failure::Output(why) => write!(f, "bodies: standard output: {why}"),
-        }
+impl Failure {
+    // In two writes, as they find room: of an error stream that takes the first alone, what failed is read.
+    fn say(&self, errors: &impl Eprint) {
+        let (what, why) = match self {
+            Failure::Input(why) => ("bodies: standard input: ", why),
+            Failure::Output(why) => ("bodies: standard output: ", why),
+        };
+        // where even that can't be said, nothing is left to do
+        let _ = errors.eprint(what);
+        let _ = errors.eprintln(why);
     }
 }
 
@@ -159,7 +162,7 @@ fn main(rt: HostRuntime) {
     let mut input = [0u8; 65536];
     let mut output = [0u8; 65536];
     if let Err(failure) = list(streams, &mut input, &mut output) {
-        let _ = rt.eprintln(failure);
+        failure.say(&rt);
     }
 }
 

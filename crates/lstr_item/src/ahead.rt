@@ -1,6 +1,6 @@
 // What the rest of a pattern surely tests first, so that a place where it fails is passed without opening a level there, or making an attempt. The contracts
 // say that what is told is true: telling nothing would meet them too, and be slower.
-ghost use Rattle.std.specs.Prelude.{true, ◌≡◌, ℕ, IfSome};
+ghost use Rattle.std.specs.Prelude.{true, ◌≡◌, ℕ, ◌<◌, IfSome};
 ghost use Rattle.lstr_class.specs.Inner.{class_in};
 ghost use Rattle.lstr_item.specs.Inner.{SingleIn};
 ghost use Rattle.lstr_item.specs.Ahead.{SingleAhead, Sure, FailsHere};
@@ -12,7 +12,8 @@ use crate::{item, single};
 // The level above which two more can't be opened: MAXCCALLS of lstrlib.c is 200.
 const LAST_BUT_ONE: u32 = 199;
 
-// The single from `at` up to its suffix fails the rest of a pattern where it does not fit, after so many steps. Neighbours are of different widths, as in Attempt.
+// The single from `at` up to its suffix fails the rest of a pattern where it does not fit, after so many steps; with no steps nothing is known. Neighbours are of
+// different widths, as in Attempt.
 #[derive(Clone, Copy, Debug, PartialEq, Eq)]
 pub struct Ahead {
     pub at: usize,
@@ -48,10 +49,11 @@ pub fn first_test(pattern: &[u8], next: usize, level: u32, is_open: bool) -> Opt
 impl Ahead {
     // Whether the rest surely fails at `place`, with its steps within the budget.
     pub fn fails_at(self, state: &MatchState, place: usize, steps: u32) -> bool
-        requires { SingleIn state.now.pattern.now self.at self.suffix }
+        requires { 0 < self.steps → SingleIn state.now.pattern.now self.at self.suffix }
         ensures { result ≡ true → FailsHere (class_in state.now.classes.now) state.now.subject.now state.now.pattern.now self place state.now.budget steps }
     {
-        steps < state.budget
+        0 < self.steps
+            && steps < state.budget
             && self.steps <= state.budget - steps
             && !single::fits(state, self.at, self.suffix, place)
     }

@@ -17,11 +17,13 @@ abbrev pub number_of : Stop → ℕ
 number_of stop.Spent = 27
 number_of stop.TooDeep = 28
 number_of (stop.Raised error) = 29
+number_of (stop.RaisedAs kind) = 29
 
 abbrev pub kind_of_stop : Stop → ℕ
 kind_of_stop stop.Spent = 0
 kind_of_stop stop.TooDeep = 0
 kind_of_stop (stop.Raised error) = kind_of error
+kind_of_stop (stop.RaisedAs kind) = kind
 
 abbrev pub ended_as : Ending → List Pair → ℕ → Outcome
 ended_as (ending.Matched e n) kept u = matched e (pairs_of n kept) u

@@ -1,6 +1,7 @@
 // How an attempt ends.
 ghost use Rattle.std.specs.Prelude.{◌≡◌};
-ghost use Rattle.lstr_match.specs.Inner.{number_of, kind_of_stop};
+ghost use Rattle.lstr_item.specs.Match.{raised};
+ghost use Rattle.lstr_match.specs.Inner.{number_of, kind_of_stop, EndsAs};
 
 use lstr_item::error::LuaError;
 
@@ -12,6 +13,8 @@ pub enum Stop {
     // a level too many was to be opened
     TooDeep,
     Raised(LuaError),
+    // an error by its kind, which need not be one of lstrlib.c's
+    RaisedAs(u8),
 }
 
 impl Stop {
@@ -23,6 +26,7 @@ impl Stop {
             Stop::Spent => 27,
             Stop::TooDeep => 28,
             Stop::Raised(_) => 29,
+            Stop::RaisedAs(_) => 29,
         }
     }
 
@@ -33,6 +37,7 @@ impl Stop {
         match self {
             Stop::Spent | Stop::TooDeep => 0,
             Stop::Raised(error) => error.kind(),
+            Stop::RaisedAs(kind) => kind,
         }
     }
 }
@@ -111,5 +116,15 @@ impl Attempt {
             ending: self.ending,
             steps: self.steps,
         }
+    }
+}
+
+// An attempt in which an error of this kind was raised.
+pub fn raised(kind: u8, steps: u32) -> Attempt
+    ensures { EndsAs result (raised kind steps) }
+{
+    Attempt {
+        ending: Ending::Stopped(Stop::RaisedAs(kind)),
+        steps,
     }
 }

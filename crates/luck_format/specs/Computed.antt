@@ -1,4 +1,5 @@
--- Every definition of this crate and of those below, for examples: `unfolding computed` lets them compute.
+-- Every definition of this crate and of those below: `unfolding computed` lets them compute, in examples and in the proofs
+-- of functions of one byte.
 -- Assumes nothing.
 use Rattle.luck_format.specs.Format
 use Rattle.luck_format.specs.Date

@@ -241,7 +241,8 @@ fn scan_specifier(text: &[u8], at: usize, rules: Rules) -> Result<Specifier, Pat
     scan_format_conversion(text, at, end, rules)
 }
 
-// The walk over a text that is UTF-8.
+// The walk over a text that is UTF-8. Compiled in place in a caller it has too few registers: `%%` took twice as long.
+#[inline(never)]
 pub fn scan_format_string(text: &[u8], rules: Rules) -> Result<usize, PatternError>
     ensures { walked_of result ≡ format_walk rules text.now }
 {

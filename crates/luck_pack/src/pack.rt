@@ -13,7 +13,7 @@ ghost use Rattle.luck_pack.specs.Inner.{option_read, with_value, pack_turn_of};
 
 use luck_answer::format_pattern::{CheckError, PatternError};
 use luck_text::scan;
-use luck_text::scan::{Class, Digit, OneOf};
+use luck_text::scan::Digit;
 use luck_token::text;
 use luck_utf8::utf8;
 
@@ -65,14 +65,15 @@ fn scan_limited_size(text: &[u8], at: usize) -> Result<Size, PatternError>
     ensures reads { (letter : ℕ) → size_read letter result ≡ getnumlimit letter text.now at }
     ensures inside { IfOk result (λ size. (0 < size.width) × (at + size.width ≤ length text.now + 1)) }
 {
-    let digits = scan::run(text, at, &Digit);
+    let number = scan::digits(text, at, text.len());
+    let digits = number.count;
     if digits == 0 {
         return Ok(Size {
             number: None,
             width: 1,
         });
     }
-    let size = scan::numeral(text, at, at + digits, 10);
+    let size = number.value;
     if !is_size(size) {
         return Err(PatternError::PackSizeOutOfLimits { offset: at });
     }
@@ -80,6 +81,14 @@ fn scan_limited_size(text: &[u8], at: usize) -> Result<Size, PatternError>
         number: Some(size),
         width: 1 + digits,
     })
+}
+
+// Whether an option has a size that is limited.
+#[tactic(auto, unfolding(luck_text::specs::Bytes::among))]
+fn is_limited(letter: u8) -> bool
+    ensures { result ≡ among letter limited_letters }
+{
+    matches!(letter, b'i' | b'I' | b's' | b'!')
 }
 
 // The option of a letter that takes a size from 1 to 16, with the number behind it or its default.
@@ -147,7 +156,7 @@ fn scan_sized_option(text: &[u8], at: usize) -> Result<Read, PatternError>
     ensures inside { IfOk result (λ read. (0 < read.width) × (at + read.width ≤ length text.now)) }
 {
     let byte = text[at];
-    if OneOf(b"iIs!").has(byte) {
+    if is_limited(byte) {
         let size = scan_limited_size(text, at + 1)?;
         return Ok(Read {
             option: limited_option(byte, size.number),

@@ -13,8 +13,8 @@ use lib.ListN.{length, get_or-append, take, drop, length-append, length-take, le
 use lib.Seq.{take-suc, drop-append_seam, drop-cons, take-nil, get_or-take, get_or-drop, length-take-le}
 use lib.Dec.{leb}
 use Rattle.std.specs.List.{prefix_len}
-use borrow.Author.Tests.{le-leb, lt-leb, leb-true}
-use Rattle.luck_text.specs.Bytes.{when◌then◌else◌, byte_at, part, in_front, between, is_digit}
+use borrow.Author.Tests.{le-leb, lt-leb, leb-true, eq-eqb, ne_eqb}
+use Rattle.luck_text.specs.Bytes.{when◌then◌else◌, byte_at, part, in_front, between, among, is_digit}
 use Rattle.luck_text.specs.Bytes.{is_xdigit, run, digit_value, numeral_from, numeral}
 use Rattle.luck_text.specs.Scan.{most, grown}
 use Rattle.luck_text.proofs.Cases.{order, and_left, and_right, second_false}
@@ -36,6 +36,22 @@ module _ (low high b : ℕ) where
 
   pub above : high < b → between low high b ≡ false
   above h = second_false (leb low b) (leb b high) (lt-leb b high h)
+
+-- ---- A set
+
+module _ (b : ℕ) (set : List ℕ) (p : ℕ) where
+  -- the byte stands at p, or further on, or the set ends at p
+  pub among_here : p < length set → b ≡ byte_at set p → true ≡ among b (drop p set)
+  unfolding among
+  among_here h e = rw (drop-cons set p 0, eq-eqb b (byte_at set p) e)
+
+  pub among_later : p < length set → (b ≡ byte_at set p → ⊥) → among b (drop (p + 1) set) ≡ among b (drop p set)
+  unfolding among
+  among_later h e = rw (drop-cons set p 0, add-one p, ne_eqb b (byte_at set p) e)
+
+  pub among_end : length set ≤ p → false ≡ among b (drop p set)
+  unfolding among
+  among_end h = rw (drop_of_length-le set h)
 
 -- ---- A part
 

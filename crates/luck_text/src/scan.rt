@@ -105,8 +105,16 @@ pub struct OneOf<'a>(pub &'a [u8]);
 impl<'a> Class for OneOf<'a> {
     ghost holds = { λ s b. among b s.0.now };
 
+    // A loop that is compiled in place, so that a set that is known there costs a few tests: the library's `contains` is a
+    // call, and formats and dates of many flags or conversions took twice as long.
+    #[inline(always)]
     fn has(&self, byte: u8) -> bool {
-        self.0.contains(&byte)
+        for &one in self.0 {
+            if one == byte {
+                return true;
+            }
+        }
+        false
     }
 }
 

@@ -11,7 +11,7 @@ unfoldable pub computed : Unit {0}
 unfolding
     Rattle.luck_utf8.specs.Computed.computed
     Version.is_version Version.versions Version.has Version.rules_of
-    Text.after_version Text.after_utf8 Text.after_text
+    Text.after_version Text.after_utf8 Text.after_text Text.read_text
     Whitespace.line_break Whitespace.strip_line_break
     Literal.is_short Literal.short_string_body Literal.equals Literal.bracket_at Literal.bracket_width
     Literal.long_string_body Literal.long_piece Literal.other_escape Literal.escape_kind Literal.simple_escape

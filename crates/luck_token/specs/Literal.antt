@@ -20,9 +20,9 @@ use Rattle.luck_text.specs.Bytes.{
 }
 use Rattle.luck_text.specs.Walk.{Turn, stop, goes, walk_from}
 use Rattle.luck_utf8.specs.Utf8.{last_code, is_char, utf8_bytes}
-use Rattle.std.specs.declared.ops.Range.{Range}
 use Rattle.luck_token.specs.Whitespace.{line_break, strip_line_break}
 use Rattle.luck_token.specs.declared.version.Rules.{Rules}
+use Rattle.luck_token.specs.declared.string.Places.{Places}
 use Rattle.luck_token.specs.declared.string.Escape.{Escape}
 use Rattle.luck_token.specs.declared.string.Escape.TheVariants.{
   Simple,
@@ -46,8 +46,8 @@ is_short raw =
 unfoldable pub short_string_body : List ℕ → Option (ℕ × ℕ)
 short_string_body raw = when is_short raw then Some (1, length raw - 1) else None
 
-abbrev pub places_of : Option (Range ℕ) → Option (ℕ × ℕ)
-places_of (Some range) = Some (range.start, range.end)
+abbrev pub places_of : Option Places → Option (ℕ × ℕ)
+places_of (Some places) = Some (places.start, places.end)
 places_of None = None
 
 -- how many `=` stand from place p on

@@ -17,7 +17,13 @@ use crate::{text, whitespace};
 use luck_output::{character, output};
 use luck_text::scan::{Byte, Class, HexDigit, Whitespace};
 use luck_text::{blocks, scan};
-use std::ops::Range;
+
+// Where a part of a text starts and ends: as a `Range`, which is not `Copy`.
+#[derive(Clone, Copy, Debug, PartialEq, Eq)]
+pub struct Places {
+    pub start: usize,
+    pub end: usize,
+}
 
 #[tactic(auto, unfolding(crate::specs::Literal::is_short))]
 fn is_short(raw: &[u8]) -> bool
@@ -31,11 +37,14 @@ fn is_short(raw: &[u8]) -> bool
 }
 
 // Where the text between a quoted literal's quotes stands. Any other text has none.
-pub fn short_string_body(raw: &[u8]) -> Option<Range<usize>>
+pub fn short_string_body(raw: &[u8]) -> Option<Places>
     ensures { places_of result ≡ short_string_body raw.now }
 {
     if is_short(raw) {
-        return Some(1..raw.len() - 1);
+        return Some(Places {
+            start: 1,
+            end: raw.len() - 1,
+        });
     }
     None
 }

@@ -1,8 +1,8 @@
 // The replay of a stored file, record by record.
 use std::error::Error;
+use std::fmt;
 use std::io::Print;
 use std::rt::Files;
-use std::{fmt, io};
 use stored_files::reader;
 use stored_files::reader::LoadError;
 use stored_records::records::{BadRecord, Records};
@@ -42,16 +42,37 @@ impl From<BadRecord> for ReplayError {
 pub fn run<R: Records>(rt: &(impl Files + Print), name: &[u8], path: &[u8]) {
     let mut buffer = [0u8; 262144];
     let found = replay_file::<R>(rt, path, &mut buffer);
-    // A line that can't be written is missed in what the program prints, and nothing else can be said of it.
-    let _ = print_line(rt, name, found);
+    let _ = rt.write_all(name);
+    match found {
+        Ok(tally) => print_tally(rt, tally),
+        Err(ReplayError::Record(error)) => {
+            part(rt, ": ");
+            part(rt, error);
+            part(rt, "\n");
+        }
+        Err(ReplayError::Load(error)) => {
+            let _ = println!(rt; ": {error}");
+        }
+    }
 }
 
-fn print_line(out: &impl Print, name: &[u8], found: Result<Tally, ReplayError>) -> io::Result<()> {
-    out.write_all(name)?;
-    match found {
-        Ok(tally) => println!(out; ": {tally}"),
-        Err(error) => println!(out; ": {error}"),
+// A part of a line. One that can't be written is missed in what the program prints, and nothing else can be said of it; the
+// parts behind it are written all the same.
+fn part(out: &impl Print, text: impl fmt::Display + Drop) {
+    let _ = out.print(text);
+}
+
+fn print_tally(out: &impl Print, tally: Tally) {
+    part(out, ": ");
+    part(out, tally.ran);
+    part(out, " ran, ");
+    part(out, tally.differ);
+    part(out, " differ");
+    if let Some(first) = tally.first {
+        part(out, ", first record ");
+        part(out, first);
     }
+    part(out, "\n");
 }
 
 // With a buffer that has to be larger than the file.

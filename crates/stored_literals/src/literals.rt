@@ -1,6 +1,6 @@
 // Stored answers of decode_string. A record: the version in one byte, the output's length and the text's in two, the text,
 // the answer's number in one byte, its offset and the value's length in two, and the value.
-ghost use Rattle.std.specs.Prelude.{◌+◌, ◌<◌, ◌≤◌, length, IfOk};
+ghost use Rattle.std.specs.Prelude.{◌≡◌, ◌+◌, ◌<◌, ◌≤◌, length, IfOk};
 
 use luck_structs::decoded::Decoded;
 use luck_token::string;
@@ -35,7 +35,9 @@ impl Records for Literals {
 
 fn record_at(file: &[u8], at: usize) -> Result<Record<'_>, BadRecord>
     requires { at ≤ length file.now }
-    ensures { IfOk result (λ r. (at < r.next) × (r.next ≤ length file.now)) }
+    ensures within { IfOk result (λ r. (at < r.next) × (r.next ≤ length file.now)) }
+    ensures value { IfOk result (λ r. length r.value.now ≡ r.answer.written) }
+    ensures next { IfOk result (λ r. at + 10 + length r.text.now + length r.value.now ≡ r.next) }
 {
     if file.len() - at < 5 {
         return Err(BadRecord);

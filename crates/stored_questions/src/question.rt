@@ -32,7 +32,7 @@ pub trait Answers {
 
     /// Whether the library agrees with the answer.
     fn agrees(question: &Question) -> bool
-        requires { length question.now.answer.now ≡ WIDTH };
+        requires { WIDTH ≤ length question.now.answer.now };
 }
 
 /// Replays the question that stands at a place.

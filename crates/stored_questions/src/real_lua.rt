@@ -1,5 +1,6 @@
 // What Lua 5.1 to 5.4 do with a text. A record: a question whose version is 0, the versions that were asked in one byte, and those of them
 // that take the text in another.
+ghost use Rattle.std.specs.Prelude.{◌<◌};
 
 use crate::question;
 use crate::question::{Answers, Question};
@@ -30,12 +31,17 @@ impl Answers for RealLua {
         let asked = Versions(question.answer[0]);
         let taken = Versions(question.answer[1]);
         for version in 1..5 {
-            if asked.contains(version)
-                && question.ask(check, version).is_ok() != taken.contains(version)
-            {
+            if has(asked, version) && question.ask(check, version).is_ok() != has(taken, version) {
                 return false;
             }
         }
         true
     }
+}
+
+// Whether a set of versions has this one, of real Lua's 1 to 4.
+fn has(versions: Versions, version: u32) -> bool
+    requires { (0 < version) × (version < 5) }
+{
+    versions.contains(version)
 }

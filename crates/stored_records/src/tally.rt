@@ -22,6 +22,10 @@ impl Tally {
         ensures first { self.new.first ≡ first_after agrees self.old }
     {
         if !agrees {
+            // while none is counted, no record has set it
+            if self.differ == 0 {
+                self.first = None;
+            }
             self.first = self.first.or(Some(self.ran));
             self.differ += 1;
         }

@@ -1,7 +1,7 @@
 // Stored trials of gsub. A record: the versions that were asked in one byte; what is known of the answer in another; the budget in four bytes; the
 // output's length and those of pattern, replacement and subject in two each; the three texts; the answer's number and kind in one byte each, its
 // replacements in two, its steps in four, the length of what was written in two; and what was written.
-ghost use Rattle.std.specs.Prelude.{◌+◌, ◌<◌, ◌≤◌, length, IfOk};
+ghost use Rattle.std.specs.Prelude.{◌≡◌, ◌+◌, ◌<◌, ◌≤◌, length, IfOk};
 
 use lstr_gsub::gsub;
 use lstr_gsub::gsub::Trial;
@@ -43,7 +43,10 @@ impl Records for Trials {
 
 fn record_at(file: &[u8], at: usize) -> Result<Record<'_>, BadRecord>
     requires { at ≤ length file.now }
-    ensures { IfOk result (λ r. (at < r.next) × (r.next ≤ length file.now)) }
+    ensures within { IfOk result (λ r. (at < r.next) × (r.next ≤ length file.now)) }
+    ensures written { IfOk result (λ r. length r.written.now ≡ r.answer.written) }
+    ensures next { IfOk result (λ r.
+        at + 24 + (length r.pattern.now + length r.replacement.now + length r.subject.now) + length r.written.now ≡ r.next) }
 {
     if file.len() - at < 14 {
         return Err(BadRecord);
@@ -97,8 +100,10 @@ fn answer_at(file: &[u8], at: usize) -> Trial
 
 // Whether the trial under each version that was asked gives the stored answer.
 fn agrees(stored: &Record) -> bool {
+    // once for all versions: setting its bytes takes longer than most trials
+    let mut output = [0u8; 4112];
     for version in 1..9 {
-        if stored.versions.contains(version) && !agrees_under(stored, version) {
+        if stored.versions.contains(version) && !agrees_under(stored, version, &mut output) {
             return false;
         }
     }
@@ -106,10 +111,11 @@ fn agrees(stored: &Record) -> bool {
 }
 
 // Whether as much of the answer as is known is the stored one, and what was written is what was stored.
-fn agrees_under(stored: &Record, version: u32) -> bool {
+fn agrees_under(stored: &Record, version: u32, output: &mut [u8]) -> bool
+    requires { 4111 < length output.old }
+{
     let room = stored.room;
-    let mut output = [0u8; 4112];
-    output::clear(&mut output, room);
+    output::clear(output, room);
     let given = gsub::gsub(
         version,
         stored.pattern,
@@ -120,7 +126,7 @@ fn agrees_under(stored: &Record, version: u32) -> bool {
     );
     let known = stored.known;
     known.agrees(given, stored.answer)
-        && (!known.work || output::holds(&output, room, stored.written))
+        && (!known.work || output::holds(output, room, stored.written))
 }
 
 // What is known of a stored answer.

@@ -158,7 +158,7 @@ fn check_short(check: Check, rules: Rules, start: u32, text: &[u8]) -> Literal
     ensures { literal_answer result ≡ check_short (check_meant check) rules start text.now }
 {
     match string::short_string_body(text) {
-        Some(body) => check_body(check, rules, start, &text[body]),
+        Some(body) => check_body(check, rules, start, &text[body.start..body.end]),
         None => Literal::skipped(),
     }
 }
