@@ -44,6 +44,7 @@ impl Records for Trials {
 fn record_at(file: &[u8], at: usize) -> Result<Record<'_>, BadRecord>
     requires { at ≤ length file.now }
     ensures within { IfOk result (λ r. (at < r.next) × (r.next ≤ length file.now)) }
+    ensures texts { IfOk result (λ r. length r.pattern.now + length r.replacement.now + length r.subject.now < 196608) }
     ensures written { IfOk result (λ r. length r.written.now ≡ r.answer.written) }
     ensures next { IfOk result (λ r.
         at + 24 + (length r.pattern.now + length r.replacement.now + length r.subject.now) + length r.written.now ≡ r.next) }
