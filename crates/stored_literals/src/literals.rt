@@ -37,7 +37,7 @@ fn record_at(file: &[u8], at: usize) -> Result<Record<'_>, BadRecord>
     requires { at ≤ length file.now }
     ensures within { IfOk result (λ r. (at < r.next) × (r.next ≤ length file.now)) }
     ensures value { IfOk result (λ r. length r.value.now ≡ r.answer.written) }
-    ensures next { IfOk result (λ r. at + 10 + length r.text.now + length r.value.now ≡ r.next) }
+    ensures next { IfOk result (λ r. at + 5 + length r.text.now + 5 + length r.value.now ≡ r.next) }
 {
     if file.len() - at < 5 {
         return Err(BadRecord);

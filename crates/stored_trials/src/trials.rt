@@ -1,7 +1,7 @@
 // Stored trials of gsub. A record: the versions that were asked in one byte; what is known of the answer in another; the budget in four bytes; the
 // output's length and those of pattern, replacement and subject in two each; the three texts; the answer's number and kind in one byte each, its
 // replacements in two, its steps in four, the length of what was written in two; and what was written.
-ghost use Rattle.std.specs.Prelude.{◌≡◌, ◌+◌, ◌<◌, ◌≤◌, length, IfOk};
+ghost use Rattle.std.specs.Prelude.{◌≡◌, ◌+◌, ◌*◌, ◌<◌, ◌≤◌, length, IfOk};
 
 use lstr_gsub::gsub;
 use lstr_gsub::gsub::Trial;
@@ -44,10 +44,10 @@ impl Records for Trials {
 fn record_at(file: &[u8], at: usize) -> Result<Record<'_>, BadRecord>
     requires { at ≤ length file.now }
     ensures within { IfOk result (λ r. (at < r.next) × (r.next ≤ length file.now)) }
-    ensures texts { IfOk result (λ r. length r.pattern.now + length r.replacement.now + length r.subject.now < 196608) }
+    ensures texts { IfOk result (λ r. length r.pattern.now + length r.replacement.now + length r.subject.now < 3 * 65536) }
     ensures written { IfOk result (λ r. length r.written.now ≡ r.answer.written) }
     ensures next { IfOk result (λ r.
-        at + 24 + (length r.pattern.now + length r.replacement.now + length r.subject.now) + length r.written.now ≡ r.next) }
+        at + 14 + (length r.pattern.now + length r.replacement.now + length r.subject.now) + 10 + length r.written.now ≡ r.next) }
 {
     if file.len() - at < 14 {
         return Err(BadRecord);
