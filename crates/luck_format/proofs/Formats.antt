@@ -3,17 +3,17 @@
 use Prim.Native.Nat.{ℕ, ◌+◌, ◌-◌, ◌≤◌, ◌<◌}
 use native.Mathlib.Omega.{arith}
 use mathlib.Core.Path.{◌≡◌, refl, sym, ap, ◌∙◌}
-use mathlib.Core.Logic.{◌⊎◌, inl, inr}
 use mathlib.Core.Bool.{Bool, true, false, ◌&&◌}
+use mathlib.Core.Logic.{⊎_elim}
 use mathlib.Core.List.{List}
-use lib.ListN.{length, drop}
+use lib.ListN.{length, drop, get_or-eq_default}
 use lib.Dec.{eqb}
 use borrow.Author.Tests.{lt-ltb, le-ltb, le-leb, lt-leb, eq-eqb, ne_eqb}
 use Rattle.luck_text.specs.Bytes.{when◌then◌else◌, byte_at, ascii, among, is_digit, run}
 use Rattle.luck_utf8.specs.Utf8.{char_at}
 use Rattle.luck_text.specs.Walk.{stop, goes, walk_from}
 use Rattle.luck_token.specs.declared.version.Rules.{Rules}
-use Rattle.luck_text.proofs.Cases.{by_test, if_true, if_false, first_false, second_false, both_true}
+use Rattle.luck_text.proofs.Cases.{order, by_test, if_true, if_false, first_false, second_false, both_true}
 use Rattle.luck_text.proofs.Bytes.{run_inside}
 use Rattle.luck_text.proofs.Walk.{walk_end, walk_stop, walk_goes}
 use Rattle.luck_answer.specs.declared.format_pattern.PatternError.{PatternError}
@@ -43,7 +43,7 @@ use Rattle.luck_format.specs.Format.{
   format_end,
   format_walk,
 }
-use Rattle.luck_format.specs.Inner.{two_digits, with_specifier}
+use Rattle.luck_format.specs.Inner.{two_digits}
 
 -- ---- Modifiers
 
@@ -166,20 +166,23 @@ module _ (rules : Rules) (text : List ℕ) (p e count : ℕ) where
       unfolding conversion_turn when◌then◌else◌
       unchecked r = rw (lt-leb (length text) e h, k, r)
 
+two_wide : (p : ℕ) → p + 2 - p ≡ 2
+two_wide p = omega arith
+
 module _ (rules : Rules) (text : List ℕ) (p count : ℕ) where
   pub lone_percent : length text ≤ p + 1 → stop (refused 1 p) ≡ percent_turn rules text p count
   unfolding percent_turn when◌then◌else◌
   lone_percent h = rw (le-leb (length text) (p + 1) h)
 
   module _ (h : p + 1 < length text) where
-    pub two_percents : byte_at text (p + 1) ≡ 37 → goes 2 count ≡ percent_turn rules text p count
+    pub two_percents : byte_at text (p + 1) ≡ 37 → goes (p + 2 - p) count ≡ percent_turn rules text p count
     unfolding percent_turn when◌then◌else◌
-    two_percents e = rw (lt-leb (length text) (p + 1) h, eq-eqb (byte_at text (p + 1)) 37 e)
+    two_percents e = rw (two_wide p, lt-leb (length text) (p + 1) h, eq-eqb (byte_at text (p + 1)) 37 e)
 
     module _ (n : byte_at text (p + 1) ≡ 37 → ⊥) where
-      pub star : (eqb (byte_at text (p + 1)) 42 && rules.star_format) ≡ true → goes 2 (count + 1) ≡ percent_turn rules text p count
+      pub star : (eqb (byte_at text (p + 1)) 42 && rules.star_format) ≡ true → goes (p + 2 - p) (count + 1) ≡ percent_turn rules text p count
       unfolding percent_turn when◌then◌else◌
-      star e = rw (lt-leb (length text) (p + 1) h, ne_eqb (byte_at text (p + 1)) 37 n, e)
+      star e = rw (two_wide p, lt-leb (length text) (p + 1) h, ne_eqb (byte_at text (p + 1)) 37 n, e)
 
       module _ (m : (eqb (byte_at text (p + 1)) 42 && rules.star_format) ≡ false) where
         pub after_modifiers : (e : ℕ) → end_at e ≡ modifiers_at rules.checked_format_modifiers text (p + 1)
@@ -193,6 +196,10 @@ module _ (rules : Rules) (text : List ℕ) (p count : ℕ) where
         faulty_modifiers answer q = rw (lt-leb (length text) (p + 1) h, ne_eqb (byte_at text (p + 1)) 37 n, m, ← q)
 
 -- ---- The walk
+
+-- a byte that is not zero stands in the text
+byte_inside : (text : List ℕ) (p b : ℕ) → byte_at text p ≡ b → 0 < b → p < length text
+byte_inside text p b e h = ⊎_elim (λ l. l) (λ g. absurd (omega (arith, get_or-eq_default text 0 {n = p} g))) (order p (length text))
 
 module _ (rules : Rules) (text : List ℕ) where
   abbrev pub on : ℕ → ℕ → Answer
@@ -220,13 +227,15 @@ module _ (rules : Rules) (text : List ℕ) where
         unfolding format_turn when◌then◌else◌
         percent_step = rw (eq-eqb (byte_at text p) 37 e)
 
-        pub goes_on : (width after : ℕ) → goes width after ≡ percent_turn rules text p count → 0 < width → p + width ≤ length text → on (p + width) after ≡ whole
-        goes_on width after s f i = sym (walk_goes (format_turn rules text) format_end (length text) p count width after f i (percent_step ∙ sym s)) ∙ w
+        pub goes_on : (q after : ℕ) → goes (q - p) after ≡ percent_turn rules text p count → p < q → q ≤ length text → on q after ≡ whole
+        goes_on q after s f i =
+            let there : q ≡ p + (q - p) = omega arith in
+            ap (λ k. on k after) there ∙ sym (walk_goes (format_turn rules text) format_end (length text) p count (q - p) after (omega arith) (omega arith) (percent_step ∙ sym s)) ∙ w
+
+        pub percents : byte_at text (p + 1) ≡ 37 → (p + 2 ≤ length text) × (on (p + 2) count ≡ whole)
+        percents f =
+            let i = byte_inside text (p + 1) 37 f (omega arith) in
+            (omega arith, goes_on (p + 2) count (two_percents rules text p count i f) (omega arith) (omega arith))
 
         pub stops : (answer : Answer) → stop answer ≡ percent_turn rules text p count → answer ≡ whole
         stops answer s = sym (walk_stop (format_turn rules text) format_end (length text) p count answer h (percent_step ∙ sym s)) ∙ w
-
--- the specifiers after one that counts or not
-pub counted : (counts : Bool) (count after : ℕ) → ((counts ≡ true) × (after ≡ count + 1)) ⊎ ((counts ≡ false) × (after ≡ count)) → with_specifier counts count ≡ after
-counted counts count after (inl w) = rw (w.0, w.1)
-counted counts count after (inr w) = rw (w.0, w.1)

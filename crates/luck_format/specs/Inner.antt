@@ -1,6 +1,6 @@
 -- What the inner functions of the check of formats promise each other. No public contract rests on these.
 -- Assumes nothing.
-use Rattle.std.specs.Prelude.{ℕ, ◌+◌, Bool, true, false, ◌&&◌, List, drop, eqb, ltb, Result, Ok, Err}
+use Rattle.std.specs.Prelude.{ℕ, ◌+◌, ◌-◌, Bool, ◌&&◌, List, drop, eqb, ltb, Result, Ok, Err}
 use Prim.Native.Char.{code}
 use Rattle.luck_token.specs.declared.version.Rules.{Rules}
 use Rattle.luck_text.specs.Bytes.{when◌then◌else◌, is_digit, run}
@@ -8,7 +8,6 @@ use Rattle.luck_text.specs.Walk.{Turn, stop, goes}
 use Rattle.luck_answer.specs.Answer.{Answer, refusal}
 use Rattle.luck_answer.specs.declared.format_pattern.PatternError.{PatternError}
 use Rattle.luck_format.specs.Format as format
-use Rattle.luck_format.specs.declared.format.Specifier.{Specifier}
 
 -- the place after the modifiers, or a fault in them
 abbrev pub modifiers_of : Result ℕ PatternError → format.Modifiers
@@ -25,11 +24,7 @@ two_digits text p e =
 abbrev pub is_star : Rules → ℕ → Bool
 is_star rules b = eqb b (code "*") && rules.star_format
 
--- the walk's turn, from the specifiers so far
-abbrev pub with_specifier : Bool → ℕ → ℕ
-with_specifier true count = count + 1
-with_specifier false count = count
-
-abbrev pub turn_of : ℕ → Result Specifier PatternError → Turn ℕ Answer
-turn_of count (Ok s) = goes s.width (with_specifier s.counts count)
-turn_of count (Err e) = stop (refusal e)
+-- the walk's turn at a specifier that begins at p, from the specifiers so far; the place is the one after it
+abbrev pub turn_of : ℕ → ℕ → Result ℕ PatternError → Turn ℕ Answer
+turn_of p count (Ok after) = goes (after - p) (count + 1)
+turn_of p count (Err e) = stop (refusal e)

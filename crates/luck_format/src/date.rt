@@ -10,16 +10,17 @@ use luck_text::scan;
 use luck_text::scan::{Class, OneOf};
 use luck_token::text;
 
-// The bytes of which one must follow this one.
+// Whether this byte may follow the first of a conversion of two letters. Each set is known where it is searched: with the
+// sets' choice apart from the search `%Ex` took 1.3 times as long.
 #[tactic(auto, unfolding(crate::specs::Computed::computed))]
-fn second_bytes(first: u8) -> &'static [u8]
-    ensures { result.now ≡ second_bytes first }
+fn is_second(first: u8, second: u8) -> bool
+    ensures { result ≡ among second (second_bytes first) }
 {
     match first {
-        b'E' => b"cCxXyY",
-        b'O' => b"deHImMSuUVwWy",
-        b'#' => b"cxdHIjmMpSUwWyY",
-        _ => b"",
+        b'E' => OneOf(b"cCxXyY").has(second),
+        b'O' => OneOf(b"deHImMSuUVwWy").has(second),
+        b'#' => OneOf(b"cxdHIjmMpSUwWyY").has(second),
+        _ => false,
     }
 }
 
@@ -46,9 +47,7 @@ fn conversion_width(text: &[u8], at: usize, has_options: bool) -> Option<usize>
 {
     let byte = text[at + 1];
     if is_first(byte, has_options) {
-        return OneOf(second_bytes(byte))
-            .has(scan::byte_at(text, at + 2))
-            .then_some(3);
+        return is_second(byte, scan::byte_at(text, at + 2)).then_some(3);
     }
     is_single(byte, has_options).then_some(2)
 }

@@ -17,7 +17,7 @@ use Rattle.luck_text.specs.Scan.{most}
 use Rattle.luck_text.specs.Walk.{Turn, walk_from}
 use Rattle.luck_text.specs.Walk.Turn.{stop, goes}
 use Rattle.luck_text.proofs.Cases.{by_test, if_true, if_false, order}
-use Rattle.luck_text.proofs.Bytes.{within, above, Between, between_true, run_short}
+use Rattle.luck_text.proofs.Bytes.{within, above, Between, between_true}
 use Rattle.luck_text.proofs.Walk.{walk_end, walk_stop, walk_goes}
 use Rattle.luck_answer.specs.Answer.{Answer, accepted, refused, refused_with}
 use Rattle.luck_pack.specs.Pack.{PackOption as Given, pack_option, OptionRead, option, fault, getnumlimit, fixed_string}
@@ -236,7 +236,3 @@ pub counted : (has : Bool) (values next after : ℕ) → ((has ≡ true) × (aft
     → with_value has values next ≡ pack_state after next
 counted has values next after (inl w) = rw (w.0, w.1)
 counted has values next after (inr w) = rw (w.0, w.1)
-
--- of all digits that follow, the text's length is no limit
-pub all_digits : (text : List ℕ) (p n : ℕ) → n ≡ min (length text) (run is_digit (drop p text)) → n ≡ run is_digit (drop p text)
-all_digits text p n e = omega (arith, run_short is_digit text p)

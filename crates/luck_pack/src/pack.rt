@@ -65,7 +65,7 @@ fn scan_limited_size(text: &[u8], at: usize) -> Result<Size, PatternError>
     ensures reads { (letter : ℕ) → size_read letter result ≡ getnumlimit letter text.now at }
     ensures inside { IfOk result (λ size. (0 < size.width) × (at + size.width ≤ length text.now + 1)) }
 {
-    let number = scan::digits(text, at, text.len());
+    let number = scan::decimal_digits(text, at);
     let digits = number.count;
     if digits == 0 {
         return Ok(Size {

@@ -6,13 +6,12 @@ use native.Mathlib.Numerals.{add-one}
 use native.Mathlib.Omega.{arith}
 use mathlib.Core.Path.{◌≡◌, refl, sym, ap, ap₂, subst, ◌∙◌}
 use mathlib.Core.Logic.{◌⊎◌, inl, inr, ⊎_elim}
-use mathlib.Core.Bool.{Bool, true, false, ◌||◌, cond}
+use mathlib.Core.Bool.{Bool, true, false, ◌||◌}
 use mathlib.Core.List.{List, [], ◌∷◌, ◌++◌}
 use Rattle.std.proofs.lemmas.List.{drop-drop}
-use lib.ListN.{length, get_or-append, take, drop, length-append, length-take, length-drop, drop_of_length-le}
+use lib.ListN.{length, get_or-append, take, drop, length-append, length-drop, drop_of_length-le}
 use lib.Seq.{take-suc, drop-append_seam, drop-cons, take-nil, get_or-take, get_or-drop, length-take-le}
 use lib.Dec.{leb}
-use Rattle.std.specs.List.{prefix_len}
 use borrow.Author.Tests.{le-leb, lt-leb, leb-true, eq-eqb, ne_eqb}
 use Rattle.luck_text.specs.Bytes.{when◌then◌else◌, byte_at, part, in_front, between, among, is_digit}
 use Rattle.luck_text.specs.Bytes.{is_xdigit, run, digit_value, numeral_from, numeral}
@@ -132,32 +131,20 @@ module _ (test : ℕ → Bool) where
   pub run_inside : (text : List ℕ) (p : ℕ) → p ≤ length text → p + run test (drop p text) ≤ length text
   run_inside text p h = omega (arith, run_length (drop p text), length-drop p text)
 
-  -- the library counts a run as the front that passes
-  pub run_prefix : (text : List ℕ) → prefix_len test text ≡ run test text
-  unfolding run when◌then◌else◌
-  run_prefix [] = refl
-  run_prefix (b ∷ text) = go (run_prefix text) (test b)
-    where
-      go : prefix_len test text ≡ run test text → (t : Bool) → cond t (1 + prefix_len test text) 0 ≡ (when t then suc (run test text) else 0)
-      go e true = omega arith
-      go e false = refl
+-- the bytes from `at` to `end` are of a run
+pub record InRun (test : ℕ → Bool) (text : List ℕ) (at end : ℕ) : Type 0 where
+  pub behind : at ≤ end
+  pub so_far : run test (drop at text) ≡ end - at + run test (drop end text)
 
--- of a front, `limit` bytes at most, the first i are of a run
-module _ (test : ℕ → Bool) (text items : List ℕ) (limit i : ℕ) (is : items ≡ take limit text) (so_far : run test text ≡ i + run test (drop i text)) where
-  front_size : length items ≡ min limit (length text)
-  front_size = rw (is, length-take limit text)
+module _ {test : ℕ → Bool} {text : List ℕ} {at end : ℕ} (i : InRun test text at end) where
+  pub run_goes_on : end < length text → test (byte_at text end) ≡ true → InRun test text at (end + 1)
+  run_goes_on h t = record { behind = omega arith; so_far = omega (arith, run_more test text end h t) }
 
-  front_byte : i < length items → byte_at text i ≡ byte_at items i
-  front_byte h = rw (is) (sym (get_or-take limit text i 0 (omega (arith, front_size))))
+  pub run_stopped : end < length text → test (byte_at text end) ≡ false → end - at ≡ run test (drop at text)
+  run_stopped h t = omega (arith, run_stop test text end h t)
 
-  pub front_goes_on : i < length items → test (byte_at items i) ≡ true → run test text ≡ i + 1 + run test (drop (i + 1) text)
-  front_goes_on h t = omega (arith, front_size, run_more test text i (omega (arith, front_size)) (ap test (front_byte h) ∙ t))
-
-  pub front_stopped : i < length items → test (byte_at items i) ≡ false → i ≡ min limit (run test text)
-  front_stopped h t = omega (arith, front_size, run_stop test text i (omega (arith, front_size)) (ap test (front_byte h) ∙ t))
-
-  pub front_ended : length items ≡ i → i ≡ min limit (run test text)
-  front_ended h = ⊎_elim (λ l. omega (arith, front_size)) (λ g. omega (arith, front_size, run_end test text i g)) (order i (length text))
+  pub run_ended : length text ≤ end → end - at ≡ run test (drop at text)
+  run_ended h = omega (arith, run_end test text end h)
 
 -- ---- A number
 
@@ -202,6 +189,20 @@ module _ (base : ℕ) where
       e ∙ ap₂ (λ (x y : ℕ). grown x base y) v d ∙ grown_min n (digit_value (byte_at digits i)) base
       ∙ ap (λ (x : ℕ). min x most) (sym (from_last 0 (take i digits) (byte_at digits i)))
       ∙ ap (λ (l : List ℕ). min (numeral_from base 0 l) most) (sym (rw (add-one i) (take-suc digits i 0 h)))
+
+  -- the digits from a place to another, none and one more
+  pub spelled_none : (text : List ℕ) (at : ℕ) → 0 ≡ min (numeral base (part text at at)) most
+  unfolding numeral numeral_from
+  spelled_none text at = let none : at - at ≡ 0 = omega arith in rw (none) refl
+
+  pub spelled_next : (text : List ℕ) (at end value digit next : ℕ) → at ≤ end → end < length text → value ≡ min (numeral base (part text at end)) most
+      → digit ≡ digit_value (byte_at text end) → next ≡ grown value base digit → next ≡ min (numeral base (part text at (end + 1))) most
+  spelled_next text at end value digit next b h v d e =
+      let there : at + (end - at) ≡ end = omega arith in
+      let more : end - at + 1 ≡ end + 1 - at = omega arith in
+      rw (← more)
+      (spelled_more (drop at text) (end - at) value digit next (omega (arith, length-drop at text)) v
+      (d ∙ ap digit_value (sym (get_or-drop at text (end - at) 0 ∙ ap (byte_at text) there))) e)
 
 -- ---- The value of a digit
 

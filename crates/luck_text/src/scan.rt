@@ -106,7 +106,7 @@ impl<'a> Class for OneOf<'a> {
     ghost holds = { λ s b. among b s.0.now };
 
     // A loop that is compiled in place, so that a set that is known there costs a few tests: the library's `contains` is a
-    // call, and formats and dates of many flags or conversions took twice as long.
+    // call, and formats and dates of many flags or conversions took up to twice as long.
     #[inline(always)]
     fn has(&self, byte: u8) -> bool {
         for &one in self.0 {
@@ -132,14 +132,16 @@ fn front(text: &[u8], count: usize) -> &[u8]
     &text[..count.min(text.len())]
 }
 
-// How many bytes from `at` on are of the class, up to the first that is not.
+// How many bytes from `at` on are of the class, up to the first that is not. By places of the text: `take_while` and `count`
+// over a slice keep registers that a caller's loop needs, and formats of `%d` took 1.4 times as long.
 pub fn run<C: Class>(text: &[u8], at: usize, class: &C) -> usize
     ensures { result ≡ run_of (C.holds class.now) (drop at text.now) }
 {
-    rest(text, at)
-        .iter()
-        .take_while(|byte| class.has(**byte))
-        .count()
+    let mut end = at;
+    while end < text.len() && class.has(text[end]) {
+        end += 1;
+    }
+    end - at
 }
 
 // Whether a byte is from `low` to `high`, both included.
@@ -202,22 +204,20 @@ pub struct Number {
     pub value: u32,
 }
 
-// The digits from `at` on, `limit` of them at most, counted and read in one pass.
+// The digits from `at` on, `limit` of them at most, counted and read in one pass. By places of the text, so that a limit of
+// three is unrolled: over a slice decimal escapes took 1.4 times as long.
 fn read_digits<D: Base>(text: &[u8], at: usize, limit: usize, digits: &D) -> Number
     ensures count { result.count ≡ min limit (run_of (D.holds digits.now) (drop at text.now)) }
     ensures value { result.value ≡ min (numeral_of D.BASE (part text.now at (at + result.count))) most }
 {
     let mut value: u64 = 0;
-    let mut count = 0;
-    for &byte in front(rest(text, at), limit) {
-        if !digits.has(byte) {
-            break;
-        }
-        value = with_digit(value, D::BASE, digits.value(byte) as u64);
-        count += 1;
+    let mut end = at;
+    while end < text.len() && end - at < limit && digits.has(text[end]) {
+        value = with_digit(value, D::BASE, digits.value(text[end]) as u64);
+        end += 1;
     }
     Number {
-        count,
+        count: end - at,
         value: value as u32,
     }
 }
@@ -228,6 +228,14 @@ pub fn hex_digits(text: &[u8], at: usize) -> Number
     ensures value { result.value ≡ min (numeral_of 16 (part text.now at (at + result.count))) most }
 {
     read_digits(text, at, usize::MAX, &HexDigit)
+}
+
+// The decimal digits from `at` on.
+pub fn decimal_digits(text: &[u8], at: usize) -> Number
+    ensures count { result.count ≡ run_of is_digit (drop at text.now) }
+    ensures value { result.value ≡ min (numeral_of 10 (part text.now at (at + result.count))) most }
+{
+    read_digits(text, at, usize::MAX, &Digit)
 }
 
 // The decimal digits from `at` on, `limit` of them at most.

@@ -1,42 +1,38 @@
 -- `luck_text::scan::read_digits` meets its contract. The number so far stays at the largest. Assumes nothing.
-use mathlib.Core.Path.{◌≡◌, refl, sym, ◌∙◌}
+use mathlib.Core.Path.{sym, ◌∙◌}
 use native.Mathlib.Omega.{arith}
-use Prim.Native.Nat.{min}
-use lib.ListN.{take, drop}
-use Rattle.luck_text.specs.Bytes.{run, numeral, numeral_from}
-use Rattle.luck_text.proofs.Bytes.{front_goes_on, front_stopped, front_ended, spelled_more}
+use Rattle.luck_text.proofs.Bytes.{run_goes_on, run_stopped, run_ended, spelled_none, spelled_next}
 use Rattle.luck_text.proofs.scan.read_digits.Goals as goal
-use Rattle.luck_text.proofs.scan.read_digits.Goals.{else-loop-byte-test, then-loop-byte-test+then-not-has}
+use Rattle.luck_text.proofs.scan.read_digits.Goals.{
+  then-loop-end-test+then-end-at+else-has,
+  then-loop-end-test+else-end-at,
+  else-loop-end-test,
+}
 
-pub loop-byte-init : goal.loop-byte-init
-unfolding numeral numeral_from
-loop-byte-init g c = (refl, omega arith, refl)
-
-pub loop-byte-preserved : goal.loop-byte-preserved
-loop-byte-preserved g c =
-    let l = c.loop-byte in
-    let a = c.args in
-    let items = c.front-byte-items.result.now in
-    let test = g.D.Class.holds a.digits.now in
-    let is : items ≡ take a.limit (drop a.at a.text.now) = cc in (
+pub loop-end-init : goal.loop-end-init
+loop-end-init g c =
+    let a = c.args in (
+      record { behind = omega arith; so_far = omega arith },
       omega arith,
-      front_goes_on test (drop a.at a.text.now) items a.limit l.byte-index is l.invariant.1 c.loop-byte-test.true (sym c.has.ensures ∙ c.if-not-has.false),
-      spelled_more g.D.Base.BASE items l.byte-index l.value _ _ c.loop-byte-test.true l.invariant.2 c.value.ensures.0
-          (rw (← c.BASE.ensures) c.with_digit-value.ensures),
+      spelled_none g.D.Base.BASE a.text.now a.at,
+    )
+
+pub loop-end-preserved : goal.loop-end-preserved
+loop-end-preserved g c =
+    let a = c.args in
+    let l = c.loop-end in
+    let i = l.invariant in (
+      run_goes_on i.0 c.loop-end-test.true (sym c.has.ensures ∙ c.if-has.true),
+      omega (arith, c.if-end-at.true),
+      spelled_next g.D.Base.BASE a.text.now a.at l.end l.value _ _ i.0.behind c.loop-end-test.true i.2 c.value.ensures.0 (rw (← c.BASE.ensures) c.with_digit-value.ensures),
     )
 
 pub returns-clause-count : goal.returns-clause-count
 returns-clause-count g c =
-    let l = c.loop-byte in
-    let a = c.args in
-    let text = drop a.at a.text.now in
-    let items = c.front-byte-items.result.now in
-    let test = g.D.Class.holds a.digits.now in
-    let is : items ≡ take a.limit text = cc in
-    let ended : l.byte-index ≡ min a.limit (run test text) =
-    elim c.loop-byte-test.branch [
-      | else-loop-byte-test w ↦ front_ended test text items a.limit l.byte-index is l.invariant.1 (omega arith)
-      | then-loop-byte-test+then-not-has w ↦
-          front_stopped test text items a.limit l.byte-index is l.invariant.1 w.loop-byte-test.true (sym w.has.ensures ∙ w.if-not-has.true)
-    ] in
-    omega arith
+    let i = c.loop-end.invariant in
+    elim c.loop-end-test.branch [
+      | then-loop-end-test+then-end-at+else-has w ↦
+          omega (arith, i.1, run_stopped i.0 w.loop-end-test.true (sym w.has.ensures ∙ w.if-has.false))
+      | then-loop-end-test+else-end-at w ↦ omega (arith, i.1, i.0.behind, i.0.so_far, w.if-end-at.false)
+      | else-loop-end-test w ↦ omega (arith, i.1, run_ended i.0 w.loop-end-test.false)
+    ]
