@@ -29,8 +29,12 @@ pub record Sure (pat : List ℕ) (next l count : ℕ) (is_open : Bool) (a : Ahea
       → fits_at in_class sub (single_of pat a.at a.suffix) s ≡ false
       → failed (u + a.steps) ≡ new_level l u (λ m. match in_class sub budget (items pat next) s m cs u)
 
--- the single ahead is known, it does not fit at place s, and its steps are left
+-- the single ahead does not fit at place s, and its steps are left
 pub record FailsHere (in_class : ℕ → ℕ → Bool) (sub pat : List ℕ) (a : Ahead) (s budget u : ℕ) : Type 0 where
-  pub known : 0 < a.steps
   pub left : u + a.steps ≤ budget
   pub unfit : fits_at in_class sub (single_of pat a.at a.suffix) s ≡ false
+
+-- and something is known of it: with no steps nothing is
+pub record KnownFailsHere (in_class : ℕ → ℕ → Bool) (sub pat : List ℕ) (a : Ahead) (s budget u : ℕ) : Type 0 where
+  pub known : 0 < a.steps
+  pub here : FailsHere in_class sub pat a s budget u

@@ -3,7 +3,7 @@
 ghost use Rattle.std.specs.Prelude.{true, ◌≡◌, ℕ, ◌<◌, IfSome};
 ghost use Rattle.lstr_class.specs.Inner.{class_in};
 ghost use Rattle.lstr_item.specs.Inner.{SingleIn};
-ghost use Rattle.lstr_item.specs.Ahead.{SingleAhead, Sure, FailsHere};
+ghost use Rattle.lstr_item.specs.Ahead.{SingleAhead, Sure, KnownFailsHere};
 
 use crate::item::Item;
 use crate::state::MatchState;
@@ -50,7 +50,7 @@ impl Ahead {
     // Whether the rest surely fails at `place`, with its steps within the budget.
     pub fn fails_at(self, state: &MatchState, place: usize, steps: u32) -> bool
         requires { 0 < self.steps → SingleIn state.now.pattern.now self.at self.suffix }
-        ensures { result ≡ true → FailsHere (class_in state.now.classes.now) state.now.subject.now state.now.pattern.now self place state.now.budget steps }
+        ensures { result ≡ true → KnownFailsHere (class_in state.now.classes.now) state.now.subject.now state.now.pattern.now self place state.now.budget steps }
     {
         0 < self.steps
             && steps < state.budget

@@ -13,7 +13,7 @@ use Rattle.luck_text.specs.Bytes.{when◌then◌else◌}
 use Rattle.luck_pattern.specs.Items.{Single, optional, star, plus, minus, items}
 use Rattle.lstr_item.specs.Match.{Capture, capture_to_close, Outcome, matched, failed, stopped, Rest, due, new_level, or_else, Reach, reached, spent, reach, longest_first, max_expand, fits_at, min_expand, expand, match}
 use Rattle.lstr_item.specs.Inner.{SingleIn}
-use Rattle.lstr_item.specs.Ahead.{Sure, FailsHere}
+use Rattle.lstr_item.specs.Ahead.{Sure, FailsHere, KnownFailsHere}
 use Rattle.lstr_item.specs.declared.ahead.Ahead.{Ahead}
 use Rattle.lstr_item.specs.declared.capture.Pair.{Pair}
 use Rattle.lstr_match.specs.Inner.{ended_as, outcome_of}
@@ -193,3 +193,10 @@ module _ (pat : List ℕ) (next l : ℕ) (is_open : Bool) where
   fails_ahead in_class sub budget s cs u v (Some a) o sure h =
       let f = h.1 in
       ap failed h.0 ∙ (sure (length cs)).fails in_class sub budget s cs u (omega arith) o f.left f.unfit
+
+  -- as `steps_failed` tells it
+  pub known_fails_ahead : (in_class : ℕ → ℕ → Bool) (sub : List ℕ) (budget s : ℕ) (cs : List Capture) (u v : ℕ) (first : Option Ahead)
+      → (is_open ≡ true → capture_to_close cs ≡ None → ⊥) → SureIf first → IsSomeAnd first (λ a. (v ≡ u + a.steps) × KnownFailsHere in_class sub pat a s budget u)
+      → failed v ≡ new_level l u (λ m. match in_class sub budget (items pat next) s m cs u)
+  known_fails_ahead in_class sub budget s cs u v None o sure h = absurd h
+  known_fails_ahead in_class sub budget s cs u v (Some a) o sure h = fails_ahead in_class sub budget s cs u v (Some a) o sure (h.0, h.1.here)

@@ -4,7 +4,7 @@ ghost use Rattle.luck_pattern.specs.Items.{items, minus};
 ghost use Rattle.lstr_item.specs.Match.{new_level, do_start_capture, do_end_capture, capture_to_close, reach, max_expand, expand, match};
 ghost use Rattle.lstr_class.specs.Inner.{class_in};
 ghost use Rattle.lstr_item.specs.Inner.{SingleIn, single_of, capture_of, captures_of, positional, Sound};
-ghost use Rattle.lstr_item.specs.Ahead.{FailsHere};
+ghost use Rattle.lstr_item.specs.Ahead.{KnownFailsHere};
 ghost use Rattle.lstr_match.specs.Inner.{outcome_of, AttemptIn};
 
 use crate::outcome::{Attempt, Ending};
@@ -162,7 +162,7 @@ pub fn do_match(
 fn steps_failed(state: &MatchState, first: Option<Ahead>, place: usize, steps: u32) -> Option<u32>
     requires { IfSome first (λ a. SingleIn state.now.pattern.now a.at a.suffix) }
     ensures { IfSome result (λ after. IsSomeAnd first (λ a. (after ≡ steps + a.steps)
-        × FailsHere (class_in state.now.classes.now) state.now.subject.now state.now.pattern.now a place state.now.budget steps)) }
+        × KnownFailsHere (class_in state.now.classes.now) state.now.subject.now state.now.pattern.now a place state.now.budget steps)) }
 {
     let first = first?;
     // the budget is read here too, which bounds the sum

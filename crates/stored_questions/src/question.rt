@@ -32,7 +32,17 @@ pub trait Answers {
 
     /// Whether the library agrees with the answer.
     fn agrees(question: &Question) -> bool
-        requires { WIDTH ≤ length question.now.answer.now };
+        requires { length question.now.answer.now ≡ WIDTH };
+}
+
+/// Whether the library agrees with the answer, where more bytes may stand behind it: it is asked with the answer alone.
+pub fn agrees_in_front<A: Answers>(question: &Question) -> bool
+    requires { A.WIDTH ≤ length question.now.answer.now }
+{
+    A::agrees(&Question {
+        answer: &question.answer[..A::WIDTH],
+        ..*question
+    })
 }
 
 /// Replays the question that stands at a place.
@@ -92,5 +102,44 @@ impl Question<'_> {
     /// The library's answer for a literal that starts at this place of its source.
     pub fn ask_literal(&self, start: u32) -> Literal {
         format_string::check_literal(self.kind, self.version, self.captures, start, self.text)
+    }
+}
+
+#[cfg(test)]
+mod tests {
+    use super::*;
+
+    // Agrees with an answer of one byte, a 7.
+    struct Seven;
+
+    impl Answers for Seven {
+        ghost WIDTH = { 1 };
+
+        const WIDTH: usize = 1;
+
+        // an answer of more bytes would be looked up outside of the table
+        fn agrees(question: &Question) -> bool {
+            [7][question.answer.len() - 1] == question.answer[0]
+        }
+    }
+
+    fn question(answer: &[u8]) -> Question<'_>
+        ensures { result.answer.now ≡ answer.now }
+    {
+        Question {
+            kind: b'P',
+            version: 4,
+            captures: None,
+            text: b"%d+",
+            answer,
+            next: 0,
+        }
+    }
+
+    #[test]
+    fn asks_with_the_front_of_an_answer(rt: HostRuntime) {
+        assert!(rt; agrees_in_front::<Seven>(&question(&[7])));
+        assert!(rt; agrees_in_front::<Seven>(&question(&[7, 9])));
+        assert!(rt; !agrees_in_front::<Seven>(&question(&[9, 7])));
     }
 }

@@ -233,7 +233,7 @@ max_expand-steps_failed-requires t c = repeats.sure_single _ _ _ _ _ c.first_tes
 
 pub max_expand-loop-tried-preserved-in-Some : goal.max_expand-loop-tried-preserved-in-Some
 max_expand-loop-tried-preserved-in-Some t c =
-    let failed = repeats.fails_ahead _ _ _ _ _ _ _ _ _ _ _ _ (repeats.none_open _ _ _ c.is_open.ensures) c.first_test-first.ensures c.in-Some.ensures in
+    let failed = repeats.known_fails_ahead _ _ _ _ _ _ _ _ _ _ _ _ (repeats.none_open _ _ _ c.is_open.ensures) c.first_test-first.ensures c.in-Some.ensures in
     (repeats.further_down _ _ _ _ _ _ _ (omega arith) (omega arith) _ failed ∙ c.loop-tried.invariant.0, omega arith)
 
 pub max_expand-loop-tried-preserved : goal.max_expand-loop-tried-preserved
@@ -253,7 +253,7 @@ min_expand_failed : (t : ℕ) (c : min_expand-Joined-steps_failed t)
 min_expand_failed t c =
     elim c.match-steps_failed.branch [
       | min_expand-in-Some w ↦
-          rw w.steps-is (repeats.fails_ahead _ _ _ _ _ _ _ _ _ _ _ _ (repeats.none_open _ _ _ c.is_open.ensures) c.first_test-first.ensures w.in-Some.ensures)
+          rw w.steps-is (repeats.known_fails_ahead _ _ _ _ _ _ _ _ _ _ _ _ (repeats.none_open _ _ _ c.is_open.ensures) c.first_test-first.ensures w.in-Some.ensures)
       | min_expand-in-None+in-Failed w ↦ rw w.steps-is (repeats.has_failed _ _ _ w.do_match-r.ensures.0 w.in-Failed.is)
     ]
 
