@@ -34,7 +34,7 @@ pub record FailsHere (in_class : ℕ → ℕ → Bool) (sub pat : List ℕ) (a :
   pub left : u + a.steps ≤ budget
   pub unfit : fits_at in_class sub (single_of pat a.at a.suffix) s ≡ false
 
--- and something is known of it: with no steps nothing is
+-- the same of a single ahead of which something is known: with no steps nothing is
 pub record KnownFailsHere (in_class : ℕ → ℕ → Bool) (sub pat : List ℕ) (a : Ahead) (s budget u : ℕ) : Type 0 where
   pub known : 0 < a.steps
   pub here : FailsHere in_class sub pat a s budget u

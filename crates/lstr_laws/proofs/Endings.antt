@@ -204,10 +204,10 @@ module _ (numbers : List ℕ) (has : HasStops numbers) (budget : ℕ) where
     attempt_low (failed u) p = p.ends
     attempt_low (stopped number kind u) p = p.ends
 
-    -- the matching of the items of a pattern from place p on, at place s after u steps, at any level and with any captures
+    -- the matching at place s after u steps, of the items of a pattern from place p on, at any level and with any captures
     pub match_ends : (pat : List ℕ) (p s l : ℕ) (cs : List Capture) (u : ℕ) → u ≤ budget → AttemptFine U (Ending numbers budget) (λ cs. Unit {0}) (match in_class sub budget (items pat p) s l cs u)
     match_ends pat p s l cs u h = attempt_low _ (match_low (items pat p) (items_kinds pat p) s l cs u h)
 
-    -- and an attempt
+    -- an attempt at place s after u steps, of the items of a pattern from place p on
     pub attempt_ends : (pat : List ℕ) (p s u : ℕ) → u ≤ budget → AttemptFine U (Ending numbers budget) (λ cs. Unit {0}) (match in_class sub budget (items pat p) s 1 [] u)
     attempt_ends pat p s u h = match_ends pat p s 1 [] u h

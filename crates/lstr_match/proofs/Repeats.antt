@@ -194,7 +194,7 @@ module _ (pat : List ℕ) (next l : ℕ) (is_open : Bool) where
       let f = h.1 in
       ap failed h.0 ∙ (sure (length cs)).fails in_class sub budget s cs u (omega arith) o f.left f.unfit
 
-  -- as `steps_failed` tells it
+  -- the same from what `steps_failed` promises
   pub known_fails_ahead : (in_class : ℕ → ℕ → Bool) (sub : List ℕ) (budget s : ℕ) (cs : List Capture) (u v : ℕ) (first : Option Ahead)
       → (is_open ≡ true → capture_to_close cs ≡ None → ⊥) → SureIf first → IsSomeAnd first (λ a. (v ≡ u + a.steps) × KnownFailsHere in_class sub pat a s budget u)
       → failed v ≡ new_level l u (λ m. match in_class sub budget (items pat next) s m cs u)

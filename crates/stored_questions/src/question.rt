@@ -35,7 +35,7 @@ pub trait Answers {
         requires { length question.now.answer.now ≡ WIDTH };
 }
 
-/// Whether the library agrees with the answer, where more bytes may stand behind it: it is asked with the answer alone.
+/// Whether the library agrees with an answer behind which more bytes may stand; they are not handed on.
 pub fn agrees_in_front<A: Answers>(question: &Question) -> bool
     requires { A.WIDTH ≤ length question.now.answer.now }
 {
@@ -117,7 +117,7 @@ mod tests {
 
         const WIDTH: usize = 1;
 
-        // an answer of more bytes would be looked up outside of the table
+        // the index is inside since the answer has one byte, and no more
         fn agrees(question: &Question) -> bool {
             [7][question.answer.len() - 1] == question.answer[0]
         }
